@@ -1,0 +1,37 @@
+-- Which blocks are in use, and the search for one that is not.
+use mathlib.Core.Bool.{Bool, true, false, _&&_, _||_, not, cond}
+use mathlib.Core.Option.{Option, none, some}
+use Prim.Native.Nat.{ℕ, zero, suc, _+_}
+use lib.Dec.{eqb}
+use lib.ListN.{getD}
+use Rattle.cells.specs.declared.Record.{Record}
+use Rattle.cells.specs.declared.State.{State}
+use Rattle.cells.specs.Basics.{anyFrom}
+use Rattle.cells.specs.Record.{isIdle, recordAt}
+use Rattle.cells.specs.Questions.{holds, installs}
+
+-- some cell's current block is b
+unfoldable pub isCurrent : State → ℕ → Bool
+isCurrent s b = anyFrom (λ k. eqb (getD (s .current) k 0) b) 0 (s .cells)
+
+-- a task holds b, or has taken it
+abbrev pub usesBlock : Record → ℕ → Bool
+usesBlock r b = not (isIdle r) && ((holds r && eqb (r .held) b) || (installs r && eqb (r .taken) b))
+
+unfoldable pub isHeld : State → ℕ → Bool
+isHeld s b = anyFrom (λ t. usesBlock (recordAt (s .records) t) b) 0 (s .tasks)
+
+unfoldable pub used : State → ℕ → Bool
+used s b = isCurrent s b || isHeld s b
+
+-- the block after b, going round after the last
+abbrev pub after : ℕ → ℕ → ℕ
+after blocks b = cond (eqb (b + 1) blocks) 0 (b + 1)
+
+-- the first unused of k blocks going upward from b, if there is one
+abbrev pub unusedFrom : State → ℕ → ℕ → Option ℕ
+unusedFrom s b zero = none
+unusedFrom s b (suc k) = cond (used s b) (unusedFrom s (after (s .blocks) b) k) (some b)
+
+unfoldable pub unused : State → Option ℕ
+unused s = unusedFrom s (after (s .blocks) (s .last)) (s .blocks)

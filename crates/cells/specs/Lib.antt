@@ -1,0 +1,10 @@
+pub mod Basics
+pub mod Record
+pub mod Lines
+pub mod Pool
+pub mod Questions
+pub mod Blocks
+pub mod Open
+pub mod Begin
+pub mod Step
+pub mod Look

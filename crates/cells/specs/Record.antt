@@ -1,0 +1,21 @@
+-- The reserved value, and a task's record.
+use mathlib.Core.Bool.{Bool}
+use mathlib.Core.List.{List}
+use Prim.Native.Nat.{ℕ}
+use lib.Dec.{eqb}
+use lib.ListN.{getD}
+use Rattle.cells.specs.declared.Record.{Record}
+
+-- document 01's "none": from a fresh opening it never enters or leaves a cell
+abbrev pub noValue : ℕ
+noValue = 4294967295
+
+abbrev pub idle : Record
+idle = record { line = 0; wanted = 0; kind = 0; cell = 0; expected = 0; new = 0; held = 0; taken = 0; loaded = 0; steps = 0; hard = 0 }
+
+abbrev pub isIdle : Record → Bool
+isIdle r = eqb (r .line) 0
+
+-- the record of task t; idle beyond the list
+abbrev pub recordAt : List Record → ℕ → Record
+recordAt l t = getD l t idle

@@ -1,0 +1,166 @@
+-- Figure 2 with a new block each time. The cells share nothing: each numbers its own blocks. The lines are those of `cells`.
+use mathlib.Core.Path.{_≡_}
+use mathlib.Core.Bool.{Bool, true, false, cond}
+use mathlib.Core.Option.{Option, none, some}
+use mathlib.Core.List.{List}
+use Prim.Native.Nat.{ℕ, suc}
+use lib.Dec.{eqb}
+use lib.ListN.{getD}
+use Rattle.cells.specs.declared.Record.{Record}
+use Rattle.cells.specs.declared.Answer as Code
+use Rattle.cells.specs.declared.Answer.the-variants as CodeAnswer
+use Rattle.cells.specs.declared.Outcome.{Outcome}
+use Rattle.cells.specs.declared.Outcome.the-variants.{Refused, Acted, Ended}
+use Rattle.cells.specs.declared.Looked.{Looked}
+use Rattle.cells.specs.declared.lines.Field.{Field}
+use Rattle.cells.specs.declared.lines.Field.the-variants.{X, Y, C, D}
+use Rattle.cells.specs.declared.lines.Access.{Access}
+use Rattle.cells.specs.declared.lines.Access.the-variants.{LoadCell, Load, Store, DecideCas, InstallCas, Allocate, Nothing}
+use Rattle.cells.specs.declared.lines.Next.{Next}
+use Rattle.cells.specs.declared.lines.Next.the-variants.{Go, Done}
+use Rattle.cells.specs.Record.{noValue, idle}
+use Rattle.cells.specs.Lines.{accessOf, nextOf, hardware}
+use Rattle.cells.specs.Pool.{fresh}
+use Rattle.cells.specs.Questions.{Question, refusal, beginQuestions, swapQuestions, stepQuestions, lookQuestions}
+use Rattle.cells.specs.Begin.{firstRead, firstSwap}
+use Rattle.cells.specs.Look.{shownValue, shown}
+use Rattle.history.specs.Basics.{upd}
+use Rattle.history.specs.History.{Op, read, swap, Action, begin, step, Answer, Value, Yes, No, Event, refused, begun, going, answered, run}
+
+-- MEMORY
+
+-- a cell: the block that it names, the number of its next new block, and the five words of each block
+pub record Cell : Type 0 where
+  pub current : ℕ
+  pub next : ℕ
+  pub x : ℕ → ℕ
+  pub y : ℕ → ℕ
+  pub c : ℕ → ℕ
+  pub v : ℕ → ℕ
+  pub d : ℕ → ℕ
+
+abbrev pub wordOf : Cell → ℕ → Field → ℕ
+wordOf m b X = m .x b
+wordOf m b Y = m .y b
+wordOf m b C = m .c b
+wordOf m b Field.V = m .v b
+wordOf m b D = m .d b
+
+abbrev pub store : Cell → ℕ → Field → ℕ → Cell
+store m b X n = record { current = m .current; next = m .next; x = upd (m .x) b n; y = m .y; c = m .c; v = m .v; d = m .d }
+store m b Y n = record { current = m .current; next = m .next; x = m .x; y = upd (m .y) b n; c = m .c; v = m .v; d = m .d }
+store m b C n = record { current = m .current; next = m .next; x = m .x; y = m .y; c = upd (m .c) b n; v = m .v; d = m .d }
+store m b Field.V n = record { current = m .current; next = m .next; x = m .x; y = m .y; c = m .c; v = upd (m .v) b n; d = m .d }
+store m b D n = record { current = m .current; next = m .next; x = m .x; y = m .y; c = m .c; v = m .v; d = upd (m .d) b n }
+
+abbrev pub install : Cell → ℕ → Cell
+install m b = record { current = b; next = m .next; x = m .x; y = m .y; c = m .c; v = m .v; d = m .d }
+
+-- a new block, filled with the value
+abbrev pub allocate : Cell → ℕ → Cell
+allocate m n = record {
+  current = m .current; next = suc (m .next);
+  x = upd (m .x) (m .next) (fresh n X); y = upd (m .y) (m .next) (fresh n Y); c = upd (m .c) (m .next) (fresh n C);
+  v = upd (m .v) (m .next) (fresh n Field.V); d = upd (m .d) (m .next) (fresh n D) }
+
+-- what an access makes of the task's cell, and the value that it answers
+pub record Memory : Type 0 where
+  pub cell : Cell
+  pub value : ℕ
+
+abbrev pub memory : Cell → ℕ → Memory
+memory m n = record { cell = m; value = n }
+
+abbrev pub perform : Cell → Access → Memory
+perform m (LoadCell k) = memory m (m .current)
+perform m (Load b f) = memory m (wordOf m b f)
+perform m (Store b f n) = memory (store m b f n) 0
+perform m (DecideCas b n) = cond (eqb (m .d b) noValue) (memory (store m b D n) 1) (memory m 0)
+perform m (InstallCas k b n) = cond (eqb (m .current) b) (memory (install m n) 1) (memory m 0)
+perform m (Allocate n) = memory (allocate m n) (m .next)
+perform m Nothing = memory m 0
+
+-- THE MACHINE
+
+pub record World : Type 0 where
+  pub tasks : ℕ
+  pub cells : ℕ
+  pub cell : ℕ → Cell
+  pub records : ℕ → Record
+
+abbrev pub withRecord : World → ℕ → Record → World
+withRecord w t q = record { tasks = w .tasks; cells = w .cells; cell = w .cell; records = upd (w .records) t q }
+
+-- cell k and task t changed
+abbrev pub withBoth : World → ℕ → Cell → ℕ → Record → World
+withBoth w k m t q = record { tasks = w .tasks; cells = w .cells; cell = upd (w .cell) k m; records = upd (w .records) t q }
+
+pub record After : Type 0 where
+  pub world : World
+  pub outcome : Outcome
+
+abbrev pub leaving : World → Outcome → After
+leaving w o = record { world = w; outcome = o }
+
+abbrev pub unless : Option ℕ → World → After → After
+unless none w acted = acted
+unless (some n) w acted = leaving w (Refused n)
+
+-- a finished call leaves an idle record
+abbrev pub recordAfter : Next → Record
+recordAfter (Go q) = q
+recordAfter (Done f) = idle
+
+abbrev pub outcomeOf : Next → Outcome
+outcomeOf (Go q) = Acted
+outcomeOf (Done f) = Ended f
+
+-- a busy task's next line: its access on its own cell, and what follows
+unfoldable pub ran : World → ℕ → Record → After
+ran w t q = let m = perform (w .cell (q .cell)) (accessOf t q) in let n = nextOf t q (m .value) in leaving (withBoth w (q .cell) (m .cell) t (recordAfter n)) (outcomeOf n)
+
+unfoldable pub stepped : World → ℕ → After
+stepped w t = unless (refusal (stepQuestions (w .tasks) (w .records t) t)) w (ran w t (w .records t))
+
+unfoldable pub begins : World → ℕ → Op → After
+begins w t (read k) = unless (refusal (beginQuestions (w .tasks) (w .cells) (w .records t) t k)) w (leaving (withRecord w t (firstRead k)) Acted)
+begins w t (swap k e n) = unless (refusal (swapQuestions (w .tasks) (w .cells) (w .records t) t k e n)) w (leaving (withRecord w t (firstSwap k e n)) Acted)
+
+-- cell k's first block, number 0, has its starting value
+abbrev pub opening : (tasks cells : ℕ) → List ℕ → World
+opening n v vs = record {
+  tasks = n; cells = v; records = λ t. idle;
+  cell = λ k. record { current = 0; next = 1; x = λ b. fresh (getD vs k 0) X; y = λ b. fresh (getD vs k 0) Y; c = λ b. fresh (getD vs k 0) C; v = λ b. fresh (getD vs k 0) Field.V; d = λ b. fresh (getD vs k 0) D } }
+
+unfoldable pub looked : World → ℕ → Looked
+looked w k = let m = w .cell k in let b = m .current in shown (refusal (lookQuestions (w .cells) k)) (shownValue (m .c b) (m .v b) (m .d b))
+
+-- AS A MACHINE THAT TAKES ACTIONS AND GIVES EVENTS
+
+abbrev pub answerOf : Code.Answer → Answer
+answerOf (CodeAnswer.Value v) = Value v
+answerOf CodeAnswer.Yes = Yes
+answerOf CodeAnswer.No = No
+
+-- of an outcome, where the line's access attempts x hardware CAS
+abbrev pub beginEvent : Outcome → Event
+beginEvent (Refused r) = refused r
+beginEvent Acted = begun
+beginEvent (Ended f) = answered 0 (answerOf (f .answer)) (f .steps) (f .hard)
+
+abbrev pub stepEvent : ℕ → Outcome → Event
+stepEvent x (Refused r) = refused r
+stepEvent x Acted = going x
+stepEvent x (Ended f) = answered x (answerOf (f .answer)) (f .steps) (f .hard)
+
+-- the hardware CAS attempts of a record's next line
+abbrev pub tried : ℕ → Record → ℕ
+tried t q = hardware (accessOf t q)
+
+abbrev pub figure : World → Action → World × Event
+figure w (begin t op) = let r = begins w t op in (r .world, beginEvent (r .outcome))
+figure w (step t) = let r = stepped w t in (r .world, stepEvent (tried t (w .records t)) (r .outcome))
+
+-- the current block of cell k is active
+abbrev pub active : World → ℕ → Type 0
+active w k = w .cell k .c (w .cell k .current) ≡ 0

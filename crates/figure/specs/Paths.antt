@@ -1,0 +1,114 @@
+-- The complete paths of figure 2, and the lines that a call did.
+use mathlib.Core.List.{List, [], _∷_, _++_}
+use Prim.Native.Nat.{ℕ, _+_}
+use Rattle.cells.specs.declared.Finished.{Finished}
+use Rattle.cells.specs.declared.Outcome.{Outcome}
+use Rattle.cells.specs.declared.Outcome.the-variants.{Refused, Acted, Ended}
+use Rattle.cells.specs.declared.lines.Access.{Access}
+use Rattle.cells.specs.Record.{idle}
+use Rattle.cells.specs.Lines.{Line, Wanted, for13, for25, for28, l1, l2, l3, l10, l11, l12, l15, l16, l17, l18, l19, l20, l21, l22, l23, l24, l26, l27, l29, l30, lineOf, accessAt, loads, stores, hardware}
+use Rattle.history.specs.Basics.{upd}
+use Rattle.history.specs.History.{Op, Action, begin, step}
+use Rattle.figure.specs.Figure.{World, begins, stepped}
+
+-- THE THIRTEEN PATHS
+
+abbrev pub decision : Wanted → List Line
+decision w = l1 w ∷ l2 w ∷ l3 w ∷ []
+
+abbrev pub readActive : List Line
+readActive = l10 ∷ l11 ∷ l12 ∷ []
+
+abbrev pub readDecided : List Line
+readDecided = readActive ++ decision for13
+
+abbrev pub won : List Line
+won = l15 ∷ l16 ∷ l17 ∷ l18 ∷ l19 ∷ l20 ∷ l21 ∷ []
+
+abbrev pub noFrom22 : List Line
+noFrom22 = won ++ (l22 ∷ [])
+
+abbrev pub yesFrom26 : List Line
+yesFrom26 = won ++ (l23 ∷ l24 ∷ l26 ∷ [])
+
+abbrev pub yesFrom25 : List Line
+yesFrom25 = won ++ (l23 ∷ l24 ∷ decision for25)
+
+-- to line 28: by 17, 19, 21 or 25
+abbrev pub by17 : List Line
+by17 = l15 ∷ l16 ∷ l17 ∷ l27 ∷ decision for28
+
+abbrev pub by19 : List Line
+by19 = l15 ∷ l16 ∷ l17 ∷ l18 ∷ l19 ∷ l27 ∷ decision for28
+
+abbrev pub by21 : List Line
+by21 = won ++ decision for28
+
+abbrev pub by25 : List Line
+by25 = yesFrom25 ++ decision for28
+
+-- a new block replaces the held one
+abbrev pub replace : List Line
+replace = l29 ∷ l30 ∷ []
+
+-- document 01's order; the ninth, "no from 28 by 25", no fresh opening reaches
+abbrev pub paths : List (List Line)
+paths =
+    readActive ∷ readDecided ∷ noFrom22 ∷ yesFrom26 ∷ yesFrom25 ∷
+    by17 ∷ by19 ∷ by21 ∷ by25 ∷
+    (by17 ++ replace) ∷ (by19 ++ replace) ∷ (by21 ++ replace) ∷ (by25 ++ replace) ∷ []
+
+-- COUNTS
+
+-- how often an access of the lines is of the kind that the test counts; what an access is does not depend on task and record
+abbrev pub count : (Access → ℕ) → List Line → ℕ
+count f [] = 0
+count f (l ∷ ls) = f (accessAt l 0 idle) + count f ls
+
+abbrev pub steps : List Line → ℕ
+steps [] = 0
+steps (l ∷ ls) = 1 + steps ls
+
+-- steps, loads, stores, hardware CAS attempts
+abbrev pub counts : List Line → List ℕ
+counts p = steps p ∷ count loads p ∷ count stores p ∷ count hardware p ∷ []
+
+abbrev pub countsOf : List (List Line) → List (List ℕ)
+countsOf [] = []
+countsOf (p ∷ ps) = counts p ∷ countsOf ps
+
+-- document 01's table
+abbrev pub table : List (List ℕ)
+table =
+    (3 ∷ 3 ∷ 0 ∷ 0 ∷ []) ∷ (6 ∷ 5 ∷ 0 ∷ 1 ∷ []) ∷ (8 ∷ 5 ∷ 3 ∷ 0 ∷ []) ∷ (10 ∷ 6 ∷ 4 ∷ 0 ∷ []) ∷ (12 ∷ 8 ∷ 3 ∷ 1 ∷ []) ∷
+    (7 ∷ 4 ∷ 2 ∷ 1 ∷ []) ∷ (9 ∷ 5 ∷ 3 ∷ 1 ∷ []) ∷ (10 ∷ 7 ∷ 2 ∷ 1 ∷ []) ∷ (15 ∷ 10 ∷ 3 ∷ 2 ∷ []) ∷
+    (9 ∷ 4 ∷ 2 ∷ 2 ∷ []) ∷ (11 ∷ 5 ∷ 3 ∷ 2 ∷ []) ∷ (12 ∷ 7 ∷ 2 ∷ 2 ∷ []) ∷ (17 ∷ 10 ∷ 3 ∷ 3 ∷ []) ∷ []
+
+-- THE LINES THAT A CALL DID
+
+-- a finished call: its lines in order, and what it reported
+pub record Traced : Type 0 where
+  pub lines : List Line
+  pub result : Finished
+
+-- the figure with, for each task, the lines of its pending call so far; and the finished calls
+pub record Trace : Type 0 where
+  pub world : World
+  pub did : ℕ → List Line
+  pub done : List Traced
+
+abbrev pub stepTrace : Trace → ℕ → World → Outcome → Trace
+stepTrace r t w (Refused n) = record { world = w; did = r .did; done = r .done }
+stepTrace r t w Acted = record { world = w; did = upd (r .did) t (r .did t ++ (lineOf (r .world .records t) ∷ [])); done = r .done }
+stepTrace r t w (Ended f) = record { world = w; did = upd (r .did) t []; done = record { lines = r .did t ++ (lineOf (r .world .records t) ∷ []); result = f } ∷ r .done }
+
+abbrev pub trace : Trace → Action → Trace
+trace r (begin t op) = record { world = begins (r .world) t op .world; did = r .did; done = r .done }
+trace r (step t) = stepTrace r t (stepped (r .world) t .world) (stepped (r .world) t .outcome)
+
+abbrev pub traces : Trace → List Action → Trace
+traces r [] = r
+traces r (a ∷ l) = traces (trace r a) l
+
+abbrev pub startTrace : World → Trace
+startTrace w = record { world = w; did = λ t. []; done = [] }

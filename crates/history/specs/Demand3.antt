@@ -1,0 +1,52 @@
+-- Demand 3, of any machine that takes actions and gives events.
+use mathlib.Core.Path.{_≡_}
+use mathlib.Core.Logic.{_≢_, _⊎_}
+use mathlib.Core.Option.{some}
+use mathlib.Core.List.{List}
+use Prim.Native.Nat.{ℕ, _≤_, _<_}
+use Rattle.history.specs.Basics.{_∈_}
+use Rattle.history.specs.History.{Op, read, swap, cellOf, Action, Event, history, Call, Finished, Calls, noCalls, callsOf, CallOf, WellFormed}
+use Rattle.history.specs.Linearization.{Point, Linearizes}
+
+-- BOUNDS
+
+abbrev pub most : Op → ℕ
+most (read k) = 6
+most (swap k e n) = 17
+
+abbrev pub mostHard : Op → ℕ
+mostHard (read k) = 1
+mostHard (swap k e n) = 3
+
+pub record Bounds (b : Calls) : Type 0 where
+  pub ended : (f : Finished) → f ∈ b .finished → (f .call .steps ≤ most (f .call .start .op)) × (f .call .hard ≤ mostHard (f .call .start .op))
+  pub reported : (f : Finished) → f ∈ b .finished → (f .steps ≡ f .call .steps) × (f .hard ≡ f .call .hard)
+  pub unended : (t : ℕ) (c : Call) → b .pending t ≡ some c → (c .steps < most (c .start .op)) × (c .hard ≤ mostHard (c .start .op))
+
+-- NO HARDWARE CAS WITHOUT CONTENTION
+
+abbrev pub Unequal : Op → Type 0
+Unequal (read k) = ⊥
+Unequal (swap k e n) = e ≢ n
+
+-- from c's begin to its end no other swap with unequal values is pending on its cell
+abbrev pub Alone : Calls → Call → ℕ → Type 0
+Alone b c end = (d : Call) (n : ℕ) → CallOf b d n → Unequal (d .start .op) → cellOf (d .start .op) ≡ cellOf (c .start .op) →
+    d .start .at ≢ c .start .at → (n ≤ c .start .at) ⊎ (end ≤ d .start .at)
+
+-- `Active l k`: cell k's block is active in the figure that was fed the actions l
+abbrev pub NoHardware : (List Action → ℕ → Type 0) → Calls → Type 0
+NoHardware Active b = (c : Call) (n : ℕ) → CallOf b c n → Active (c .start .before) (cellOf (c .start .op)) → Alone b c n → c .hard ≡ 0
+
+-- DEMAND 3
+
+pub record Demand3 (Active : List Action → ℕ → Type 0) (size : ℕ) (values : ℕ → ℕ) (h : List (Action × Event)) : Type 0 where
+  pub well-formed : WellFormed size noCalls h
+  pub linearization : List Point
+  pub linearizes : Linearizes values (callsOf h) linearization
+  pub bounds : Bounds (callsOf h)
+  pub no-hardware : NoHardware Active (callsOf h)
+
+-- a machine meets it from a state: every list of actions
+abbrev pub Meets : {S : Type 0} → (S → Action → S × Event) → S → (List Action → ℕ → Type 0) → ℕ → (ℕ → ℕ) → Type 0
+Meets act s Active size values = (l : List Action) → Demand3 Active size values (history act s l)

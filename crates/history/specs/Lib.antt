@@ -1,0 +1,4 @@
+pub mod Basics
+pub mod History
+pub mod Linearization
+pub mod Demand3
