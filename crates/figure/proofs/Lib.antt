@@ -1,1 +1,10 @@
-
+pub mod Classes
+pub mod Numbers
+pub mod Invariant
+pub mod Frame
+pub mod Looking
+pub mod Splitter
+pub mod Storing
+pub mod Deciding
+pub mod Replacing
+pub mod Steps

@@ -1,0 +1,163 @@
+-- Line 2 where it finds D none: the block is decided, and the cell is settled; a late swap whose value it is takes effect.
+use mathlib.Core.Path.{_≡_, refl, sym, ap, subst, _∙_}
+use mathlib.Core.Logic.{_≢_, _⊎_, inl, inr}
+use mathlib.Core.Bool.{Bool, true, false, not}
+use Prim.Native.Nat.{ℕ}
+use lib.Dec.{T, T-not, not-T}
+use Rattle.cells.specs.declared.Record.{Record}
+use Rattle.cells.specs.declared.lines.Field.the-variants.{D}
+use Rattle.cells.specs.declared.lines.Access.{Access}
+use Rattle.cells.specs.Lines.{Wanted, for13, for25, for28, Line, l2, l3, lineOf, at, counted}
+use Rattle.history.specs.Basics.{upd}
+use Rattle.history.proofs.Basics.{either, upd-at, upd-same, upd-off, upd-cases}
+use Rattle.history.proofs.Simulation.{Phase, settled, frozen, late, Knowledge}
+use Rattle.figure.specs.Figure.{Cell, store}
+use Rattle.figure.proofs.Classes.{is, busy, holding, swapping, racing, won, loaded, stored, contended, replacing, lies-in, are-apart}
+use Rattle.figure.proofs.Invariant.{none, View, Self, Split, Value, Decided, Seen, Planned, Fresh, Owner, Task, TaskOf, Rival, Current, PhaseIs, CurrentOf, line, held, RivalOf, Inv}
+use Rattle.figure.proofs.Frame.{moved, Rest, Mine, finish, was, undecided, one-winner, not-taken}
+use Rattle.figure.proofs.Looking.{off, same-wins, same-loses, settled≢late}
+
+-- whose swap stands in the linearization when t decides its block for what it loaded
+pub record Telling (s : View) (t : ℕ) (told : ℕ → Bool) : Type 0 where
+  pub more : (u : ℕ) → T (s .told u) → T (told u)
+  pub only : (u : ℕ) → T (busy (line s u)) → T (told u) → T (stored (line s u))
+  pub new-is : (u : ℕ) → T (stored (line s u)) → held s u ≡ held s t → T (told u) → s .task t .loaded ≡ s .task u .new
+  pub expected-is : (u : ℕ) → T (stored (line s u)) → held s u ≡ held s t → T (not (told u)) → s .task t .loaded ≡ s .task u .expected
+  pub elsewhere : (u : ℕ) → T (stored (line s u)) → held s u ≢ held s t → told u ≡ s .told u
+  pub before-store : (u : ℕ) → T (is 23 (line s u)) → held s u ≡ held s t → s .task t .loaded ≡ s .task u .expected
+
+module _ (s : View) (κ : Knowledge) (t : ℕ) (x : Wanted) (i : Inv s κ) (e : line s t ≡ l2 x) (d : s .cell .d (held s t) ≡ none) (a : Access) (n w : ℕ) where
+  abbrev q : Record
+  q = s .task t
+
+  abbrev L : ℕ
+  L = s .cell .current
+
+  abbrev next : Record
+  next = at (counted q a) n w (q .held) (q .taken) (q .loaded)
+
+  abbrev D′ : ℕ → ℕ
+  D′ = upd (s .cell .d) (q .held) (q .loaded)
+
+  here : Mine s κ t (l2 x) q
+  here = was s κ t (l2 x) e i
+
+  pub is-L : q .held ≡ L
+  is-L = undecided s κ i t (rw e tt) d
+
+  given : q .loaded ≢ none
+  given = here .task .planned .plan-some tt
+
+  now-decided : D′ L ≡ q .loaded
+  now-decided = upd-at (s .cell .d) (q .held) (q .loaded) L (sym is-L)
+
+  module _ (told : ℕ → Bool) (y : Telling s t told) (now : (u : ℕ) → T (busy (line s u)) → κ .saw u (q .loaded)) where
+    abbrev pub done : View
+    done = record { cell = store (s .cell) (q .held) D (q .loaded); task = s .task; value = q .loaded; told = told; phase = settled }
+
+    -- of those who hold this block
+    decided-here : (u : ℕ) → held s u ≡ q .held → Decided u (line s u) (s .task u) (told u) (q .loaded) (s .cell .c (held s u)) L (q .loaded) settled
+    decided-here u h =
+        let r = i .tasks u .decided in
+        let c : s .cell .c (held s u) ≢ 0 = rw h (here .task .decided .inactive tt) in
+        record
+          { replaced-decided = λ b z. given; decided-inactive = λ b z. c; before-store = λ b z. y .before-store u b h
+          ; told-value = λ b z g. absurd (given g); told-decided = λ b z g. y .new-is u b h z; late-inactive = λ b z. c
+          ; late-phase = λ b z g. absurd (given g); late-decided = λ b z g. y .expected-is u b h z; inactive = λ b. c; decided = λ b. given
+          ; expected = λ b. absurd (i .tasks u .self .ev-some (lies-in replacing swapping tt (line s u) b) (sym (r .expected b) ∙ rw h d)) }
+
+    -- of the others
+    decided-far : (u : ℕ) → held s u ≢ q .held → Decided u (line s u) (s .task u) (told u) (s .cell .d (held s u)) (s .cell .c (held s u)) L (q .loaded) settled
+    decided-far u h =
+        let r = i .tasks u .decided in
+        let z : T (stored (line s u)) → s .cell .d (held s u) ≡ none → ⊥ = λ b g. h (undecided s κ i u (lies-in stored holding tt (line s u) b) g ∙ sym is-L) in
+        record
+          { replaced-decided = r .replaced-decided; decided-inactive = r .decided-inactive; before-store = r .before-store
+          ; told-value = λ b g c. absurd (z b c); told-decided = λ b g. r .told-decided b (rw (y .elsewhere u b h) at g); late-inactive = λ b g. r .late-inactive b (rw (y .elsewhere u b h) at g)
+          ; late-phase = λ b g c. absurd (z b c); late-decided = λ b g. r .late-decided b (rw (y .elsewhere u b h) at g); inactive = r .inactive; decided = r .decided; expected = r .expected }
+
+    task′ : (u : ℕ) → TaskOf done κ u (line s u) (s .task u)
+    task′ u = let k = i .tasks u in record
+      { split = k .split; value = k .value; early = k .early
+      ; self = let r = k .self in record
+          { differ = r .differ; ev-some = r .ev-some; nv-some = r .nv-some; loaded-some = r .loaded-some; other-loaded = r .other-loaded; same-loaded = r .same-loaded
+          ; yes-told = λ b. y .more u (r .yes-told b); told-stored = y .only u }
+      ; decided = upd-cases (λ g. Decided u (line s u) (s .task u) (told u) g (s .cell .c (held s u)) L (q .loaded) settled) (s .cell .d) (q .held) (q .loaded) (held s u) (decided-here u) (decided-far u)
+      ; seen = let r = k .seen in upd-cases (λ g. Seen (line s u) (held s u) (s .task u .loaded) (κ .saw u) g (s .cell .c (held s u)) L) (s .cell .d) (q .held) (q .loaded) (held s u)
+          (λ h. record { active-value = r .active-value; refusing = r .refusing; decision = λ b g. now u (lies-in holding busy tt (line s u) b); replaced = λ b g. absurd (g (h ∙ is-L)) }) (λ h. r)
+      ; planned = record
+          { plan-some = k .planned .plan-some
+          ; plan = λ b. upd-cases (λ g. g ≡ none → s .task u .loaded ≢ q .loaded → s .cell .v L ≡ s .task u .loaded) (s .cell .d) (q .held) (q .loaded) (held s u)
+              (λ h g. absurd (given g)) (λ h g. absurd (h (undecided s κ i u (lies-in (is 2) holding tt (line s u) b) g ∙ sym is-L))) }
+      ; fresh = λ b. rw (upd-off (s .cell .d) (q .held) (q .loaded) (s .task u .taken) (not-taken s κ i u t b (rw e tt))) (k .fresh b)
+      ; owner = λ z. absurd (settled≢late u z) }
+
+    rest-done : Rest done κ t
+    rest-done = record
+      { rivals = λ u w ne ne′. i .rivals u w; apart = λ u w ne ne′. i .apart u w; tasks = λ u ne. task′ u
+      ; current = let k = i .current in record
+          { low = k .low; P-some = given; v-some = k .v-some; decided-inactive = λ g. rw is-L at (here .task .decided .inactive tt); decision = λ g. now-decided
+          ; phase-is = λ g. absurd (given (sym now-decided ∙ g)) } }
+
+    mine-done : Mine done κ t (l3 x) next
+    mine-done =
+        let m = here in
+        let k : TaskOf done κ t (l2 x) q = rw e at (task′ t) in
+        let g : D′ (q .held) ≢ none = λ z. given (sym (upd-same (s .cell .d) (q .held) (q .loaded)) ∙ z) in
+        let wins = same-wins s κ t (l2 x) (l3 x) q (λ z. z) m in
+        let loses = same-loses s κ t (l2 x) (l3 x) q (λ z. z) (λ z. z) m in
+        let o : settled ≢ late t = settled≢late t in
+        search off
+
+    pub kept-done : lineOf next ≡ l3 x → Inv (moved done t next) κ
+    kept-done e′ = finish done κ t (l3 x) next e′ rest-done mine-done
+
+  -- what t loaded is the sequential cell's value: nobody's swap takes effect
+  module _ (p : q .loaded ≡ s .value) where
+    same-before : (u : ℕ) → T (is 23 (line s u)) → held s u ≡ q .held → q .loaded ≡ s .task u .expected
+    same-before u b h = p ∙ sym (unstored (s .phase) (i .current .phase-is) refl) ∙ ap (s .cell .v) (sym (h ∙ is-L)) ∙ i .tasks u .value .still-loaded (lies-in (is 23) loaded tt (line s u) b) ∙ i .tasks u .self .same-loaded b
+      where
+        -- the winner has not stored, so nobody's store is awaited
+        unstored : (f : Phase) → PhaseIs f (s .cell .c L) (s .cell .v L) (s .cell .d L) (s .value) → s .phase ≡ f → s .cell .v L ≡ s .value
+        unstored settled z g = z (rw is-L at d) .1
+        unstored frozen z g = z .2
+        unstored (late o) z g =
+            let k = i .tasks o .owner g in
+            absurd (are-apart (is 23) stored tt (line s o) (rw (one-winner s κ i u o (lies-in (is 23) won tt (line s u) b) (lies-in stored won tt (line s o) (k .has-stored)) (h ∙ is-L ∙ sym (k .here))) at b) (k .has-stored))
+
+    pub same : Telling s t (s .told)
+    same = record
+      { more = λ u b. b; only = λ u. i .tasks u .self .told-stored; elsewhere = λ u b h. refl; before-store = same-before
+      ; new-is = λ u b h z. p ∙ i .tasks u .decided .told-value b z (rw h d)
+      ; expected-is = λ u b h z. p ∙ sym (i .tasks u .owner (i .tasks u .decided .late-phase b z (rw h d)) .expected-is) }
+
+  -- it is another: a late swap's
+  module _ (p : q .loaded ≢ s .value) where
+    stored-late : s .cell .v L ≡ q .loaded
+    stored-late = here .task .planned .plan tt d p
+
+    pub who : (o : ℕ) × (s .phase ≡ late o)
+    who = find (s .phase) (i .current .phase-is) refl
+      where
+        find : (f : Phase) → PhaseIs f (s .cell .c L) (s .cell .v L) (s .cell .d L) (s .value) → s .phase ≡ f → (o : ℕ) × (s .phase ≡ late o)
+        find settled z g = absurd (p (sym stored-late ∙ z (rw is-L at d) .1))
+        find frozen z g = absurd (p (sym stored-late ∙ z .2))
+        find (late o) z g = (o, g)
+
+    pub owner : Owner (line s (who .0)) (s .task (who .0)) (s .told (who .0)) L (s .value) (s .cell .v L)
+    owner = i .tasks (who .0) .owner (who .1)
+
+    pub its-new : s .task (who .0) .new ≡ q .loaded
+    its-new = owner .new-is ∙ stored-late
+
+    it-is : (u : ℕ) → T (won (line s u)) → held s u ≡ q .held → u ≡ who .0
+    it-is u b h = one-winner s κ i u (who .0) b (lies-in stored won tt (line s (who .0)) (owner .has-stored)) (h ∙ is-L ∙ sym (owner .here))
+
+    pub land : Telling s t (upd (s .told) (who .0) true)
+    land = record
+      { more = λ u b. upd-cases T (s .told) (who .0) true u (λ z. tt) (λ z. b)
+      ; only = λ u b. upd-cases (λ z. T z → T (stored (line s u))) (s .told) (who .0) true u (λ h z. rw h (owner .has-stored)) (λ h. i .tasks u .self .told-stored b)
+      ; new-is = λ u b h z. rw (it-is u (lies-in stored won tt (line s u) b) h) (sym its-new)
+      ; expected-is = λ u b h z. absurd (rw (upd-at (s .told) (who .0) true u (it-is u (lies-in stored won tt (line s u) b) h)) at z)
+      ; elsewhere = λ u b h. upd-off (s .told) (who .0) true u (λ z. h (ap (held s) z ∙ owner .here ∙ sym is-L))
+      ; before-store = λ u b h. absurd (are-apart (is 23) stored tt (line s u) b (rw (it-is u (lies-in (is 23) won tt (line s u) b) h) (owner .has-stored))) }

@@ -1,0 +1,118 @@
+-- A step changes memory and ghost, then one record: what holds of everybody but the stepper, and what holds of the stepper, make the
+-- invariant again. The quantifiers over tasks are met here once.
+use mathlib.Core.Path.{_≡_, refl, sym, ap, subst, _∙_}
+use mathlib.Core.Logic.{_≢_, _⊎_, inl, inr}
+use mathlib.Core.Bool.{Bool, true, false, not}
+use Prim.Native.Nat.{ℕ, _≤_, _<_}
+use lib.Dec.{T}
+use Rattle.cells.specs.declared.Record.{Record}
+use Rattle.cells.specs.Lines.{Line, lineOf}
+use Rattle.history.specs.Basics.{upd}
+use Rattle.history.proofs.Basics.{either, upd-same, upd-off, upd-cases}
+use Rattle.history.proofs.Simulation.{Phase, settled, frozen, late, Knowledge}
+use Rattle.figure.specs.Figure.{Cell}
+use Rattle.figure.proofs.Classes.{is, busy, holding, swapping, racing, won, loaded, stored, contended, replacing, checking, lies-in}
+use Rattle.figure.proofs.Invariant.{none, View, Self, Split, Value, Decided, Seen, Planned, Fresh, Owner, Task, TaskOf, Rival, Current, CurrentOf, line, held, RivalOf, Inv}
+
+abbrev pub moved : View → ℕ → Record → View
+moved s t q = record { cell = s .cell; task = upd (s .task) t q; value = s .value; told = s .told; phase = s .phase }
+
+pub record Rest (s : View) (κ : Knowledge) (t : ℕ) : Type 0 where
+  pub current : CurrentOf s
+  pub tasks : (u : ℕ) → u ≢ t → TaskOf s κ u (line s u) (s .task u)
+  pub rivals : (u w : ℕ) → u ≢ t → w ≢ t → u ≢ w → held s u ≡ held s w → RivalOf s u w
+  pub apart : (u w : ℕ) → u ≢ t → w ≢ t → u ≢ w → T (is 30 (line s u)) → T (is 30 (line s w)) → s .task u .taken ≢ s .task w .taken
+
+-- the stepper at line ℓ with the record q
+pub record Mine (s : View) (κ : Knowledge) (t : ℕ) (ℓ : Line) (q : Record) : Type 0 where
+  pub task : TaskOf s κ t ℓ q
+  pub wins : (w : ℕ) → w ≢ t → q .held ≡ held s w → Rival w ℓ (line s w) (s .cell .x (held s w))
+  pub loses : (w : ℕ) → w ≢ t → held s w ≡ q .held → Rival t (line s w) ℓ (s .cell .x (q .held))
+  pub apart : (w : ℕ) → w ≢ t → T (is 30 ℓ) → T (is 30 (line s w)) → q .taken ≢ s .task w .taken
+
+-- what holds of the new record and of every old one holds of all
+each : (f : ℕ → Record) (t : ℕ) (q : Record) (Q : ℕ → Record → Type 0) → Q t q → ((u : ℕ) → u ≢ t → Q u (f u)) → (u : ℕ) → Q u (upd f t q u)
+each f t q Q mine theirs u = upd-cases (Q u) f t q u (λ e. subst (λ n. Q n q) (sym e) mine) (theirs u)
+
+pub finish : (s : View) (κ : Knowledge) (t : ℕ) (ℓ : Line) (q : Record) → lineOf q ≡ ℓ → Rest s κ t → Mine s κ t ℓ q → Inv (moved s t q) κ
+finish s κ t ℓ q e r o = record
+  { current = r .current
+  ; tasks = each f t q (λ u p. TaskOf s κ u (lineOf p) p) (rw e (o .task)) (r .tasks)
+  ; rivals = each f t q (λ u p. (w : ℕ) → u ≢ w → p .held ≡ upd f t q w .held → Rival w (lineOf p) (lineOf (upd f t q w)) (s .cell .x (upd f t q w .held)))
+      (each f t q (λ w p. t ≢ w → q .held ≡ p .held → Rival w (lineOf q) (lineOf p) (s .cell .x (p .held))) (λ n. absurd (n refl)) (λ w ne n h. rw e (o .wins w ne h)))
+      (λ u ne. each f t q (λ w p. u ≢ w → held s u ≡ p .held → Rival w (line s u) (lineOf p) (s .cell .x (p .held))) (λ n h. rw e (o .loses u ne h)) (λ w ne′. r .rivals u w ne ne′))
+  ; apart = each f t q (λ u p. (w : ℕ) → u ≢ w → T (is 30 (lineOf p)) → T (is 30 (lineOf (upd f t q w))) → p .taken ≢ upd f t q w .taken)
+      (each f t q (λ w p. t ≢ w → T (is 30 (lineOf q)) → T (is 30 (lineOf p)) → q .taken ≢ p .taken) (λ n. absurd (n refl)) (λ w ne n. rw e (o .apart w ne)))
+      (λ u ne. each f t q (λ w p. u ≢ w → T (is 30 (line s u)) → T (is 30 (lineOf p)) → s .task u .taken ≢ p .taken)
+        (λ n a b h. o .apart u ne (rw e at b) a (sym h)) (λ w ne′. r .apart u w ne ne′))
+  }
+  where
+    f : ℕ → Record
+    f = s .task
+
+pub forget : (s : View) (κ : Knowledge) (t : ℕ) → Inv s κ → Rest s κ t
+forget s κ t i = record { current = i .current; tasks = λ u ne. i .tasks u; rivals = λ u w ne ne′. i .rivals u w; apart = λ u w ne ne′. i .apart u w }
+
+-- a step that changes neither memory nor ghost
+pub quiet : (s : View) (κ : Knowledge) (t : ℕ) (ℓ : Line) (q : Record) → lineOf q ≡ ℓ → Inv s κ → Mine s κ t ℓ q → Inv (moved s t q) κ
+quiet s κ t ℓ q e i o = finish s κ t ℓ q e (forget s κ t i) o
+
+-- what is known of t at its line
+pub was : (s : View) (κ : Knowledge) (t : ℕ) (ℓ : Line) → line s t ≡ ℓ → Inv s κ → Mine s κ t ℓ (s .task t)
+was s κ t ℓ e i = record
+  { task = rw e at (i .tasks t)
+  ; wins = λ w ne h. rw e at (i .rivals t w (λ p. ne (sym p)) h)
+  ; loses = λ w ne h. rw e at (i .rivals w t ne h)
+  ; apart = λ w ne. rw e at (i .apart t w (λ p. ne (sym p)))
+  }
+
+-- KNOWLEDGE
+
+-- only what a busy task knows matters
+pub grow : (s : View) (κ κ′ : Knowledge) → ((u : ℕ) → T (busy (line s u)) → ((v : ℕ) → κ .saw u v → κ′ .saw u v) × (κ .early u → κ′ .early u)) → Inv s κ → Inv s κ′
+grow s κ κ′ m i = record { current = i .current; tasks = λ u. more u (line s u) (m u) (i .tasks u); rivals = i .rivals; apart = i .apart }
+  where
+    more : (u : ℕ) (ℓ : Line) → (T (busy ℓ) → ((v : ℕ) → κ .saw u v → κ′ .saw u v) × (κ .early u → κ′ .early u)) → TaskOf s κ u ℓ (s .task u) → TaskOf s κ′ u ℓ (s .task u)
+    more u ℓ m k = record
+      { self = k .self; split = k .split; value = k .value; decided = k .decided; planned = k .planned; fresh = k .fresh; owner = k .owner
+      ; early = λ a. m (lies-in (is 23) busy tt ℓ a) .1 (k .early a)
+      ; seen = record
+          { active-value = λ a c. m (lies-in checking busy tt ℓ a) .0 _ (k .seen .active-value a c)
+          ; refusing = λ a. m (lies-in (is 22) busy tt ℓ a) .0 _ (k .seen .refusing a)
+          ; decision = λ a d. m (lies-in holding busy tt ℓ a) .0 _ (k .seen .decision a d)
+          ; replaced = λ a h. let r = k .seen .replaced a h in (r .0, m (lies-in holding busy tt ℓ a) .0 _ (r .1), r .2) } }
+
+-- CONSEQUENCES
+
+module _ (s : View) (κ : Knowledge) (i : Inv s κ) where
+  -- a held block that is not decided is the current one
+  pub undecided : (u : ℕ) → T (holding (line s u)) → s .cell .d (held s u) ≡ none → held s u ≡ s .cell .current
+  undecided u h d = go (either (held s u) (s .cell .current))
+    where
+      go : (held s u ≡ s .cell .current) ⊎ (held s u ≢ s .cell .current) → held s u ≡ s .cell .current
+      go (inl e) = e
+      go (inr e) = absurd (i .tasks u .decided .replaced-decided h e d)
+
+  -- and so is one that is active; it is not decided
+  pub active-undecided : (u : ℕ) → T (holding (line s u)) → s .cell .c (held s u) ≡ 0 → s .cell .d (held s u) ≡ none
+  active-undecided u h c = go (either (s .cell .d (held s u)) none)
+    where
+      go : (s .cell .d (held s u) ≡ none) ⊎ (s .cell .d (held s u) ≢ none) → s .cell .d (held s u) ≡ none
+      go (inl e) = e
+      go (inr e) = absurd (i .tasks u .decided .decided-inactive h e c)
+
+  pub active-current : (u : ℕ) → T (holding (line s u)) → s .cell .c (held s u) ≡ 0 → held s u ≡ s .cell .current
+  active-current u h c = undecided u h (active-undecided u h c)
+
+  pub one-winner : (u w : ℕ) → T (won (line s u)) → T (won (line s w)) → held s u ≡ held s w → u ≡ w
+  one-winner u w a b h = go (either u w)
+    where
+      go : (u ≡ w) ⊎ (u ≢ w) → u ≡ w
+      go (inl e) = e
+      go (inr e) = absurd (i .rivals u w e h .one-won a b)
+
+  -- a taken block is not held
+  pub not-taken : (u w : ℕ) → T (is 30 (line s u)) → T (holding (line s w)) → s .task u .taken ≢ held s w
+  not-taken u w a h e =
+      let f = i .tasks u .fresh a in
+      i .tasks w .decided .replaced-decided h (λ z. f .other (e ∙ z)) (rw e at (f .d-is))

@@ -1,0 +1,241 @@
+-- The lines that only look: what the stepper knows at its next line.
+use mathlib.Core.Path.{_≡_, refl, sym, ap, subst, _∙_}
+use mathlib.Core.Logic.{_≢_, _⊎_, inl, inr}
+use mathlib.Core.Bool.{Bool, true, false, not}
+use Prim.Native.Nat.{ℕ, _<_}
+use native.Mathlib.Omega.{arith}
+use lib.Dec.{T}
+use Rattle.cells.specs.declared.Record.{Record}
+use Rattle.cells.specs.declared.lines.Access.{Access}
+use Rattle.cells.specs.Lines.{Wanted, for13, for25, for28, Line, l1, l2, l3, l10, l11, l12, l15, l16, l17, l18, l19, l20, l21, l22, l23, l24, l26, l27, l29, l30, nowhere, lineOf, at, counted}
+use Rattle.history.proofs.Basics.{either}
+use Rattle.history.proofs.Simulation.{Phase, settled, frozen, late, Knowledge}
+use Rattle.figure.specs.Figure.{Cell}
+use Rattle.figure.proofs.Classes.{is, busy, holding, swapping, racing, won, loaded, stored, contended, replacing, checking, lies-in}
+use Rattle.figure.proofs.Invariant.{none, View, Self, Split, Value, Decided, Seen, Planned, Fresh, Owner, Task, TaskOf, Rival, Current, PhaseIs, CurrentOf, line, held, RivalOf, Inv}
+use Rattle.figure.proofs.Frame.{Rest, Mine, undecided, active-undecided, active-current, one-winner}
+
+-- NOTHING FOLLOWS FROM A LINE THAT IS NOT THERE: `search` closes each fact whose line it is not
+
+pub no-eq : (a b : ℕ) → ⊥ → a ≡ b
+no-eq a b x = absurd x
+
+pub no-T : (b : Bool) → ⊥ → T b
+no-T b x = absurd x
+
+pub no-lt : (a b : ℕ) → ⊥ → a < b
+no-lt a b x = absurd x
+
+pub no-phase : (a b : Phase) → ⊥ → a ≡ b
+no-phase a b x = absurd x
+
+pub no-fresh : (b nv next v d y c L : ℕ) → ⊥ → Fresh b nv next v d y c L
+no-fresh b nv next v d y c L x = absurd x
+
+pub no-owner : (ℓ : Line) (q : Record) (told : Bool) (L P v : ℕ) → ⊥ → Owner ℓ q told L P v
+no-owner ℓ q told L P v x = absurd x
+
+pub ruleset nothing = (no-eq, no-T, no-lt, no-phase, no-fresh, no-owner)
+
+module _ (κ : Knowledge) (t : ℕ) where
+  pub no-saw : (v : ℕ) → ⊥ → κ .saw t v
+  no-saw v x = absurd x
+
+  pub no-early : ⊥ → κ .early t
+  no-early x = absurd x
+
+  pub no-other : (d : ℕ) → ⊥ → (n : ℕ) × κ .saw t n × (n ≢ d)
+  no-other d x = absurd x
+
+module _ (s : View) (κ : Knowledge) (t : ℕ) where
+  -- rivals stay while the stepper gets no nearer to the splitter
+  pub same-wins : (ℓ ℓ′ : Line) (q : Record) → (T (won ℓ′) → T (won ℓ)) → Mine s κ t ℓ q → (w : ℕ) → w ≢ t → q .held ≡ held s w → Rival w ℓ′ (line s w) (s .cell .x (held s w))
+  same-wins ℓ ℓ′ q f m w ne h = record { one-won = λ a. m .wins w ne h .one-won (f a); no-race = λ a. m .wins w ne h .no-race (f a) }
+
+  pub same-loses : (ℓ ℓ′ : Line) (q : Record) → (T (won ℓ′) → T (won ℓ)) → (T (racing ℓ′) → T (racing ℓ)) → Mine s κ t ℓ q → (w : ℕ) → w ≢ t → held s w ≡ q .held → Rival t (line s w) ℓ′ (s .cell .x (q .held))
+  same-loses ℓ ℓ′ q f g m w ne h = record { one-won = λ a b. m .loses w ne h .one-won a (f b); no-race = λ a b. m .loses w ne h .no-race a (g b) }
+
+  pub ruleset off = (nothing, no-saw, no-early, no-other, same-wins, same-loses)
+
+  -- a task that is idle asks for nothing, unless its late store is awaited
+  pub idle-task : (q : Record) → s .phase ≢ late t → TaskOf s κ t nowhere q
+  idle-task q n = record
+    { self = search off; split = search off; value = search off; decided = search off; seen = search off; planned = search off; fresh = search off; early = search off; owner = λ e. absurd (n e) }
+
+  pub idle-mine : (q : Record) → s .phase ≢ late t → Mine s κ t nowhere q
+  idle-mine q n = record { task = idle-task q n; wins = λ w ne h. search off; loses = λ w ne h. search off; apart = λ w ne. search off }
+
+  -- who has not stored is not awaited
+  pub not-late : (ℓ : Line) (q : Record) → (T (stored ℓ) → ⊥) → TaskOf s κ t ℓ q → s .phase ≢ late t
+  not-late ℓ q n k e = n (k .owner e .has-stored)
+
+pub T-of : (b : Bool) → (T (not b) → ⊥) → T b
+T-of true h = tt
+T-of false h = h tt
+
+pub settled≢late : (u : ℕ) → settled ≡ late u → ⊥
+settled≢late u e = let z : _≡_ {A = ℕ} 0 1 = cc in omega arith
+
+-- THE PHASE, from C and D of the current block
+
+-- decided or active: settled
+pub settled-of : (p : Phase) (c v d P : ℕ) → PhaseIs p c v d P → (d ≡ none → c ≡ 0) → p ≡ settled
+settled-of settled c v d P x h = refl
+settled-of frozen c v d P x h = absurd (x .0 (h (x .1)))
+settled-of (late u) c v d P x h = absurd (x .0 (h (x .1)))
+
+pub value-of : (p : Phase) (c v d P : ℕ) → PhaseIs p c v d P → c ≡ 0 → d ≡ none → v ≡ P
+value-of settled c v d P x h e = x e .1
+value-of frozen c v d P x h e = absurd (x .0 h)
+value-of (late u) c v d P x h e = absurd (x .0 h)
+
+module _ (s : View) (κ : Knowledge) (i : Inv s κ) where
+  abbrev L : ℕ
+  L = s .cell .current
+
+  pub decided-settled : s .cell .d L ≢ none → s .phase ≡ settled
+  decided-settled n = settled-of (s .phase) (s .cell .c L) (s .cell .v L) (s .cell .d L) (s .value) (i .current .phase-is) (λ e. absurd (n e))
+
+  -- an active block that somebody holds: the cell is settled, and V is its value
+  pub active-settled : (u : ℕ) → T (holding (line s u)) → s .cell .c (held s u) ≡ 0 → s .phase ≡ settled
+  active-settled u h c = settled-of (s .phase) (s .cell .c L) (s .cell .v L) (s .cell .d L) (s .value) (i .current .phase-is) (λ e. rw (active-current s κ i u h c) at c)
+
+  pub active-value : (u : ℕ) → T (holding (line s u)) → s .cell .c (held s u) ≡ 0 → s .cell .v (held s u) ≡ s .value
+  active-value u h c =
+      let e = active-current s κ i u h c in
+      ap (s .cell .v) e ∙ value-of (s .phase) (s .cell .c L) (s .cell .v L) (s .cell .d L) (s .value) (i .current .phase-is) (rw e at c) (rw e at (active-undecided s κ i u h c))
+
+  -- THE LINES
+
+  module _ (t : ℕ) (a : Access) (n w : ℕ) where
+    abbrev q : Record
+    q = s .task t
+
+    -- to another line, with the record's words as they are; with another block held; with another value loaded
+    abbrev pub on : Record
+    on = at (counted q a) n w (q .held) (q .taken) (q .loaded)
+
+    abbrev pub held-now : Record
+    held-now = at (counted q a) n w L (q .taken) (q .loaded)
+
+    abbrev pub loaded-now : Record
+    loaded-now = at (counted q a) n w (q .held) (q .taken) (s .cell .v (q .held))
+
+    -- who stored late and does not leave stays the one awaited
+    still-owner : (ℓ ℓ′ : Line) (v : ℕ) → (T (stored ℓ) → T (stored ℓ′)) → Mine s κ t ℓ q → s .phase ≡ late t →
+        Owner ℓ′ (at (counted q a) n w (q .held) (q .taken) v) (s .told t) L (s .value) (s .cell .v L)
+    still-owner ℓ ℓ′ v f m e =
+        let o = m .task .owner e in
+        record { has-stored = f (o .has-stored); here = o .here; not-told = o .not-told; new-is = o .new-is; expected-is = o .expected-is }
+
+    -- at line 3 the block is decided, so nobody is awaited on it
+    pub decided-not-late : (x : Wanted) → Mine s κ t (l3 x) q → s .phase ≢ late t
+    decided-not-late x m e =
+        let o = m .task .owner e in
+        let p : PhaseIs (late t) (s .cell .c L) (s .cell .v L) (s .cell .d L) (s .value) = subst (λ p. PhaseIs p (s .cell .c L) (s .cell .v L) (s .cell .d L) (s .value)) e (i .current .phase-is) in
+        m .task .decided .decided tt (ap (s .cell .d) (o .here) ∙ p .1)
+
+    module _ (now : s .phase ≡ settled → κ .saw t (s .value)) where
+      seen-decision : s .cell .d L ≢ none → κ .saw t (s .cell .d L)
+      seen-decision d = rw (i .current .decision d) (now (decided-settled d))
+
+      seen-active : (ℓ : Line) → line s t ≡ ℓ → T (holding ℓ) → s .cell .c (q .held) ≡ 0 → κ .saw t (s .cell .v (q .held))
+      seen-active ℓ e h c = rw (active-value t (rw e h) c) (now (active-settled t (rw e h) c))
+
+      pub from10 : Mine s κ t l10 q → Mine s κ t l11 held-now
+      from10 m =
+          let c = i .current in
+          let same : L ≢ L → ⊥ = λ e. e refl in
+          let other : L ≢ L → (n : ℕ) × κ .saw t n × (n ≢ s .cell .d L) = λ e. absurd (e refl) in
+          let o : s .phase ≢ late t = not-late s κ t l10 q (λ x. x) (m .task) in
+          let d = seen-decision in
+          search off
+
+      pub from15 : Mine s κ t l15 q → Mine s κ t l16 held-now
+      from15 m =
+          let c = i .current in
+          let same : L ≢ L → ⊥ = λ e. e refl in
+          let other : L ≢ L → (n : ℕ) × κ .saw t n × (n ≢ s .cell .d L) = λ e. absurd (e refl) in
+          let o : s .phase ≢ late t = not-late s κ t l15 q (λ x. x) (m .task) in
+          let d = seen-decision in
+          search off
+
+      pub from11 : line s t ≡ l11 → Mine s κ t l11 q → Mine s κ t l12 loaded-now
+      from11 e m =
+          let o : s .phase ≢ late t = not-late s κ t l11 q (λ x. x) (m .task) in
+          let c = seen-active l11 e tt in
+          search off
+
+      pub from20 : line s t ≡ l20 → Mine s κ t l20 q → Mine s κ t l21 loaded-now
+      from20 e m =
+          let o : s .phase ≢ late t = not-late s κ t l20 q (λ x. x) (m .task) in
+          let c = seen-active l20 e tt in
+          search off
+
+    pub from12 : Mine s κ t l12 q → s .cell .c (q .held) ≢ 0 → Mine s κ t (l1 for13) on
+    from12 m c = let o : s .phase ≢ late t = not-late s κ t l12 q (λ x. x) (m .task) in search off
+
+    pub from1 : (x : Wanted) → line s t ≡ l1 x → Mine s κ t (l1 x) q → Mine s κ t (l2 x) loaded-now
+    from1 x e m =
+        let o = still-owner (l1 x) (l2 x) (s .cell .v (q .held)) (λ z. z) m in
+        let p : s .cell .d (q .held) ≡ none → s .cell .v (q .held) ≢ s .value → s .cell .v L ≡ s .cell .v (q .held) = λ d z. ap (s .cell .v) (sym (undecided s κ i t (rw e tt) d)) in
+        search off
+
+    pub from2 : (x : Wanted) → Mine s κ t (l2 x) q → s .cell .d (q .held) ≢ none → Mine s κ t (l3 x) on
+    from2 x m d = let o = still-owner (l2 x) (l3 x) (q .loaded) (λ z. z) m in search off
+
+    pub from3-25 : Mine s κ t (l3 for25) q → s .cell .d (q .held) ≢ q .new → Mine s κ t (l1 for28) on
+    from3-25 m d =
+        let o = decided-not-late for25 m in
+        let nt : T (s .told t) → ⊥ = λ x. d (m .task .decided .told-decided tt x (m .task .decided .decided tt)) in
+        search off
+
+    pub from3-28 : Mine s κ t (l3 for28) q → s .cell .d (q .held) ≡ q .expected → Mine s κ t l29 on
+    from3-28 m d = let o = decided-not-late for28 m in search off
+
+    pub from17-27 : Mine s κ t l17 q → Mine s κ t l27 on
+    from17-27 m = let o : s .phase ≢ late t = not-late s κ t l17 q (λ x. x) (m .task) in search off
+
+    pub from17-18 : Mine s κ t l17 q → s .cell .y (q .held) ≡ 0 → Mine s κ t l18 on
+    from17-18 m y =
+        let o : s .phase ≢ late t = not-late s κ t l17 q (λ x. x) (m .task) in
+        let loses : (u : ℕ) → u ≢ t → held s u ≡ q .held → Rival t (line s u) l18 (s .cell .x (q .held))
+              = λ u ne h. record { one-won = λ a b. b; no-race = λ a b e. i .tasks u .split .kept a (ap (s .cell .y) h ∙ y) } in
+        search off
+
+    pub from19-27 : Mine s κ t l19 q → Mine s κ t l27 on
+    from19-27 m = let o : s .phase ≢ late t = not-late s κ t l19 q (λ x. x) (m .task) in search off
+
+    pub from19-20 : Mine s κ t l19 q → s .cell .x (q .held) ≡ t → Mine s κ t l20 on
+    from19-20 m x =
+        let o : s .phase ≢ late t = not-late s κ t l19 q (λ x. x) (m .task) in
+        let y : s .cell .y (q .held) ≢ 0 = m .task .split .about-to-win tt x in
+        let wins : (u : ℕ) → u ≢ t → q .held ≡ held s u → Rival u l20 (line s u) (s .cell .x (held s u))
+              = λ u ne h. record { one-won = λ a b. m .loses u ne (sym h) .no-race b tt x; no-race = λ a b e. ne (sym e ∙ rw h at x) } in
+        let loses : (u : ℕ) → u ≢ t → held s u ≡ q .held → Rival t (line s u) l20 (s .cell .x (q .held))
+              = λ u ne h. record { one-won = λ a b. m .loses u ne h .no-race a tt x; no-race = λ a b e. b } in
+        search off
+
+    pub from21-1 : Mine s κ t l21 q → s .cell .c (q .held) ≢ 0 → Mine s κ t (l1 for28) on
+    from21-1 m c = let o : s .phase ≢ late t = not-late s κ t l21 q (λ x. x) (m .task) in search off
+
+    pub from21-22 : Mine s κ t l21 q → s .cell .c (q .held) ≡ 0 → q .loaded ≢ q .expected → Mine s κ t l22 on
+    from21-22 m c e =
+        let o : s .phase ≢ late t = not-late s κ t l21 q (λ x. x) (m .task) in
+        let r : κ .saw t (q .loaded) = m .task .seen .active-value tt c in
+        search off
+
+    pub from21-23 : Mine s κ t l21 q → s .cell .c (q .held) ≡ 0 → q .loaded ≡ q .expected → κ .early t → Mine s κ t l23 on
+    from21-23 m c e r =
+        let o : s .phase ≢ late t = not-late s κ t l21 q (λ x. x) (m .task) in
+        let b : s .cell .d (q .held) ≢ none → s .cell .d (q .held) ≡ q .expected = λ d. absurd (m .task .decided .decided-inactive tt d c) in
+        search off
+
+    pub from24-1 : Mine s κ t l24 q → s .cell .c (q .held) ≢ 0 → Mine s κ t (l1 for25) on
+    from24-1 m c = let o = still-owner l24 (l1 for25) (q .loaded) (λ z. z) m in search off
+
+    pub from24-26 : Mine s κ t l24 q → s .cell .c (q .held) ≡ 0 → Mine s κ t l26 on
+    from24-26 m c =
+        let o = still-owner l24 l26 (q .loaded) (λ z. z) m in
+        let told : T (s .told t) = T-of (s .told t) (λ n. m .task .decided .late-inactive tt n c) in
+        search off

@@ -1,0 +1,164 @@
+-- Line 23: the winner stores its new value. In an active block the swap takes effect at once; in an inactive one it comes late.
+use mathlib.Core.Path.{_≡_, refl, sym, ap, subst, _∙_}
+use mathlib.Core.Logic.{_≢_, _⊎_, inl, inr}
+use mathlib.Core.Bool.{Bool, true, false, not}
+use Prim.Native.Nat.{ℕ}
+use lib.Dec.{T, T-not, not-T}
+use Rattle.cells.specs.declared.Record.{Record}
+use Rattle.cells.specs.declared.lines.Field.{Field}
+use Rattle.cells.specs.declared.lines.Access.{Access}
+use Rattle.cells.specs.Lines.{Line, l23, l24, lineOf, at, counted}
+use Rattle.history.specs.Basics.{upd}
+use Rattle.history.proofs.Basics.{either, upd-at, upd-same, upd-off, upd-cases}
+use Rattle.history.proofs.Simulation.{Phase, settled, frozen, late, Knowledge}
+use Rattle.figure.specs.Figure.{Cell, store}
+use Rattle.figure.proofs.Classes.{is, busy, holding, racing, won, loaded, stored, contended, lies-in, are-apart}
+use Rattle.figure.proofs.Invariant.{none, View, Self, Split, Value, Decided, Seen, Planned, Fresh, Owner, Task, TaskOf, Rival, Current, PhaseIs, CurrentOf, line, held, RivalOf, Inv}
+use Rattle.figure.proofs.Frame.{moved, Rest, Mine, finish, forget, was, undecided, active-undecided, active-current, one-winner, not-taken}
+use Rattle.figure.proofs.Looking.{off, same-wins, same-loses, not-late, active-settled, active-value}
+
+module _ (s : View) (κ : Knowledge) (t : ℕ) (i : Inv s κ) (e : line s t ≡ l23) (a : Access) (n w : ℕ) where
+  abbrev q : Record
+  q = s .task t
+
+  abbrev L : ℕ
+  L = s .cell .current
+
+  abbrev next : Record
+  next = at (counted q a) n w (q .held) (q .taken) (q .loaded)
+
+  abbrev V′ : ℕ → ℕ
+  V′ = upd (s .cell .v) (q .held) (q .new)
+
+  here : Mine s κ t l23 q
+  here = was s κ t l23 e i
+
+  -- nobody else has won this block
+  nobody : (u : ℕ) → u ≢ t → held s u ≡ q .held → T (won (line s u)) → ⊥
+  nobody u ne h b = here .wins u ne (sym h) .one-won tt b
+
+  pub untold : T (not (s .told t))
+  untold = not-T (s .told t) (here .task .self .told-stored tt)
+
+  value′ : (u : ℕ) → u ≢ t → Value (line s u) (s .task u .new) (held s u) (s .task u .loaded) (s .cell .next) (V′ (held s u))
+  value′ u ne = let r = i .tasks u .value in record
+    { there = r .there
+    ; some = λ b. upd-cases (λ x. x ≢ none) (s .cell .v) (q .held) (q .new) (held s u) (λ h. here .task .self .nv-some tt) (λ h. r .some b)
+    ; still-loaded = λ b. upd-cases (λ x. x ≡ s .task u .loaded) (s .cell .v) (q .held) (q .new) (held s u) (λ h. absurd (nobody u ne h (lies-in loaded won tt (line s u) b))) (λ h. r .still-loaded b)
+    ; still-stored = λ b. upd-cases (λ x. x ≡ s .task u .new) (s .cell .v) (q .held) (q .new) (held s u) (λ h. absurd (nobody u ne h (lies-in stored won tt (line s u) b))) (λ h. r .still-stored b) }
+
+  fresh′ : (u : ℕ) → T (is 30 (line s u)) → Fresh (s .task u .taken) (s .task u .new) (s .cell .next) (V′ (s .task u .taken)) (s .cell .d (s .task u .taken)) (s .cell .y (s .task u .taken)) (s .cell .c (s .task u .taken)) L
+  fresh′ u b = rw (upd-off (s .cell .v) (q .held) (q .new) (s .task u .taken) (not-taken s κ i u t b (rw e tt))) (i .tasks u .fresh b)
+
+  v-some′ : V′ L ≢ none
+  v-some′ = upd-cases (λ x. x ≢ none) (s .cell .v) (q .held) (q .new) L (λ h. here .task .self .nv-some tt) (λ h. i .current .v-some)
+
+  stored-now : V′ (q .held) ≡ q .new
+  stored-now = upd-same (s .cell .v) (q .held) (q .new)
+
+  some-now : V′ (q .held) ≢ none
+  some-now z = here .task .self .nv-some tt (sym stored-now ∙ z)
+
+  -- nobody's late store is awaited on the winner's own block
+  pub none-awaited : q .held ≡ L → (u : ℕ) → s .phase ≢ late u
+  none-awaited h u z =
+      let o = i .tasks u .owner z in
+      are-apart (is 23) stored tt (line s u) (rw (one-winner s κ i u t (lies-in stored won tt (line s u) (o .has-stored)) (rw e tt) (o .here ∙ sym h), e) tt) (o .has-stored)
+
+  -- THE BLOCK IS ACTIVE: the swap takes effect
+
+  module _ (c : s .cell .c (q .held) ≡ 0) where
+    abbrev pub live : View
+    live = record { cell = store (s .cell) (q .held) Field.V (q .new); task = s .task; value = q .new; told = upd (s .told) t true; phase = s .phase }
+
+    open-d : s .cell .d (q .held) ≡ none
+    open-d = active-undecided s κ i t (rw e tt) c
+
+    is-L : q .held ≡ L
+    is-L = active-current s κ i t (rw e tt) c
+
+    pub live-settled : s .phase ≡ settled
+    live-settled = active-settled s κ i t (rw e tt) c
+
+    -- the sequential cell has the expected value
+    pub live-right : s .value ≡ q .expected
+    live-right = sym (active-value s κ i t (rw e tt) c) ∙ here .task .value .still-loaded tt ∙ here .task .self .same-loaded tt
+
+    -- nobody else has stored in it
+    none-stored : (u : ℕ) → u ≢ t → T (stored (line s u)) → s .cell .d (held s u) ≡ none → ⊥
+    none-stored u ne b d = nobody u ne (undecided s κ i u (lies-in stored holding tt (line s u) b) d ∙ sym is-L) (lies-in stored won tt (line s u) b)
+
+    rest-live : Rest live κ t
+    rest-live = record
+      { rivals = λ u w ne ne′. i .rivals u w; apart = λ u w ne ne′. i .apart u w
+      ; current = let k = i .current in record
+          { low = k .low; P-some = here .task .self .nv-some tt; v-some = v-some′; decided-inactive = k .decided-inactive; decision = λ d. absurd (d (rw is-L at open-d))
+          ; phase-is = rw live-settled (λ d. (rw is-L at c, upd-at (s .cell .v) (q .held) (q .new) L (sym is-L))) }
+      ; tasks = λ u ne. let k = i .tasks u in rw (upd-off (s .told) t true u ne) record
+          { self = k .self; split = k .split; value = value′ u ne; seen = k .seen; fresh = fresh′ u; early = k .early
+          ; decided = let r = k .decided in record
+              { replaced-decided = r .replaced-decided; decided-inactive = r .decided-inactive; before-store = r .before-store
+              ; told-value = λ b z d. absurd (none-stored u ne b d); told-decided = r .told-decided; late-inactive = r .late-inactive
+              ; late-phase = r .late-phase; late-decided = r .late-decided; inactive = r .inactive; decided = r .decided; expected = r .expected }
+          ; planned = record
+              { plan-some = k .planned .plan-some
+              ; plan = λ b d. absurd (k .decided .inactive (lies-in (is 2) contended tt (line s u) b) (ap (s .cell .c) (undecided s κ i u (lies-in (is 2) holding tt (line s u) b) d ∙ sym is-L) ∙ c)) }
+          ; owner = λ z. absurd (none-awaited is-L u z) } }
+
+    mine-live : Mine live κ t l24 next
+    mine-live =
+        let m = here in
+        let wins = same-wins s κ t l23 l24 q (λ x. tt) m in
+        let loses = same-loses s κ t l23 l24 q (λ x. tt) (λ x. x) m in
+        let v = stored-now in
+        let v′ = some-now in
+        let told : T (upd (s .told) t true t) = rw upd-same tt in
+        let only : T (not (upd (s .told) t true t)) → ⊥ = λ x. rw upd-same at x in
+        let d = open-d in
+        let o : s .phase ≢ late t = none-awaited is-L t in
+        search off
+
+    pub kept-live : lineOf next ≡ l24 → Inv (moved live t next) κ
+    kept-live e′ = finish live κ t l24 next e′ rest-live mine-live
+
+  -- THE BLOCK IS INACTIVE. The phase becomes p: late, if the block is the current one and not decided, else it stays.
+
+  module _ (c : s .cell .c (q .held) ≢ 0) (p : Phase) (lates : (u : ℕ) → u ≢ t → (s .phase ≡ late u → p ≡ late u) × (p ≡ late u → (s .phase ≡ late u) × (L ≢ q .held)))
+      (is-p : PhaseIs p (s .cell .c L) (V′ L) (s .cell .d L) (s .value)) (mine-p : s .cell .d (q .held) ≡ none → p ≡ late t)
+      (owner-p : p ≡ late t → (q .held ≡ L) × (q .expected ≡ s .value)) (plan-p : s .cell .d L ≡ none → q .held ≡ L → s .cell .v L ≡ s .value) where
+    abbrev pub delayed : View
+    delayed = record { cell = store (s .cell) (q .held) Field.V (q .new); task = s .task; value = s .value; told = s .told; phase = p }
+
+    rest-delayed : Rest delayed κ t
+    rest-delayed = record
+      { rivals = λ u w ne ne′. i .rivals u w; apart = λ u w ne ne′. i .apart u w
+      ; current = let k = i .current in record { low = k .low; P-some = k .P-some; v-some = v-some′; decided-inactive = k .decided-inactive; decision = k .decision; phase-is = is-p }
+      ; tasks = λ u ne. let k = i .tasks u in record
+          { self = k .self; split = k .split; value = value′ u ne; seen = k .seen; fresh = fresh′ u; early = k .early
+          ; decided = let r = k .decided in record
+              { replaced-decided = r .replaced-decided; decided-inactive = r .decided-inactive; before-store = r .before-store
+              ; told-value = r .told-value; told-decided = r .told-decided; late-inactive = r .late-inactive
+              ; late-phase = λ b z d. lates u ne .0 (r .late-phase b z d); late-decided = r .late-decided; inactive = r .inactive; decided = r .decided; expected = r .expected }
+          ; planned = record
+              { plan-some = k .planned .plan-some
+              ; plan = λ b d z. upd-cases (λ x. x ≡ s .task u .loaded) (s .cell .v) (q .held) (q .new) L
+                  (λ h. let z′ = k .planned .plan b d z in absurd (z (sym z′ ∙ plan-p (rw (undecided s κ i u (lies-in (is 2) holding tt (line s u) b) d) at d) (sym h))))
+                  (λ h. k .planned .plan b d z) }
+          ; owner = λ z. let x = lates u ne .1 z in let o = k .owner (x .0) in record
+              { has-stored = o .has-stored; here = o .here; not-told = o .not-told; expected-is = o .expected-is; new-is = o .new-is ∙ sym (upd-off (s .cell .v) (q .held) (q .new) L (x .1)) } } }
+
+    mine-delayed : Mine delayed κ t l24 next
+    mine-delayed =
+        let m = here in
+        let wins = same-wins s κ t l23 l24 q (λ x. tt) m in
+        let loses = same-loses s κ t l23 l24 q (λ x. tt) (λ x. x) m in
+        let v = stored-now in
+        let v′ = some-now in
+        let nt : T (s .told t) → ⊥ = T-not (s .told t) untold in
+        let d : s .cell .d (q .held) ≢ none → s .cell .d (q .held) ≡ q .expected = m .task .decided .before-store tt in
+        let o : p ≡ late t → Owner l24 next (s .told t) L (s .value) (V′ L)
+              = λ z. let x = owner-p z in record { has-stored = tt; here = x .0; not-told = untold; new-is = sym (upd-at (s .cell .v) (q .held) (q .new) L (sym (x .0))); expected-is = x .1 } in
+        search off
+
+    pub kept-delayed : lineOf next ≡ l24 → Inv (moved delayed t next) κ
+    kept-delayed e′ = finish delayed κ t l24 next e′ rest-delayed mine-delayed
