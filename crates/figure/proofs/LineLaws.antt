@@ -1,7 +1,7 @@
 -- Lines can be told apart, and which line may follow which is computed from the thirteen paths; the figure's lines keep to it.
 use mathlib.Core.Path.{_≡_, refl, sym, ap, _∙_, subst}
 use mathlib.Core.Logic.{_⊎_, inl, inr}
-use mathlib.Core.Bool.{Bool, true, false, _&&_, _||_, not, cond}
+use mathlib.Core.Bool.{Bool, true, false, _&&_, _||_, not, cond, false≢true}
 use mathlib.Core.List.{List, [], _∷_, _++_, map}
 use Prim.Native.Nat.{ℕ, zero, suc, _+_}
 use native.Mathlib.Omega.{arith}
@@ -29,6 +29,16 @@ pub both : (a b : Bool) → T (a && b) → T a × T b
 both true b h = (tt, h)
 both false b h = absurd h
 
+pub is-true : (b : Bool) → T b → b ≡ true
+is-true true h = refl
+is-true false h = absurd h
+
+-- an implication as a test
+pub imp : (x y : Bool) → T (y || not x) → x ≡ true → T y
+imp x true h e = tt
+imp true false h e = h
+imp false false h e = absurd (false≢true e)
+
 module _ {A : Type 0} (f : A → Bool) where
   pub every-in : (xs : List A) → T (every f xs) → (x : A) → x ∈ xs → T (f x)
   every-in [] h x m = absurd m
@@ -42,7 +52,7 @@ module _ {A : Type 0} (f : A → Bool) where
 
 -- THE LIST OF ALL LINES
 
-abbrev lines : List Line
+abbrev pub lines : List Line
 lines =
     nowhere ∷ l1 for13 ∷ l1 for25 ∷ l1 for28 ∷ l2 for13 ∷ l2 for25 ∷ l2 for28 ∷ l3 for13 ∷ l3 for25 ∷ l3 for28 ∷ l10 ∷ l11 ∷ l12 ∷ l15 ∷
     l16 ∷ l17 ∷ l18 ∷ l19 ∷ l20 ∷ l21 ∷ l22 ∷ l23 ∷ l24 ∷ l26 ∷ l27 ∷ l29 ∷ l30 ∷ []
@@ -103,7 +113,7 @@ same-lines [] (b ∷ y) h = absurd h
 same-lines (a ∷ x) [] h = absurd h
 same-lines (a ∷ x) (b ∷ y) h = let k = both (same a b) _ h in rw (same-is a b (k .0), same-lines x y (k .1))
 
-abbrev has : List (List Line) → List Line → Bool
+abbrev pub has : List (List Line) → List Line → Bool
 has [] x = false
 has (y ∷ ys) x = sameLines x y || has ys x
 
@@ -133,22 +143,29 @@ abbrev pub readPaths : List (List Line)
 readPaths = readActive ∷ readDecided ∷ []
 
 -- the complete paths of the line's kind: a read's, or all
-abbrev endings : Line → List (List Line)
+abbrev pub endings : Line → List (List Line)
 endings l = cond (ofKind l true false) readPaths paths
 
--- wherever a line stands, the path goes on with the other, and both are of one kind
-abbrev follows : Line → Line → Bool
-follows l k = every (λ d. has (before k) (d ++ (l ∷ []))) (before l) && every (λ a. every (λ b. not (ofKind l a b) || ofKind k a b) (true ∷ false ∷ [])) (true ∷ false ∷ [])
+-- what stands before the line, with the line, is always one of these
+abbrev pub extends : Line → List (List Line) → Bool
+extends l ys = every (λ d. has ys (d ++ (l ∷ []))) (before l)
 
--- wherever a line stands, the path may end with it
-abbrev ends : Line → Bool
-ends l = every (λ d. has (endings l) (d ++ (l ∷ []))) (before l)
+pub extends-in : (l : Line) (ys : List (List Line)) → T (extends l ys) → (d : List Line) → d ∈ before l → (d ++ (l ∷ [])) ∈ ys
+extends-in l ys h d m = has-in ys _ (every-in (λ d. has ys (d ++ (l ∷ []))) (before l) h d m)
+
+-- line k may follow line l, and is of the same kind
+abbrev pub MayFollow : Line → Line → Type 0
+MayFollow l k = T (extends l (before k)) × ((read swap : Bool) → ofKind l read swap ≡ ofKind k read swap)
+
+-- a call may end with the line
+abbrev pub MayEnd : Line → Type 0
+MayEnd l = T (extends l (endings l))
 
 -- the number of the line that wanted the decision; 0 outside the deciding part
-abbrev wantedBy : Line → ℕ
+abbrev pub wantedBy : Line → ℕ
 wantedBy l = cond (has1 (decision for13) l) 13 (cond (has1 (decision for25) l) 25 (cond (has1 (decision for28) l) 28 0))
 
-abbrev suits : ℕ → Line → Bool
+abbrev pub suits : ℕ → Line → Bool
 suits w l = eqb (wantedBy l) 0 || eqb w (wantedBy l)
 
 
@@ -165,20 +182,34 @@ module _ (w : ℕ) where
   suited n = let passed : Unit {0} = tt in search told depth 40 fits 4000
 
 -- in the deciding part the record says which line wanted the decision
-pub wanted-is : (n w : ℕ) (l : Line) → lineAt n w ≡ l → T (not (eqb (wantedBy l) 0)) → w ≡ wantedBy l
+pub wanted-is : (r : Record) {l : Line} → lineOf r ≡ l → T (not (eqb (wantedBy l) 0)) → r .wanted ≡ wantedBy l
 unfolding Suits
-wanted-is n w l e h = go (eqb (wantedBy l) 0) h (rw e at (suited w n))
+wanted-is r {l} e h = go (eqb (wantedBy l) 0) h (rw e at (suited (r .wanted) (r .line)))
   where
-    go : (b : Bool) → T (not b) → T (b || eqb w (wantedBy l)) → w ≡ wantedBy l
+    go : (b : Bool) → T (not b) → T (b || eqb (r .wanted) (wantedBy l)) → r .wanted ≡ wantedBy l
     go true h s = absurd h
-    go false h s = eqb→eq w (wantedBy l) s
+    go false h s = eqb→eq (r .wanted) (wantedBy l) s
 
 -- WHAT THE FIGURE'S LINES DO
 
+-- what an access counts as does not depend on the task and its record
+module _ (l : Line) (p : ℕ) (q : Record) where
+  alike : (f : Access → ℕ) → T (every (λ k. eqb (f (accessAt k p q)) (f (accessAt k 0 idle))) lines) → f (accessAt l p q) ≡ f (accessAt l 0 idle)
+  alike f h = eqb→eq _ _ (every-line (λ k. eqb (f (accessAt k p q)) (f (accessAt k 0 idle))) h l)
+
+  pub loads-alike : loads (accessAt l p q) ≡ loads (accessAt l 0 idle)
+  loads-alike = alike loads tt
+
+  pub stores-alike : stores (accessAt l p q) ≡ stores (accessAt l 0 idle)
+  stores-alike = alike stores tt
+
+  pub hardware-alike : hardware (accessAt l p q) ≡ hardware (accessAt l 0 idle)
+  hardware-alike = alike hardware tt
+
 -- from line l and record r: on to a line that may follow, with the call's own words as they were; or the call ends where it may
 pub data Leads (l : Line) (r : Record) : Next → Type 0 where
-  goes : (n w h t v : ℕ) → T (follows l (lineAt n w)) → Leads l r (Go (at r n w h t v))
-  done : (a : Answer) → T (ends l) → Leads l r (answer r a)
+  goes : {n w h t v : ℕ} → MayFollow l (lineAt n w) → Leads l r (Go (at r n w h t v))
+  done : {a : Answer} → MayEnd l → Leads l r (answer r a)
 
 module _ {l : Line} {r : Record} where
   either : (b : Bool) {x y : Next} → Leads l r x → Leads l r y → Leads l r (cond b x y)
@@ -186,30 +217,30 @@ module _ {l : Line} {r : Record} where
   either false p q = q
 
 pub leads : (l : Line) (p : ℕ) (r : Record) (v : ℕ) → lineOf r ≡ l → T (not (same l nowhere)) → Leads l r (nextAt l p r v)
-leads (l1 for13) p r v e h = goes 2 (r .wanted) _ _ _ (rw (wanted-is (r .line) (r .wanted) (l1 for13) e tt) tt)
-leads (l1 for25) p r v e h = goes 2 (r .wanted) _ _ _ (rw (wanted-is (r .line) (r .wanted) (l1 for25) e tt) tt)
-leads (l1 for28) p r v e h = goes 2 (r .wanted) _ _ _ (rw (wanted-is (r .line) (r .wanted) (l1 for28) e tt) tt)
-leads (l2 for13) p r v e h = goes 3 (r .wanted) _ _ _ (rw (wanted-is (r .line) (r .wanted) (l2 for13) e tt) tt)
-leads (l2 for25) p r v e h = goes 3 (r .wanted) _ _ _ (rw (wanted-is (r .line) (r .wanted) (l2 for25) e tt) tt)
-leads (l2 for28) p r v e h = goes 3 (r .wanted) _ _ _ (rw (wanted-is (r .line) (r .wanted) (l2 for28) e tt) tt)
-leads (l3 for13) p r v e h = done _ tt
-leads (l3 for25) p r v e h = either (eqb v (r .new)) (done _ tt) (goes _ _ _ _ _ tt)
-leads (l3 for28) p r v e h = either (eqb v (r .expected)) (goes _ _ _ _ _ tt) (done _ tt)
-leads l10 p r v e h = goes _ _ _ _ _ tt
-leads l11 p r v e h = goes _ _ _ _ _ tt
-leads l12 p r v e h = either (eqb v 0) (done _ tt) (goes _ _ _ _ _ tt)
-leads l15 p r v e h = goes _ _ _ _ _ tt
-leads l16 p r v e h = goes _ _ _ _ _ tt
-leads l17 p r v e h = either (eqb v 0) (goes _ _ _ _ _ tt) (goes _ _ _ _ _ tt)
-leads l18 p r v e h = goes _ _ _ _ _ tt
-leads l19 p r v e h = either (eqb v p) (goes _ _ _ _ _ tt) (goes _ _ _ _ _ tt)
-leads l20 p r v e h = goes _ _ _ _ _ tt
-leads l21 p r v e h = either (eqb v 0) (either (eqb (r .loaded) (r .expected)) (goes _ _ _ _ _ tt) (goes _ _ _ _ _ tt)) (goes _ _ _ _ _ tt)
-leads l22 p r v e h = done _ tt
-leads l23 p r v e h = goes _ _ _ _ _ tt
-leads l24 p r v e h = either (eqb v 0) (goes _ _ _ _ _ tt) (goes _ _ _ _ _ tt)
-leads l26 p r v e h = done _ tt
-leads l27 p r v e h = goes _ _ _ _ _ tt
-leads l29 p r v e h = goes _ _ _ _ _ tt
-leads l30 p r v e h = either (eqb v 1) (done _ tt) (done _ tt)
+leads (l1 for13) p r v e h = goes {n = 2} {w = r .wanted} (rw (wanted-is r e tt) (tt, λ a b. refl))
+leads (l1 for25) p r v e h = goes {n = 2} {w = r .wanted} (rw (wanted-is r e tt) (tt, λ a b. refl))
+leads (l1 for28) p r v e h = goes {n = 2} {w = r .wanted} (rw (wanted-is r e tt) (tt, λ a b. refl))
+leads (l2 for13) p r v e h = goes {n = 3} {w = r .wanted} (rw (wanted-is r e tt) (tt, λ a b. refl))
+leads (l2 for25) p r v e h = goes {n = 3} {w = r .wanted} (rw (wanted-is r e tt) (tt, λ a b. refl))
+leads (l2 for28) p r v e h = goes {n = 3} {w = r .wanted} (rw (wanted-is r e tt) (tt, λ a b. refl))
+leads (l3 for13) p r v e h = done tt
+leads (l3 for25) p r v e h = either (eqb v (r .new)) (done tt) (goes (tt, λ a b. refl))
+leads (l3 for28) p r v e h = either (eqb v (r .expected)) (goes (tt, λ a b. refl)) (done tt)
+leads l10 p r v e h = goes (tt, λ a b. refl)
+leads l11 p r v e h = goes (tt, λ a b. refl)
+leads l12 p r v e h = either (eqb v 0) (done tt) (goes (tt, λ a b. refl))
+leads l15 p r v e h = goes (tt, λ a b. refl)
+leads l16 p r v e h = goes (tt, λ a b. refl)
+leads l17 p r v e h = either (eqb v 0) (goes (tt, λ a b. refl)) (goes (tt, λ a b. refl))
+leads l18 p r v e h = goes (tt, λ a b. refl)
+leads l19 p r v e h = either (eqb v p) (goes (tt, λ a b. refl)) (goes (tt, λ a b. refl))
+leads l20 p r v e h = goes (tt, λ a b. refl)
+leads l21 p r v e h = either (eqb v 0) (either (eqb (r .loaded) (r .expected)) (goes (tt, λ a b. refl)) (goes (tt, λ a b. refl))) (goes (tt, λ a b. refl))
+leads l22 p r v e h = done tt
+leads l23 p r v e h = goes (tt, λ a b. refl)
+leads l24 p r v e h = either (eqb v 0) (goes (tt, λ a b. refl)) (goes (tt, λ a b. refl))
+leads l26 p r v e h = done tt
+leads l27 p r v e h = goes (tt, λ a b. refl)
+leads l29 p r v e h = goes (tt, λ a b. refl)
+leads l30 p r v e h = either (eqb v 1) (done tt) (done tt)
 leads nowhere p r v e h = absurd h
