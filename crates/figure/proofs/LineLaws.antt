@@ -97,9 +97,9 @@ same a b = eqb (place a .0) (place b .0)
 same-is : (a b : Line) → T (same a b) → a ≡ b
 same-is a b h = sym (place a .1) ∙ ap (λ n. getD lines n nowhere) (eqb→eq (place a .0) (place b .0) h) ∙ place b .1
 
-abbrev has1 : List Line → Line → Bool
-has1 [] l = false
-has1 (a ∷ x) l = same a l || has1 x l
+abbrev pub hasLine : List Line → Line → Bool
+hasLine [] l = false
+hasLine (a ∷ x) l = same a l || hasLine x l
 
 abbrev sameLines : List Line → List Line → Bool
 sameLines [] [] = true
@@ -163,7 +163,7 @@ MayEnd l = T (extends l (endings l))
 
 -- the number of the line that wanted the decision; 0 outside the deciding part
 abbrev pub wantedBy : Line → ℕ
-wantedBy l = cond (has1 (decision for13) l) 13 (cond (has1 (decision for25) l) 25 (cond (has1 (decision for28) l) 28 0))
+wantedBy l = cond (hasLine (decision for13) l) 13 (cond (hasLine (decision for25) l) 25 (cond (hasLine (decision for28) l) 28 0))
 
 abbrev pub suits : ℕ → Line → Bool
 suits w l = eqb (wantedBy l) 0 || eqb w (wantedBy l)

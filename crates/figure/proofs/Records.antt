@@ -44,7 +44,7 @@ pub record Complete (lines : List Line) (f : Finished) : Type 0 where
   pub steps : f .steps ≡ Paths.steps lines
   pub hard : f .hard ≡ count hardware lines
 
-steps-on : (d : List Line) (l : Line) → Paths.steps (d ++ (l ∷ [])) ≡ Paths.steps d + 1
+pub steps-on : (d : List Line) (l : Line) → Paths.steps (d ++ (l ∷ [])) ≡ Paths.steps d + 1
 steps-on [] l = refl
 steps-on (a ∷ d) l = omega (arith, steps-on d l)
 
