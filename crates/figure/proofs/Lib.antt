@@ -1,3 +1,4 @@
 pub mod LineLaws
 pub mod Records
 pub mod Paths
+pub mod Tallies
