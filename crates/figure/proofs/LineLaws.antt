@@ -1,37 +1,36 @@
 -- Lines can be told apart, and which line may follow which is computed from the thirteen paths; the figure's lines keep to it.
 use mathlib.Core.Path.{_≡_, refl, sym, ap, _∙_, subst}
-use mathlib.Core.Logic.{_⊎_, inl, inr}
+use mathlib.Core.Logic.{inl, inr}
 use mathlib.Core.Bool.{Bool, true, false, _&&_, _||_, not, cond, false≢true}
 use mathlib.Core.List.{List, [], _∷_, _++_, map}
-use Prim.Native.Nat.{ℕ, zero, suc, _+_}
-use native.Mathlib.Omega.{arith}
+use Prim.Native.Nat.{ℕ, zero, suc}
 use lib.Dec.{eqb, T, eqb→eq}
 use lib.ListN.{getD}
-use borrow.Author.Tests.{eqb-true}
 use Rattle.cells.specs.declared.Record.{Record}
 use Rattle.cells.specs.declared.Answer.{Answer}
 use Rattle.cells.specs.declared.lines.Access.{Access}
 use Rattle.cells.specs.declared.lines.Next.{Next}
-use Rattle.cells.specs.declared.lines.Next.the-variants.{Go, Done}
+use Rattle.cells.specs.declared.lines.Next.the-variants.{Go}
 use Rattle.cells.specs.Record.{idle}
-use Rattle.cells.specs.Lines.{Line, Wanted, for13, for25, for28, l1, l2, l3, l10, l11, l12, l15, l16, l17, l18, l19, l20, l21, l22, l23, l24, l26, l27, l29, l30, nowhere, deciding, lineAt, lineOf, accessAt, loads, stores, hardware, at, answer, nextAt}
+use Rattle.cells.specs.Lines.{Line, for13, for25, for28, l1, l2, l3, l10, l11, l12, l15, l16, l17, l18, l19, l20, l21, l22, l23, l24, l26, l27, l29, l30, nowhere, lineAt, lineOf, accessAt, loads, stores, hardware, at, answer, nextAt}
 use Rattle.cells.specs.Questions.{ofKind}
 use Rattle.history.specs.Basics.{_∈_}
 use Rattle.figure.specs.Paths.{decision, readActive, readDecided, paths}
 
--- TESTS OF ALL OF A LIST
+-- TESTS OF LISTS
 
 abbrev pub every : {A : Type 0} → (A → Bool) → List A → Bool
 every f [] = true
 every f (x ∷ xs) = f x && every f xs
 
+-- one is the same, by this test
+abbrev pub has : {A : Type 0} → (A → A → Bool) → List A → A → Bool
+has eq [] x = false
+has eq (y ∷ ys) x = eq x y || has eq ys x
+
 pub both : (a b : Bool) → T (a && b) → T a × T b
 both true b h = (tt, h)
 both false b h = absurd h
-
-pub is-true : (b : Bool) → T b → b ≡ true
-is-true true h = refl
-is-true false h = absurd h
 
 -- an implication as a test
 pub imp : (x y : Bool) → T (y || not x) → x ≡ true → T y
@@ -97,11 +96,7 @@ same a b = eqb (place a .0) (place b .0)
 same-is : (a b : Line) → T (same a b) → a ≡ b
 same-is a b h = sym (place a .1) ∙ ap (λ n. getD lines n nowhere) (eqb→eq (place a .0) (place b .0) h) ∙ place b .1
 
-abbrev pub hasLine : List Line → Line → Bool
-hasLine [] l = false
-hasLine (a ∷ x) l = same a l || hasLine x l
-
-abbrev sameLines : List Line → List Line → Bool
+abbrev pub sameLines : List Line → List Line → Bool
 sameLines [] [] = true
 sameLines [] (b ∷ y) = false
 sameLines (a ∷ x) [] = false
@@ -113,15 +108,11 @@ same-lines [] (b ∷ y) h = absurd h
 same-lines (a ∷ x) [] h = absurd h
 same-lines (a ∷ x) (b ∷ y) h = let k = both (same a b) _ h in rw (same-is a b (k .0), same-lines x y (k .1))
 
-abbrev pub has : List (List Line) → List Line → Bool
-has [] x = false
-has (y ∷ ys) x = sameLines x y || has ys x
-
-has-in : (ys : List (List Line)) (x : List Line) → T (has ys x) → x ∈ ys
+has-in : (ys : List (List Line)) (x : List Line) → T (has sameLines ys x) → x ∈ ys
 has-in [] x h = absurd h
 has-in (y ∷ ys) x h = go (sameLines x y) (same-lines x y) (has-in ys x) h
   where
-    go : (b : Bool) → (T b → x ≡ y) → (T (has ys x) → x ∈ ys) → T (b || has ys x) → x ∈ (y ∷ ys)
+    go : (b : Bool) → (T b → x ≡ y) → (T (has sameLines ys x) → x ∈ ys) → T (b || has sameLines ys x) → x ∈ (y ∷ ys)
     go true here there h = inl (here tt)
     go false here there h = inr (there h)
 
@@ -148,10 +139,10 @@ endings l = cond (ofKind l true false) readPaths paths
 
 -- what stands before the line, with the line, is always one of these
 abbrev pub extends : Line → List (List Line) → Bool
-extends l ys = every (λ d. has ys (d ++ (l ∷ []))) (before l)
+extends l ys = every (λ d. has sameLines ys (d ++ (l ∷ []))) (before l)
 
 pub extends-in : (l : Line) (ys : List (List Line)) → T (extends l ys) → (d : List Line) → d ∈ before l → (d ++ (l ∷ [])) ∈ ys
-extends-in l ys h d m = has-in ys _ (every-in (λ d. has ys (d ++ (l ∷ []))) (before l) h d m)
+extends-in l ys h d m = has-in ys _ (every-in (λ d. has sameLines ys (d ++ (l ∷ []))) (before l) h d m)
 
 -- line k may follow line l, and is of the same kind
 abbrev pub MayFollow : Line → Line → Type 0
@@ -163,12 +154,12 @@ MayEnd l = T (extends l (endings l))
 
 -- the number of the line that wanted the decision; 0 outside the deciding part
 abbrev pub wantedBy : Line → ℕ
-wantedBy l = cond (hasLine (decision for13) l) 13 (cond (hasLine (decision for25) l) 25 (cond (hasLine (decision for28) l) 28 0))
+wantedBy l = cond (has same (decision for13) l) 13 (cond (has same (decision for25) l) 25 (cond (has same (decision for28) l) 28 0))
 
 abbrev pub suits : ℕ → Line → Bool
 suits w l = eqb (wantedBy l) 0 || eqb w (wantedBy l)
 
-
+-- a line of the deciding part is come to only by the test of who wanted it
 module _ (w : ℕ) where
   unfoldable Suits : Line → Type 0
   Suits l = T (suits w l)

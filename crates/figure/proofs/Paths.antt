@@ -1,9 +1,9 @@
 -- Every finished call did the lines of one of the thirteen paths, so its counts are a row of document 01's table.
 use mathlib.Core.Path.{_≡_, refl, sym, ap, _∙_}
-use mathlib.Core.Logic.{_⊎_, inl, inr}
-use mathlib.Core.Bool.{Bool, cond}
+use mathlib.Core.Logic.{inl, inr}
+use mathlib.Core.Bool.{cond}
 use mathlib.Core.List.{List, [], _∷_, _++_}
-use Prim.Native.Nat.{ℕ, _+_}
+use Prim.Native.Nat.{ℕ}
 use native.Mathlib.Omega.{arith}
 use lib.Dec.{eqb, eqb→eq}
 use Rattle.cells.specs.declared.Record.{Record}
@@ -14,10 +14,10 @@ use Rattle.cells.specs.Lines.{Line, for13, for25, for28, l2, l3, l30, nowhere, 
 use Rattle.cells.specs.Begin.{firstSwap}
 use Rattle.history.specs.Basics.{_∈_}
 use Rattle.history.specs.History.{Action, run}
-use Rattle.figure.specs.Figure.{World, opening, figure}
+use Rattle.figure.specs.Figure.{opening, figure}
 use Rattle.figure.specs.Paths.{paths, by25, counts, countsOf, table, Traced, Trace, trace, traces, startTrace}
 use Rattle.figure.specs.Paths as Paths
-use Rattle.figure.proofs.LineLaws.{every-line, hasLine}
+use Rattle.figure.proofs.LineLaws.{every-line, has, same}
 use Rattle.figure.proofs.Records.{Pending, Complete, steps-on, Sound, trace-sound, trace-world}
 
 -- FINISHED CALLS
@@ -50,8 +50,8 @@ row p i = go paths i
     go (x ∷ ps) (inr i) = inr (go ps i)
 
 -- a hardware CAS is tried at lines 2 and 30, and nowhere else
-pub hardware-lines : (l : Line) (p : ℕ) (q : Record) → hardware (accessAt l p q) ≡ cond (hasLine (l2 for13 ∷ l2 for25 ∷ l2 for28 ∷ l30 ∷ []) l) 1 0
-hardware-lines l p q = eqb→eq _ _ (every-line (λ k. eqb (hardware (accessAt k p q)) (cond (hasLine (l2 for13 ∷ l2 for25 ∷ l2 for28 ∷ l30 ∷ []) k) 1 0)) tt l)
+pub hardware-lines : (l : Line) (p : ℕ) (q : Record) → hardware (accessAt l p q) ≡ cond (has same (l2 for13 ∷ l2 for25 ∷ l2 for28 ∷ l30 ∷ []) l) 1 0
+hardware-lines l p q = eqb→eq _ _ (every-line (λ k. eqb (hardware (accessAt k p q)) (cond (has same (l2 for13 ∷ l2 for25 ∷ l2 for28 ∷ l30 ∷ []) k) 1 0)) tt l)
 
 -- THE NINTH PATH
 

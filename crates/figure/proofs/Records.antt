@@ -1,13 +1,13 @@
 -- A pending call stands on one of the thirteen paths, with the counts of the lines that it did; so records are well-formed.
-use mathlib.Core.Path.{_≡_, refl, sym, ap, _∙_, subst}
+use mathlib.Core.Path.{_≡_, refl, sym, _∙_, subst}
 use mathlib.Core.Logic.{_≢_, _⊎_, inl, inr}
 use mathlib.Core.Bool.{Bool, true, false, _&&_, _||_, not, cond, false≢true}
 use mathlib.Core.Option.{Option, none, some}
 use mathlib.Core.List.{List, [], _∷_, _++_}
-use Prim.Native.Nat.{ℕ, suc, _+_, _≤_, _<_}
+use Prim.Native.Nat.{ℕ, _+_, _≤_, _<_}
 use native.Mathlib.Omega.{arith}
 use lib.Dec.{eqb, leb, ltb, T, leb→le, ltb→lt}
-use borrow.Author.Tests.{ltb-true, lt-ltb, not-true, ne-eqb}
+use borrow.Author.Tests.{ltb-true, lt-ltb, ne-eqb}
 use Rattle.cells.specs.declared.Record.{Record}
 use Rattle.cells.specs.declared.Finished.{Finished}
 use Rattle.cells.specs.declared.Outcome.{Outcome}
@@ -15,16 +15,16 @@ use Rattle.cells.specs.declared.Outcome.the-variants.{Refused, Acted, Ended}
 use Rattle.cells.specs.declared.lines.Next.{Next}
 use Rattle.cells.specs.declared.lines.Next.the-variants.{Go, Done}
 use Rattle.cells.specs.Record.{idle, isIdle}
-use Rattle.cells.specs.Lines.{Line, lineAt, lineOf, nowhere, l10, l15, accessAt, accessOf, counted, nextOf, hardware}
+use Rattle.cells.specs.Lines.{Line, lineAt, lineOf, nowhere, accessAt, accessOf, counted, nextOf, hardware}
 use Rattle.cells.specs.Questions.{Question, refusal, ofKind, reads, swaps, lineFit, valuesFit, beginQuestions, swapQuestions, stepQuestions}
 use Rattle.cells.specs.Begin.{firstRead, firstSwap}
 use Rattle.history.specs.Basics.{upd, _∈_}
 use Rattle.history.specs.History.{Op, read, swap, cellOf, Action, begin, step, run}
 use Rattle.history.proofs.Basics.{either, upd-at, upd-same, upd-off}
 use Rattle.figure.specs.Figure.{Cell, World, withRecord, withBoth, After, leaving, unless, recordAfter, outcomeOf, ran, stepped, begins, opening, figure, perform}
-use Rattle.figure.specs.Paths.{paths, count, Traced, Trace, stepTrace, trace, traces}
+use Rattle.figure.specs.Paths.{paths, count, Traced, Trace, stepTrace, trace}
 use Rattle.figure.specs.Paths as Paths
-use Rattle.figure.proofs.LineLaws.{every, every-in, every-line, both, imp, lines, same, before, readPaths, endings, extends, extends-in, hardware-alike, Leads, goes, done, leads}
+use Rattle.figure.proofs.LineLaws.{every, every-in, every-line, both, imp, lines, same, before, readPaths, endings, extends-in, hardware-alike, Leads, goes, done, leads}
 
 -- A CALL AND THE LINES THAT IT DID
 

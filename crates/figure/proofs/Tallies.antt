@@ -1,29 +1,27 @@
 -- What the figure counts of its pending calls, as the simulation asks for it: each step adds one, within the bounds of demand 3.
 use mathlib.Core.Path.{_≡_, refl, subst}
 use mathlib.Core.Logic.{_⊎_, _≢_, inl, inr}
-use mathlib.Core.Bool.{Bool, true, false, cond, false≢true}
+use mathlib.Core.Bool.{Bool, true, false, cond}
 use mathlib.Core.Option.{Option, none, some}
 use mathlib.Core.List.{List, [], _∷_, _++_}
-use Prim.Native.Nat.{ℕ, suc, _+_, _≤_, _<_}
+use Prim.Native.Nat.{ℕ, _≤_, _<_}
 use native.Mathlib.Numerals.{add-one}
 use native.Mathlib.Omega.{arith}
 use lib.Dec.{eqb, leb, T, leb→le}
 use borrow.Author.Tests.{eqb-true}
 use Rattle.cells.specs.declared.Record.{Record}
 use Rattle.cells.specs.declared.lines.Next.{Next}
-use Rattle.cells.specs.declared.lines.Next.the-variants.{Go, Done}
 use Rattle.cells.specs.Record.{idle, isIdle}
-use Rattle.cells.specs.Lines.{Line, lineOf, accessOf, counted, nextOf, hardware}
+use Rattle.cells.specs.Lines.{Line, lineOf, accessOf, counted, hardware}
 use Rattle.history.specs.Basics.{upd, _∈_}
 use Rattle.history.specs.History.{Op, read, swap, Action, begin, step}
 use Rattle.history.specs.Demand3.{most, mostHard}
 use Rattle.history.proofs.Basics.{either, upd-at, upd-off}
-use Rattle.history.proofs.Simulation.{Tally, first, further, Goes, Ends, Starts, Follows}
-use Rattle.figure.specs.Figure.{Cell, World, After, withBoth, recordAfter, outcomeOf, ran, begins, stepped, beginEvent, stepEvent, tried, figure, perform}
+use Rattle.history.proofs.Simulation.{Tally, first, Follows}
+use Rattle.figure.specs.Figure.{Cell, World, After, withBoth, recordAfter, outcomeOf, ran, beginEvent, stepEvent, tried, figure, perform}
 use Rattle.figure.specs.Paths.{paths, count}
 use Rattle.figure.proofs.LineLaws.{every, every-in, readPaths, Leads, goes, done}
-use Rattle.figure.proofs.Records.{Pending, Complete, not-idle, led, Then, one-line, pending-bounds, read-bounds, firstOf, Begun, starts, begin-cases, Stepped, runs, step-cases, OnPath, AllOnPath}
-use Rattle.figure.proofs.Records as Records
+use Rattle.figure.proofs.Records.{Pending, not-idle, led, Then, one-line, pending-bounds, read-bounds, firstOf, Begun, starts, begin-cases, Stepped, runs, step-cases, OnPath, AllOnPath}
 
 abbrev pub opOf : Record → Op
 opOf q = cond (eqb (q .kind) 1) (read (q .cell)) (swap (q .cell) (q .expected) (q .new))
