@@ -1,3 +1,7 @@
+pub mod LineLaws
+pub mod Records
+pub mod Paths
+pub mod Tallies
 pub mod Classes
 pub mod Numbers
 pub mod Invariant

@@ -1,0 +1,237 @@
+-- Lines can be told apart, and which line may follow which is computed from the thirteen paths; the figure's lines keep to it.
+use mathlib.Core.Path.{_≡_, refl, sym, ap, _∙_, subst}
+use mathlib.Core.Logic.{inl, inr}
+use mathlib.Core.Bool.{Bool, true, false, _&&_, _||_, not, cond, false≢true}
+use mathlib.Core.List.{List, [], _∷_, _++_, map}
+use Prim.Native.Nat.{ℕ, zero, suc}
+use lib.Dec.{eqb, T, eqb→eq}
+use lib.ListN.{getD}
+use Rattle.cells.specs.declared.Record.{Record}
+use Rattle.cells.specs.declared.Answer.{Answer}
+use Rattle.cells.specs.declared.lines.Access.{Access}
+use Rattle.cells.specs.declared.lines.Next.{Next}
+use Rattle.cells.specs.declared.lines.Next.the-variants.{Go}
+use Rattle.cells.specs.Record.{idle}
+use Rattle.cells.specs.Lines.{Line, for13, for25, for28, l1, l2, l3, l10, l11, l12, l15, l16, l17, l18, l19, l20, l21, l22, l23, l24, l26, l27, l29, l30, nowhere, lineAt, lineOf, accessAt, loads, stores, hardware, at, answer, nextAt}
+use Rattle.cells.specs.Questions.{ofKind}
+use Rattle.history.specs.Basics.{_∈_}
+use Rattle.figure.specs.Paths.{decision, readActive, readDecided, paths}
+
+-- TESTS OF LISTS
+
+abbrev pub every : {A : Type 0} → (A → Bool) → List A → Bool
+every f [] = true
+every f (x ∷ xs) = f x && every f xs
+
+-- one is the same, by this test
+abbrev pub has : {A : Type 0} → (A → A → Bool) → List A → A → Bool
+has eq [] x = false
+has eq (y ∷ ys) x = eq x y || has eq ys x
+
+pub both : (a b : Bool) → T (a && b) → T a × T b
+both true b h = (tt, h)
+both false b h = absurd h
+
+-- an implication as a test
+pub imp : (x y : Bool) → T (y || not x) → x ≡ true → T y
+imp x true h e = tt
+imp true false h e = h
+imp false false h e = absurd (false≢true e)
+
+module _ {A : Type 0} (f : A → Bool) where
+  pub every-in : (xs : List A) → T (every f xs) → (x : A) → x ∈ xs → T (f x)
+  every-in [] h x m = absurd m
+  every-in (y ∷ xs) h x (inl e) = rw e (both (f y) (every f xs) h .0)
+  every-in (y ∷ xs) h x (inr m) = every-in xs (both (f y) (every f xs) h .1) x m
+
+  every-at : (xs : List A) → T (every f xs) → (d : A) → T (f d) → (n : ℕ) → T (f (getD xs n d))
+  every-at [] h d g n = g
+  every-at (x ∷ xs) h d g zero = both (f x) (every f xs) h .0
+  every-at (x ∷ xs) h d g (suc n) = every-at xs (both (f x) (every f xs) h .1) d g n
+
+-- THE LIST OF ALL LINES
+
+abbrev pub lines : List Line
+lines =
+    nowhere ∷ l1 for13 ∷ l1 for25 ∷ l1 for28 ∷ l2 for13 ∷ l2 for25 ∷ l2 for28 ∷ l3 for13 ∷ l3 for25 ∷ l3 for28 ∷ l10 ∷ l11 ∷ l12 ∷ l15 ∷
+    l16 ∷ l17 ∷ l18 ∷ l19 ∷ l20 ∷ l21 ∷ l22 ∷ l23 ∷ l24 ∷ l26 ∷ l27 ∷ l29 ∷ l30 ∷ []
+
+-- a line's place there
+abbrev place : (l : Line) → (n : ℕ) × (getD lines n nowhere ≡ l)
+place nowhere = (0, refl)
+place (l1 for13) = (1, refl)
+place (l1 for25) = (2, refl)
+place (l1 for28) = (3, refl)
+place (l2 for13) = (4, refl)
+place (l2 for25) = (5, refl)
+place (l2 for28) = (6, refl)
+place (l3 for13) = (7, refl)
+place (l3 for25) = (8, refl)
+place (l3 for28) = (9, refl)
+place l10 = (10, refl)
+place l11 = (11, refl)
+place l12 = (12, refl)
+place l15 = (13, refl)
+place l16 = (14, refl)
+place l17 = (15, refl)
+place l18 = (16, refl)
+place l19 = (17, refl)
+place l20 = (18, refl)
+place l21 = (19, refl)
+place l22 = (20, refl)
+place l23 = (21, refl)
+place l24 = (22, refl)
+place l26 = (23, refl)
+place l27 = (24, refl)
+place l29 = (25, refl)
+place l30 = (26, refl)
+
+-- a test that every line passes, found by computing
+pub every-line : (f : Line → Bool) → T (every f lines) → (l : Line) → T (f l)
+every-line f h l = subst (λ (k : Line). T (f k)) (place l .1) (every-at f lines h nowhere (both (f nowhere) _ h .0) (place l .0))
+
+abbrev pub same : Line → Line → Bool
+same a b = eqb (place a .0) (place b .0)
+
+same-is : (a b : Line) → T (same a b) → a ≡ b
+same-is a b h = sym (place a .1) ∙ ap (λ n. getD lines n nowhere) (eqb→eq (place a .0) (place b .0) h) ∙ place b .1
+
+abbrev pub sameLines : List Line → List Line → Bool
+sameLines [] [] = true
+sameLines [] (b ∷ y) = false
+sameLines (a ∷ x) [] = false
+sameLines (a ∷ x) (b ∷ y) = same a b && sameLines x y
+
+same-lines : (x y : List Line) → T (sameLines x y) → x ≡ y
+same-lines [] [] h = refl
+same-lines [] (b ∷ y) h = absurd h
+same-lines (a ∷ x) [] h = absurd h
+same-lines (a ∷ x) (b ∷ y) h = let k = both (same a b) _ h in rw (same-is a b (k .0), same-lines x y (k .1))
+
+has-in : (ys : List (List Line)) (x : List Line) → T (has sameLines ys x) → x ∈ ys
+has-in [] x h = absurd h
+has-in (y ∷ ys) x h = go (sameLines x y) (same-lines x y) (has-in ys x) h
+  where
+    go : (b : Bool) → (T b → x ≡ y) → (T (has sameLines ys x) → x ∈ ys) → T (b || has sameLines ys x) → x ∈ (y ∷ ys)
+    go true here there h = inl (here tt)
+    go false here there h = inr (there h)
+
+-- WHICH LINES MAY FOLLOW
+
+-- what stands before the line in a path that has it
+abbrev beforeIn : Line → List Line → List (List Line)
+beforeIn l [] = []
+beforeIn l (a ∷ x) = cond (same l a) ([] ∷ []) (map (λ d. a ∷ d) (beforeIn l x))
+
+abbrev beforeAll : Line → List (List Line) → List (List Line)
+beforeAll l [] = []
+beforeAll l (x ∷ xs) = beforeIn l x ++ beforeAll l xs
+
+abbrev pub before : Line → List (List Line)
+before l = beforeAll l paths
+
+abbrev pub readPaths : List (List Line)
+readPaths = readActive ∷ readDecided ∷ []
+
+-- the complete paths of the line's kind: a read's, or all
+abbrev pub endings : Line → List (List Line)
+endings l = cond (ofKind l true false) readPaths paths
+
+-- what stands before the line, with the line, is always one of these
+abbrev pub extends : Line → List (List Line) → Bool
+extends l ys = every (λ d. has sameLines ys (d ++ (l ∷ []))) (before l)
+
+pub extends-in : (l : Line) (ys : List (List Line)) → T (extends l ys) → (d : List Line) → d ∈ before l → (d ++ (l ∷ [])) ∈ ys
+extends-in l ys h d m = has-in ys _ (every-in (λ d. has sameLines ys (d ++ (l ∷ []))) (before l) h d m)
+
+-- line k may follow line l, and is of the same kind
+abbrev pub MayFollow : Line → Line → Type 0
+MayFollow l k = T (extends l (before k)) × ((read swap : Bool) → ofKind l read swap ≡ ofKind k read swap)
+
+-- a call may end with the line
+abbrev pub MayEnd : Line → Type 0
+MayEnd l = T (extends l (endings l))
+
+-- the number of the line that wanted the decision; 0 outside the deciding part
+abbrev pub wantedBy : Line → ℕ
+wantedBy l = cond (has same (decision for13) l) 13 (cond (has same (decision for25) l) 25 (cond (has same (decision for28) l) 28 0))
+
+abbrev pub suits : ℕ → Line → Bool
+suits w l = eqb (wantedBy l) 0 || eqb w (wantedBy l)
+
+-- a line of the deciding part is come to only by the test of who wanted it
+module _ (w : ℕ) where
+  unfoldable Suits : Line → Type 0
+  Suits l = T (suits w l)
+
+  told : (b : Bool) (x y : Line) → (T b → Suits x) → Suits y → Suits (cond b x y)
+  told true x y p q = p tt
+  told false x y p q = q
+
+  suited : (n : ℕ) → Suits (lineAt n w)
+  unfolding Suits
+  suited n = let passed : Unit {0} = tt in search told depth 40 fits 4000
+
+-- in the deciding part the record says which line wanted the decision
+pub wanted-is : (r : Record) {l : Line} → lineOf r ≡ l → T (not (eqb (wantedBy l) 0)) → r .wanted ≡ wantedBy l
+unfolding Suits
+wanted-is r {l} e h = go (eqb (wantedBy l) 0) h (rw e at (suited (r .wanted) (r .line)))
+  where
+    go : (b : Bool) → T (not b) → T (b || eqb (r .wanted) (wantedBy l)) → r .wanted ≡ wantedBy l
+    go true h s = absurd h
+    go false h s = eqb→eq (r .wanted) (wantedBy l) s
+
+-- WHAT THE FIGURE'S LINES DO
+
+-- what an access counts as does not depend on the task and its record
+module _ (l : Line) (p : ℕ) (q : Record) where
+  alike : (f : Access → ℕ) → T (every (λ k. eqb (f (accessAt k p q)) (f (accessAt k 0 idle))) lines) → f (accessAt l p q) ≡ f (accessAt l 0 idle)
+  alike f h = eqb→eq _ _ (every-line (λ k. eqb (f (accessAt k p q)) (f (accessAt k 0 idle))) h l)
+
+  pub loads-alike : loads (accessAt l p q) ≡ loads (accessAt l 0 idle)
+  loads-alike = alike loads tt
+
+  pub stores-alike : stores (accessAt l p q) ≡ stores (accessAt l 0 idle)
+  stores-alike = alike stores tt
+
+  pub hardware-alike : hardware (accessAt l p q) ≡ hardware (accessAt l 0 idle)
+  hardware-alike = alike hardware tt
+
+-- from line l and record r: on to a line that may follow, with the call's own words as they were; or the call ends where it may
+pub data Leads (l : Line) (r : Record) : Next → Type 0 where
+  goes : {n w h t v : ℕ} → MayFollow l (lineAt n w) → Leads l r (Go (at r n w h t v))
+  done : {a : Answer} → MayEnd l → Leads l r (answer r a)
+
+module _ {l : Line} {r : Record} where
+  either : (b : Bool) {x y : Next} → Leads l r x → Leads l r y → Leads l r (cond b x y)
+  either true p q = p
+  either false p q = q
+
+pub leads : (l : Line) (p : ℕ) (r : Record) (v : ℕ) → lineOf r ≡ l → T (not (same l nowhere)) → Leads l r (nextAt l p r v)
+leads (l1 for13) p r v e h = goes {n = 2} {w = r .wanted} (rw (wanted-is r e tt) (tt, λ a b. refl))
+leads (l1 for25) p r v e h = goes {n = 2} {w = r .wanted} (rw (wanted-is r e tt) (tt, λ a b. refl))
+leads (l1 for28) p r v e h = goes {n = 2} {w = r .wanted} (rw (wanted-is r e tt) (tt, λ a b. refl))
+leads (l2 for13) p r v e h = goes {n = 3} {w = r .wanted} (rw (wanted-is r e tt) (tt, λ a b. refl))
+leads (l2 for25) p r v e h = goes {n = 3} {w = r .wanted} (rw (wanted-is r e tt) (tt, λ a b. refl))
+leads (l2 for28) p r v e h = goes {n = 3} {w = r .wanted} (rw (wanted-is r e tt) (tt, λ a b. refl))
+leads (l3 for13) p r v e h = done tt
+leads (l3 for25) p r v e h = either (eqb v (r .new)) (done tt) (goes (tt, λ a b. refl))
+leads (l3 for28) p r v e h = either (eqb v (r .expected)) (goes (tt, λ a b. refl)) (done tt)
+leads l10 p r v e h = goes (tt, λ a b. refl)
+leads l11 p r v e h = goes (tt, λ a b. refl)
+leads l12 p r v e h = either (eqb v 0) (done tt) (goes (tt, λ a b. refl))
+leads l15 p r v e h = goes (tt, λ a b. refl)
+leads l16 p r v e h = goes (tt, λ a b. refl)
+leads l17 p r v e h = either (eqb v 0) (goes (tt, λ a b. refl)) (goes (tt, λ a b. refl))
+leads l18 p r v e h = goes (tt, λ a b. refl)
+leads l19 p r v e h = either (eqb v p) (goes (tt, λ a b. refl)) (goes (tt, λ a b. refl))
+leads l20 p r v e h = goes (tt, λ a b. refl)
+leads l21 p r v e h = either (eqb v 0) (either (eqb (r .loaded) (r .expected)) (goes (tt, λ a b. refl)) (goes (tt, λ a b. refl))) (goes (tt, λ a b. refl))
+leads l22 p r v e h = done tt
+leads l23 p r v e h = goes (tt, λ a b. refl)
+leads l24 p r v e h = either (eqb v 0) (goes (tt, λ a b. refl)) (goes (tt, λ a b. refl))
+leads l26 p r v e h = done tt
+leads l27 p r v e h = goes (tt, λ a b. refl)
+leads l29 p r v e h = goes (tt, λ a b. refl)
+leads l30 p r v e h = either (eqb v 1) (done tt) (done tt)
+leads nowhere p r v e h = absurd h

@@ -1,0 +1,301 @@
+-- A pending call stands on one of the thirteen paths, with the counts of the lines that it did; so records are well-formed.
+use mathlib.Core.Path.{_≡_, refl, sym, _∙_, subst}
+use mathlib.Core.Logic.{_≢_, _⊎_, inl, inr}
+use mathlib.Core.Bool.{Bool, true, false, _&&_, _||_, not, cond, false≢true}
+use mathlib.Core.Option.{Option, none, some}
+use mathlib.Core.List.{List, [], _∷_, _++_}
+use Prim.Native.Nat.{ℕ, _+_, _≤_, _<_}
+use native.Mathlib.Omega.{arith}
+use lib.Dec.{eqb, leb, ltb, T, leb→le, ltb→lt}
+use borrow.Author.Tests.{ltb-true, lt-ltb, ne-eqb}
+use Rattle.cells.specs.declared.Record.{Record}
+use Rattle.cells.specs.declared.Finished.{Finished}
+use Rattle.cells.specs.declared.Outcome.{Outcome}
+use Rattle.cells.specs.declared.Outcome.the-variants.{Refused, Acted, Ended}
+use Rattle.cells.specs.declared.lines.Next.{Next}
+use Rattle.cells.specs.declared.lines.Next.the-variants.{Go, Done}
+use Rattle.cells.specs.Record.{idle, isIdle}
+use Rattle.cells.specs.Lines.{Line, lineAt, lineOf, nowhere, accessAt, accessOf, counted, nextOf, hardware}
+use Rattle.cells.specs.Questions.{Question, refusal, ofKind, reads, swaps, lineFit, valuesFit, beginQuestions, swapQuestions, stepQuestions}
+use Rattle.cells.specs.Begin.{firstRead, firstSwap}
+use Rattle.history.specs.Basics.{upd, _∈_}
+use Rattle.history.specs.History.{Op, read, swap, cellOf, Action, begin, step, run}
+use Rattle.history.proofs.Basics.{either, upd-at, upd-same, upd-off}
+use Rattle.figure.specs.Figure.{Cell, World, withRecord, withBoth, After, leaving, unless, recordAfter, outcomeOf, ran, stepped, begins, opening, figure, perform}
+use Rattle.figure.specs.Paths.{paths, count, Traced, Trace, stepTrace, trace}
+use Rattle.figure.specs.Paths as Paths
+use Rattle.figure.proofs.LineLaws.{every, every-in, every-line, both, imp, lines, same, before, readPaths, endings, extends-in, hardware-alike, Leads, goes, done, leads}
+
+-- A CALL AND THE LINES THAT IT DID
+
+-- a pending call that did these lines, on one of `v` cells
+pub record Pending (v : ℕ) (did : List Line) (q : Record) : Type 0 where
+  pub cell : q .cell < v
+  pub line : lineFit q ≡ true
+  pub values : valuesFit q ≡ true
+  pub steps : q .steps ≡ Paths.steps did
+  pub hard : q .hard ≡ count hardware did
+  pub lines : did ∈ before (lineOf q)
+
+-- a finished call with these lines
+pub record Complete (lines : List Line) (f : Finished) : Type 0 where
+  pub path : lines ∈ paths
+  pub read-path : f .kind ≡ 1 → lines ∈ readPaths
+  pub steps : f .steps ≡ Paths.steps lines
+  pub hard : f .hard ≡ count hardware lines
+
+pub steps-on : (d : List Line) (l : Line) → Paths.steps (d ++ (l ∷ [])) ≡ Paths.steps d + 1
+steps-on [] l = refl
+steps-on (a ∷ d) l = omega (arith, steps-on d l)
+
+hardware-on : (d : List Line) (l : Line) → count hardware (d ++ (l ∷ [])) ≡ count hardware d + hardware (accessAt l 0 idle)
+hardware-on [] l = omega arith
+hardware-on (a ∷ d) l = omega (arith, hardware-on d l)
+
+-- a read has the lines of a read
+reading : (q : Record) → q .kind ≡ 1 → lineFit q ≡ true → ofKind (lineOf q) true false ≡ true
+reading q e k = rw e at k
+
+read-paths : (l : Line) (x : List Line) → x ∈ endings l → x ∈ paths
+read-paths l x m = go (ofKind l true false) m
+  where
+    go : (b : Bool) → x ∈ cond b readPaths paths → x ∈ paths
+    go true (inl e) = inl e
+    go true (inr (inl e)) = inr (inl e)
+    go false m = m
+
+-- a fit line is a line
+not-nowhere : (q : Record) → lineFit q ≡ true → T (not (same (lineOf q) nowhere))
+not-nowhere q k = imp (lineFit q) (not (same (lineOf q) nowhere)) (every-line (λ l. not (same l nowhere) || not (ofKind l (reads q) (swaps q))) tt (lineOf q)) k
+
+pub not-idle : (q : Record) → lineFit q ≡ true → isIdle q ≡ false
+not-idle q k = ne-eqb (q .line) 0 (λ e. false≢true (rw e at k))
+
+abbrev few : ℕ → ℕ → List Line → Bool
+few n x d = ltb (Paths.steps d) n && leb (count hardware d) x
+
+module _ (v : ℕ) (did : List Line) (q : Record) (o : Pending v did q) where
+  pub led : (t x : ℕ) → Leads (lineOf q) (counted q (accessOf t q)) (nextOf t q x)
+  led t x = leads (lineOf q) t (counted q (accessOf t q)) x refl (not-nowhere q (o .line))
+
+  -- what its next line makes of it
+  abbrev pub Then : Next → Type 0
+  Then (Go r) = Pending v (did ++ (lineOf q ∷ [])) r
+  Then (Done f) = Complete (did ++ (lineOf q ∷ [])) f
+
+  pub one-line : (t x : ℕ) → Then (nextOf t q x)
+  one-line t x = go (led t x)
+    where
+      steps : q .steps + 1 ≡ Paths.steps (did ++ (lineOf q ∷ []))
+      steps = omega (arith, steps-on did (lineOf q), o .steps)
+      hard : q .hard + hardware (accessOf t q) ≡ count hardware (did ++ (lineOf q ∷ []))
+      hard = omega (arith, hardware-on did (lineOf q), hardware-alike (lineOf q) t q, o .hard)
+      go : {n : Next} → Leads (lineOf q) (counted q (accessOf t q)) n → Then n
+      go (goes {n = n} {w = w} h) = record {
+          cell = o .cell; line = sym (h .1 (reads q) (swaps q)) ∙ o .line; values = o .values; steps = steps; hard = hard;
+          lines = extends-in (lineOf q) (before (lineAt n w)) (h .0) did (o .lines) }
+      go (done h) =
+          let m = extends-in (lineOf q) (endings (lineOf q)) h did (o .lines) in
+          record { path = read-paths (lineOf q) _ m; read-path = λ e. rw (reading q e (o .line)) at m; steps = steps; hard = hard }
+
+  -- bounds, found by computing over all that may stand before a line that passes the test
+  bounded : (n x : ℕ) (test : Line → Bool) → T (every (λ l. every (few n x) (before l) || not (test l)) lines) → test (lineOf q) ≡ true → (q .steps < n) × (q .hard ≤ x)
+  bounded n x test h e =
+      let all = imp (test (lineOf q)) (every (few n x) (before (lineOf q))) (every-line (λ l. every (few n x) (before l) || not (test l)) h (lineOf q)) e in
+      let k = both (ltb (Paths.steps did) n) _ (every-in (few n x) (before (lineOf q)) all did (o .lines)) in
+      let s = ltb→lt (Paths.steps did) n (k .0) in
+      let m = leb→le (count hardware did) x (k .1) in
+      (omega (arith, o .steps), omega (arith, o .hard))
+
+  pub pending-bounds : (q .steps < 17) × (q .hard ≤ 3)
+  pending-bounds = bounded 17 3 (λ l. true) tt refl
+
+  pub read-bounds : q .kind ≡ 1 → (q .steps < 6) × (q .hard ≤ 1)
+  read-bounds e = bounded 6 1 (λ l. ofKind l true false) tt (reading q e (o .line))
+
+-- THE FIGURE'S ACTIONS
+
+-- questions with their answer: all are answered yes, or not all and the action is refused
+abbrev pub AllYes : List Question → Type 0
+AllYes [] = Unit {0}
+AllYes (x ∷ l) = (x .1 ≡ true) × AllYes l
+
+pub data Asked (l : List Question) : Option ℕ → Type 0 where
+  refused : (n : ℕ) → ¬ AllYes l → Asked l (some n)
+  passed : AllYes l → Asked l none
+
+pub ask : (l : List Question) → Asked l (refusal l)
+ask [] = passed tt
+ask (x ∷ l) = go (x .1) refl (ask l)
+  where
+    go : (b : Bool) → x .1 ≡ b → {o : Option ℕ} → Asked l o → Asked (x ∷ l) (cond b o (some (x .0)))
+    go true e (refused n h) = refused n (λ y. h (y .1))
+    go true e (passed y) = passed (e, y)
+    go false e a = refused (x .0) (λ y. false≢true (sym e ∙ y .0))
+
+abbrev pub firstOf : Op → Record
+firstOf (read k) = firstRead k
+firstOf (swap k e n) = firstSwap k e n
+
+-- why a begin is accepted
+pub record Accepted (w : World) (t : ℕ) (op : Op) : Type 0 where
+  pub task : t < w .tasks
+  pub cell : cellOf op < w .cells
+  pub free : isIdle (w .records t) ≡ true
+  pub values : valuesFit (firstOf op) ≡ true
+
+pub data Begun (w : World) (t : ℕ) (op : Op) : After → Type 0 where
+  refuses : (n : ℕ) → Begun w t op (leaving w (Refused n))
+  starts : Accepted w t op → Begun w t op (leaving (withRecord w t (firstOf op)) Acted)
+
+pub begin-cases : (w : World) (t : ℕ) (op : Op) → Begun w t op (begins w t op)
+unfolding begins
+begin-cases w t op = go op
+  where
+    by : (op : Op) {l : List Question} {o : Option ℕ} → Asked l o → (AllYes l → Accepted w t op) → Begun w t op (unless o w (leaving (withRecord w t (firstOf op)) Acted))
+    by op (refused n h) f = refuses n
+    by op (passed y) f = starts (f y)
+    go : (op : Op) → Begun w t op (begins w t op)
+    go (read k) = by (read k) (ask (beginQuestions (w .tasks) (w .cells) (w .records t) t k))
+        (λ y. record { task = ltb-true _ _ (y .0); cell = ltb-true _ _ (y .1 .0); free = y .1 .1 .0; values = refl })
+    go (swap k e n) = by (swap k e n) (ask (swapQuestions (w .tasks) (w .cells) (w .records t) t k e n))
+        (λ y. record { task = ltb-true _ _ (y .0); cell = ltb-true _ _ (y .1 .0); free = y .1 .1 .0; values = y .1 .1 .1 .0 })
+
+-- a task is idle, or there is such a task and its pending call did these lines
+abbrev pub OnPath : (tasks cells t : ℕ) → List Line → Record → Type 0
+OnPath n v t did q = ((q ≡ idle) × (did ≡ [])) ⊎ ((t < n) × Pending v did q)
+
+-- a step is refused where no call is pending, and only there
+pub data Stepped (w : World) (t : ℕ) (did : List Line) : After → Type 0 where
+  refuses : (n : ℕ) → w .records t ≡ idle → Stepped w t did (leaving w (Refused n))
+  runs : t < w .tasks → Pending (w .cells) did (w .records t) → Stepped w t did (ran w t (w .records t))
+
+pub step-cases : (w : World) (t : ℕ) (did : List Line) → OnPath (w .tasks) (w .cells) t did (w .records t) → Stepped w t did (stepped w t)
+unfolding stepped
+step-cases w t did p = go (ask (stepQuestions (w .tasks) (w .records t) t)) p
+  where
+    go : {o : Option ℕ} → Asked (stepQuestions (w .tasks) (w .records t) t) o → OnPath (w .tasks) (w .cells) t did (w .records t) → Stepped w t did (unless o w (ran w t (w .records t)))
+    go (refused n h) (inl i) = refuses n (i .0)
+    go (refused n h) (inr (m, o)) = absurd (h (lt-ltb _ _ m, (rw (not-idle (w .records t) (o .line)), tt)))
+    go (passed y) (inl i) = absurd (false≢true (rw (i .0) at (y .1 .0)))
+    go (passed y) (inr (m, o)) = runs m o
+
+-- ALL TASKS
+
+abbrev pub AllOnPath : World → Type 0
+AllOnPath w = (t : ℕ) → (did : List Line) × OnPath (w .tasks) (w .cells) t did (w .records t)
+
+pub opening-on-path : (n v : ℕ) (vs : List ℕ) → AllOnPath (opening n v vs)
+opening-on-path n v vs t = ([], inl (refl, refl))
+
+-- of a trace: each task with the lines that its pending call did, and every finished call complete
+pub record Sound (r : Trace) : Type 0 where
+  pub pending : (t : ℕ) → OnPath (r .world .tasks) (r .world .cells) t (r .did t) (r .world .records t)
+  pub complete : (x : Traced) → x ∈ r .done → Complete (x .lines) (x .result)
+
+first-on-path : (w : World) (t : ℕ) (op : Op) → Accepted w t op → Pending (w .cells) [] (firstOf op)
+first-on-path w t (read k) a = record { cell = a .cell; line = refl; values = refl; steps = refl; hard = refl; lines = inl refl }
+first-on-path w t (swap k e n) a = record { cell = a .cell; line = fits (eqb e n) .0; values = a .values; steps = refl; hard = refl; lines = fits (eqb e n) .1 }
+  where
+    fits : (b : Bool) → (ofKind (lineAt (cond b 10 15) 0) b (not b) ≡ true) × ([] ∈ before (lineAt (cond b 10 15) 0))
+    fits true = (refl, inl refl)
+    fits false = (refl, inl refl)
+
+no-lines : (n v t : ℕ) (did : List Line) (q : Record) → OnPath n v t did q → isIdle q ≡ true → did ≡ []
+no-lines n v t did q (inl i) e = i .1
+no-lines n v t did q (inr (m, o)) e = absurd (false≢true (sym (not-idle q (o .line)) ∙ e))
+
+module _ (r : Trace) (s : Sound r) where
+  abbrev w : World
+  w = r .world
+
+  put : (did' : ℕ → List Line) (t : ℕ) (q : Record) → OnPath (w .tasks) (w .cells) t (did' t) q → ((u : ℕ) → u ≢ t → did' u ≡ r .did u) → (u : ℕ) → OnPath (w .tasks) (w .cells) u (did' u) (upd (w .records) t q u)
+  put did' t q o others u = go (either u t)
+    where
+      go : (u ≡ t) ⊎ (u ≢ t) → OnPath (w .tasks) (w .cells) u (did' u) (upd (w .records) t q u)
+      go (inl e) = rw (upd-at (w .records) t q u e, e) o
+      go (inr e) = rw (upd-off (w .records) t q u e, others u e) (s .pending u)
+
+  begin-sound : (t : ℕ) (op : Op) {f : After} → Begun w t op f → Sound (record { world = f .world; did = r .did; done = r .done })
+  begin-sound t op (refuses n) = s
+  begin-sound t op (starts a) = record {
+      pending = put (r .did) t (firstOf op) (inr (a .task, rw (no-lines _ _ t (r .did t) (w .records t) (s .pending t) (a .free)) (first-on-path w t op a))) (λ u e. refl);
+      complete = s .complete }
+
+  module _ (t : ℕ) (m : t < w .tasks) (o : Pending (w .cells) (r .did t) (w .records t)) where
+    line-sound : (c : Cell) (n : Next) → Then (w .cells) (r .did t) (w .records t) o n → Sound (stepTrace r t (withBoth w (w .records t .cell) c t (recordAfter n)) (outcomeOf n))
+    line-sound c (Go q) k = record { pending = put (upd (r .did) t _) t q (rw upd-same (inr (m, k))) (upd-off (r .did) t _); complete = s .complete }
+    line-sound c (Done f) k = record { pending = put (upd (r .did) t []) t idle (rw upd-same (inl (refl, refl))) (upd-off (r .did) t []); complete = go }
+      where
+        go : (x : Traced) → x ∈ (record { lines = r .did t ++ (lineOf (w .records t) ∷ []); result = f } ∷ r .done) → Complete (x .lines) (x .result)
+        go x (inl e) = rw e k
+        go x (inr i) = s .complete x i
+
+  step-sound : (t : ℕ) {f : After} → Stepped w t (r .did t) f → Sound (stepTrace r t (f .world) (f .outcome))
+  unfolding ran
+  step-sound t (refuses n i) = s
+  step-sound t (runs m o) =
+      let c = perform (w .cell (w .records t .cell)) (accessOf t (w .records t)) in
+      line-sound t m o (c .cell) (nextOf t (w .records t) (c .value)) (one-line (w .cells) (r .did t) (w .records t) o t (c .value))
+
+  pub trace-sound : (a : Action) → Sound (trace r a)
+  trace-sound (begin t op) = begin-sound t op (begin-cases w t op)
+  trace-sound (step t) = step-sound t (step-cases w t (r .did t) (s .pending t))
+
+pub trace-world : (r : Trace) (a : Action) → trace r a .world ≡ figure (r .world) a .0
+trace-world r (begin t op) = refl
+trace-world r (step t) = go (stepped (r .world) t .outcome)
+  where
+    go : (o : Outcome) → stepTrace r t (stepped (r .world) t .world) o .world ≡ stepped (r .world) t .world
+    go (Refused n) = refl
+    go Acted = refl
+    go (Ended f) = refl
+
+pub act-on-path : (w : World) → AllOnPath w → (a : Action) → AllOnPath (figure w a .0)
+act-on-path w p a =
+    let r : Trace = record { world = w; did = λ t. p t .0; done = [] } in
+    let s : Sound r = record { pending = λ t. p t .1; complete = λ x i. absurd i } in
+    subst AllOnPath (trace-world r a) (λ t. (trace r a .did t, trace-sound r s a .pending t))
+
+pub run-on-path : (w : World) → AllOnPath w → (l : List Action) → AllOnPath (run figure w l)
+run-on-path w p [] = p
+run-on-path w p (a ∷ l) = run-on-path (figure w a .0) (act-on-path w p a) l
+
+abbrev pub SameSizes : World → World → Type 0
+SameSizes w w' = (w' .tasks ≡ w .tasks) × (w' .cells ≡ w .cells)
+
+pub act-sizes : (w : World) (a : Action) → SameSizes w (figure w a .0)
+unfolding stepped ran
+act-sizes w (begin t op) = go (begin-cases w t op)
+  where
+    go : {f : After} → Begun w t op f → SameSizes w (f .world)
+    go (refuses n) = (refl, refl)
+    go (starts a) = (refl, refl)
+act-sizes w (step t) = go (refusal (stepQuestions (w .tasks) (w .records t) t))
+  where
+    go : (o : Option ℕ) → SameSizes w (unless o w (ran w t (w .records t)) .world)
+    go none = (refl, refl)
+    go (some n) = (refl, refl)
+
+pub run-sizes : (w : World) (l : List Action) → SameSizes w (run figure w l)
+run-sizes w [] = (refl, refl)
+run-sizes w (a ∷ l) = let k = run-sizes (figure w a .0) l in let s = act-sizes w a in (k .0 ∙ s .0, k .1 ∙ s .1)
+
+-- WELL-FORMED RECORDS
+
+pub record Busy (v : ℕ) (q : Record) : Type 0 where
+  pub cell : q .cell < v
+  pub line : lineFit q ≡ true
+  pub values : valuesFit q ≡ true
+  pub steps : q .steps ≤ 16
+  pub hard : q .hard ≤ 3
+
+abbrev pub WellRecord : ℕ → Record → Type 0
+WellRecord v q = (q ≡ idle) ⊎ Busy v q
+
+pub well : (n v : ℕ) (vs : List ℕ) (l : List Action) (t : ℕ) → WellRecord v (run figure (opening n v vs) l .records t)
+well n v vs l t = rw (run-sizes (opening n v vs) l .1) at (go (run-on-path (opening n v vs) (opening-on-path n v vs) l t .1))
+  where
+    go : {n v : ℕ} {did : List Line} {q : Record} → OnPath n v t did q → WellRecord v q
+    go (inl i) = inl (i .0)
+    go {v = v} {did = did} {q = q} (inr (m, o)) = let k = pending-bounds v did q o in inr (record { cell = o .cell; line = o .line; values = o .values; steps = omega arith; hard = k .1 })

@@ -1,0 +1,108 @@
+-- What the figure counts of its pending calls, as the simulation asks for it: each step adds one, within the bounds of demand 3.
+use mathlib.Core.Path.{_≡_, refl, subst}
+use mathlib.Core.Logic.{_⊎_, _≢_, inl, inr}
+use mathlib.Core.Bool.{Bool, true, false, cond}
+use mathlib.Core.Option.{Option, none, some}
+use mathlib.Core.List.{List, [], _∷_, _++_}
+use Prim.Native.Nat.{ℕ, _≤_, _<_}
+use native.Mathlib.Numerals.{add-one}
+use native.Mathlib.Omega.{arith}
+use lib.Dec.{eqb, leb, T, leb→le}
+use borrow.Author.Tests.{eqb-true}
+use Rattle.cells.specs.declared.Record.{Record}
+use Rattle.cells.specs.declared.lines.Next.{Next}
+use Rattle.cells.specs.Record.{idle, isIdle}
+use Rattle.cells.specs.Lines.{Line, lineOf, accessOf, counted, hardware}
+use Rattle.history.specs.Basics.{upd, _∈_}
+use Rattle.history.specs.History.{Op, read, swap, Action, begin, step}
+use Rattle.history.specs.Demand3.{most, mostHard}
+use Rattle.history.proofs.Basics.{either, upd-at, upd-off}
+use Rattle.history.proofs.Simulation.{Tally, first, Follows}
+use Rattle.figure.specs.Figure.{Cell, World, After, withBoth, recordAfter, outcomeOf, ran, beginEvent, stepEvent, tried, figure, perform}
+use Rattle.figure.specs.Paths.{paths, count}
+use Rattle.figure.proofs.LineLaws.{every, every-in, readPaths, Leads, goes, done}
+use Rattle.figure.proofs.Records.{Pending, not-idle, led, Then, one-line, pending-bounds, read-bounds, firstOf, Begun, starts, begin-cases, Stepped, runs, step-cases, OnPath, AllOnPath}
+
+abbrev pub opOf : Record → Op
+opOf q = cond (eqb (q .kind) 1) (read (q .cell)) (swap (q .cell) (q .expected) (q .new))
+
+abbrev pub tally : Record → Tally
+tally q = record { op = opOf q; steps = q .steps; hard = q .hard }
+
+abbrev pub tallyOf : Record → Option Tally
+tallyOf q = cond (isIdle q) none (some (tally q))
+
+abbrev pub doing : World → ℕ → Option Tally
+doing w t = tallyOf (w .records t)
+
+was-doing : (v : ℕ) (did : List Line) (q : Record) → Pending v did q → tallyOf q ≡ some (tally q)
+was-doing v did q o = rw (not-idle q (o .line))
+
+-- BOUNDS
+
+-- what holds of a read where this is one, and of a swap, holds of its operation
+by-kind : (q : Record) (P : Op → Type 0) → (q .kind ≡ 1 → P (read (q .cell))) → P (swap (q .cell) (q .expected) (q .new)) → P (opOf q)
+by-kind q P r s = go (eqb (q .kind) 1) refl
+  where
+    go : (b : Bool) → eqb (q .kind) 1 ≡ b → P (cond b (read (q .cell)) (swap (q .cell) (q .expected) (q .new)))
+    go true e = r (eqb-true (q .kind) 1 e)
+    go false e = s
+
+abbrev Few : Tally → Type 0
+Few n = (n .steps < most (n .op)) × (n .hard ≤ mostHard (n .op))
+
+pub within : (w : World) → AllOnPath w → (t : ℕ) (n : Tally) → doing w t ≡ some n → (n .steps < most (n .op)) × (n .hard ≤ mostHard (n .op))
+within w p t n e = go (w .records t) (p t .1) e
+  where
+    go : (q : Record) → OnPath (w .tasks) (w .cells) t (p t .0) q → tallyOf q ≡ some n → Few n
+    go q (inl i) e = let x : none ≡ some n = rw (i .0) at e in let z : _≡_ {A = ℕ} 0 1 = cc in omega arith
+    go q (inr (m, o)) e = let k : tally q ≡ n = cc (was-doing (w .cells) (p t .0) q o) in
+        subst Few k (by-kind q (λ op. (q .steps < most op) × (q .hard ≤ mostHard op)) (read-bounds (w .cells) (p t .0) q o) (pending-bounds (w .cells) (p t .0) q o))
+
+-- ACTIONS
+
+module _ (w : World) where
+  -- another record for task t
+  put : (t : ℕ) (q : Record) (x : Option Tally) → tallyOf q ≡ x → (u : ℕ) → tallyOf (upd (w .records) t q u) ≡ upd (doing w) t x u
+  put t q x e u = go (either u t)
+    where
+      go : (u ≡ t) ⊎ (u ≢ t) → tallyOf (upd (w .records) t q u) ≡ upd (doing w) t x u
+      go (inl i) = rw (upd-at (w .records) t q u i, upd-at (doing w) t x u i) e
+      go (inr i) = rw (upd-off (w .records) t q u i, upd-off (doing w) t x u i)
+
+  begin-follows : (t : ℕ) (op : Op) {f : After} → Begun w t op f → Follows doing (w .cells) w (begin t op) (f .world) (beginEvent (f .outcome))
+  begin-follows t op (Begun.refuses n) = refl
+  begin-follows t op (starts a) = record { idle = rw (a .free); cell = a .cell; rest = put t (firstOf op) (some (first op)) (new op) }
+    where
+      new : (op : Op) → tallyOf (firstOf op) ≡ some (first op)
+      new (read k) = refl
+      new (swap k e n) = go (eqb e n)
+        where
+          go : (b : Bool) → cond (eqb (cond b 10 15) 0) none (some (first (swap k e n))) ≡ some (first (swap k e n))
+          go true = refl
+          go false = refl
+
+  module _ (t : ℕ) (did : List Line) (o : Pending (w .cells) did (w .records t)) where
+    abbrev q : Record
+    q = w .records t
+
+    few : (x : ℕ) (ps : List (List Line)) → T (every (λ p. leb (count hardware p) x) ps) → (did ++ (lineOf q ∷ [])) ∈ ps → count hardware (did ++ (lineOf q ∷ [])) ≤ x
+    few x ps h i = leb→le _ _ (every-in (λ p. leb (count hardware p) x) ps h _ i)
+
+    line-follows : (c : Cell) {n : Next} → Leads (lineOf q) (counted q (accessOf t q)) n → Then (w .cells) did q o n
+        → Follows doing (w .cells) w (step t) (withBoth w (q .cell) c t (recordAfter n)) (stepEvent (tried t q) (outcomeOf n))
+    line-follows c (goes {n = n} {w = x} {h = h} {t = k} {v = v} f) next = record { now = tally q; was = was-doing (w .cells) did q o; rest = put t _ _ (rw (not-idle _ (next .line), add-one)) }
+    line-follows c (done f) end = record {
+        now = tally q; was = was-doing (w .cells) did q o; rest = put t idle none refl; steps = add-one (q .steps); hard = refl;
+        few = rw (end .hard) (by-kind q (λ op. count hardware (did ++ (lineOf q ∷ [])) ≤ mostHard op) (λ e. few 1 readPaths tt (end .read-path e)) (few 3 paths tt (end .path))) }
+
+  step-follows : (t : ℕ) (did : List Line) {f : After} → Stepped w t did f → Follows doing (w .cells) w (step t) (f .world) (stepEvent (tried t (w .records t)) (f .outcome))
+  unfolding ran
+  step-follows t did (Stepped.refuses n i) = (refl, rw i)
+  step-follows t did (runs m o) =
+      let c = perform (w .cell (w .records t .cell)) (accessOf t (w .records t)) in
+      line-follows t did o (c .cell) (led (w .cells) did (w .records t) o t (c .value)) (one-line (w .cells) did (w .records t) o t (c .value))
+
+pub follows : (w : World) → AllOnPath w → (a : Action) → Follows doing (w .cells) w a (figure w a .0) (figure w a .1)
+follows w p (begin t op) = begin-follows w t op (begin-cases w t op)
+follows w p (step t) = step-follows w t (p t .0) (step-cases w t (p t .0) (p t .1))
