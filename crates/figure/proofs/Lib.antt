@@ -12,3 +12,4 @@ pub mod Storing
 pub mod Deciding
 pub mod Replacing
 pub mod Steps
+pub mod Views

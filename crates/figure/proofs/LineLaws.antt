@@ -93,7 +93,7 @@ every-line f h l = subst (λ (k : Line). T (f k)) (place l .1) (every-at f lines
 abbrev pub same : Line → Line → Bool
 same a b = eqb (place a .0) (place b .0)
 
-same-is : (a b : Line) → T (same a b) → a ≡ b
+pub same-is : (a b : Line) → T (same a b) → a ≡ b
 same-is a b h = sym (place a .1) ∙ ap (λ n. getD lines n nowhere) (eqb→eq (place a .0) (place b .0) h) ∙ place b .1
 
 abbrev pub sameLines : List Line → List Line → Bool
