@@ -88,12 +88,19 @@ module _ (v : ℕ) (did : List Line) (q : Record) (o : Pending v did q) where
     where
       steps : q .steps + 1 ≡ Paths.steps (did ++ (lineOf q ∷ []))
       steps = omega (arith, steps-on did (lineOf q), o .steps)
+
       hard : q .hard + hardware (accessOf t q) ≡ count hardware (did ++ (lineOf q ∷ []))
       hard = omega (arith, hardware-on did (lineOf q), hardware-alike (lineOf q) t q, o .hard)
+
       go : {n : Next} → Leads (lineOf q) (counted q (accessOf t q)) n → Then n
       go (goes {n = n} {w = w} h) = record {
-          cell = o .cell; line = sym (h .1 (reads q) (swaps q)) ∙ o .line; values = o .values; steps = steps; hard = hard;
-          lines = extends-in (lineOf q) (before (lineAt n w)) (h .0) did (o .lines) }
+        cell = o .cell;
+        line = sym (h .1 (reads q) (swaps q)) ∙ o .line;
+        values = o .values;
+        steps = steps;
+        hard = hard;
+        lines = extends-in (lineOf q) (before (lineAt n w)) (h .0) did (o .lines);
+      }
       go (done h) =
           let m = extends-in (lineOf q) (endings (lineOf q)) h did (o .lines) in
           record { path = read-paths (lineOf q) _ m; read-path = λ e. rw (reading q e (o .line)) at m; steps = steps; hard = hard }
@@ -115,29 +122,29 @@ module _ (v : ℕ) (did : List Line) (q : Record) (o : Pending v did q) where
 
 -- THE FIGURE'S ACTIONS
 
--- questions with their answer: all are answered yes, or not all and the action is refused
+-- questions and what comes of them: all are answered yes, or not all and a number is given
 abbrev pub AllYes : List Question → Type 0
 AllYes [] = Unit {0}
 AllYes (x ∷ l) = (x .1 ≡ true) × AllYes l
 
 pub data Asked (l : List Question) : Option ℕ → Type 0 where
-  refused : (n : ℕ) → ¬ AllYes l → Asked l (some n)
-  passed : AllYes l → Asked l none
+  denied : (n : ℕ) → ¬ AllYes l → Asked l (some n)
+  granted : AllYes l → Asked l none
 
 pub ask : (l : List Question) → Asked l (refusal l)
-ask [] = passed tt
+ask [] = granted tt
 ask (x ∷ l) = go (x .1) refl (ask l)
   where
     go : (b : Bool) → x .1 ≡ b → {o : Option ℕ} → Asked l o → Asked (x ∷ l) (cond b o (some (x .0)))
-    go true e (refused n h) = refused n (λ y. h (y .1))
-    go true e (passed y) = passed (e, y)
-    go false e a = refused (x .0) (λ y. false≢true (sym e ∙ y .0))
+    go true e (denied n h) = denied n (λ y. h (y .1))
+    go true e (granted y) = granted (e, y)
+    go false e a = denied (x .0) (λ y. false≢true (sym e ∙ y .0))
 
 abbrev pub firstOf : Op → Record
 firstOf (read k) = firstRead k
 firstOf (swap k e n) = firstSwap k e n
 
--- why a begin is accepted
+-- what an accepted begin was asked
 pub record Accepted (w : World) (t : ℕ) (op : Op) : Type 0 where
   pub task : t < w .tasks
   pub cell : cellOf op < w .cells
@@ -153,8 +160,9 @@ unfolding begins
 begin-cases w t op = go op
   where
     by : (op : Op) {l : List Question} {o : Option ℕ} → Asked l o → (AllYes l → Accepted w t op) → Begun w t op (unless o w (leaving (withRecord w t (firstOf op)) Acted))
-    by op (refused n h) f = refuses n
-    by op (passed y) f = starts (f y)
+    by op (denied n h) f = refuses n
+    by op (granted y) f = starts (f y)
+
     go : (op : Op) → Begun w t op (begins w t op)
     go (read k) = by (read k) (ask (beginQuestions (w .tasks) (w .cells) (w .records t) t k))
         (λ y. record { task = ltb-true _ _ (y .0); cell = ltb-true _ _ (y .1 .0); free = y .1 .1 .0; values = refl })
@@ -175,10 +183,10 @@ unfolding stepped
 step-cases w t did p = go (ask (stepQuestions (w .tasks) (w .records t) t)) p
   where
     go : {o : Option ℕ} → Asked (stepQuestions (w .tasks) (w .records t) t) o → OnPath (w .tasks) (w .cells) t did (w .records t) → Stepped w t did (unless o w (ran w t (w .records t)))
-    go (refused n h) (inl i) = refuses n (i .0)
-    go (refused n h) (inr (m, o)) = absurd (h (lt-ltb _ _ m, (rw (not-idle (w .records t) (o .line)), tt)))
-    go (passed y) (inl i) = absurd (false≢true (rw (i .0) at (y .1 .0)))
-    go (passed y) (inr (m, o)) = runs m o
+    go (denied n h) (inl i) = refuses n (i .0)
+    go (denied n h) (inr (m, o)) = absurd (h (lt-ltb _ _ m, (rw (not-idle (w .records t) (o .line)), tt)))
+    go (granted y) (inl i) = absurd (false≢true (rw (i .0) at (y .1 .0)))
+    go (granted y) (inr (m, o)) = runs m o
 
 -- ALL TASKS
 
@@ -188,7 +196,7 @@ AllOnPath w = (t : ℕ) → (did : List Line) × OnPath (w .tasks) (w .cells) t 
 pub opening-on-path : (n v : ℕ) (vs : List ℕ) → AllOnPath (opening n v vs)
 opening-on-path n v vs t = ([], inl (refl, refl))
 
--- of a trace: each task with the lines that its pending call did, and every finished call complete
+-- a trace whose calls keep to the paths: each task with the lines that its pending call did, and every finished call complete
 pub record Sound (r : Trace) : Type 0 where
   pub pending : (t : ℕ) → OnPath (r .world .tasks) (r .world .cells) t (r .did t) (r .world .records t)
   pub complete : (x : Traced) → x ∈ r .done → Complete (x .lines) (x .result)
@@ -209,6 +217,7 @@ module _ (r : Trace) (s : Sound r) where
   abbrev w : World
   w = r .world
 
+  -- another record for task t, and other lines
   put : (did' : ℕ → List Line) (t : ℕ) (q : Record) → OnPath (w .tasks) (w .cells) t (did' t) q → ((u : ℕ) → u ≢ t → did' u ≡ r .did u) → (u : ℕ) → OnPath (w .tasks) (w .cells) u (did' u) (upd (w .records) t q u)
   put did' t q o others u = go (either u t)
     where
@@ -219,8 +228,9 @@ module _ (r : Trace) (s : Sound r) where
   begin-sound : (t : ℕ) (op : Op) {f : After} → Begun w t op f → Sound (record { world = f .world; did = r .did; done = r .done })
   begin-sound t op (refuses n) = s
   begin-sound t op (starts a) = record {
-      pending = put (r .did) t (firstOf op) (inr (a .task, rw (no-lines _ _ t (r .did t) (w .records t) (s .pending t) (a .free)) (first-on-path w t op a))) (λ u e. refl);
-      complete = s .complete }
+    pending = put (r .did) t (firstOf op) (inr (a .task, rw (no-lines _ _ t (r .did t) (w .records t) (s .pending t) (a .free)) (first-on-path w t op a))) (λ u e. refl);
+    complete = s .complete;
+  }
 
   module _ (t : ℕ) (m : t < w .tasks) (o : Pending (w .cells) (r .did t) (w .records t)) where
     line-sound : (c : Cell) (n : Next) → Then (w .cells) (r .did t) (w .records t) o n → Sound (stepTrace r t (withBoth w (w .records t .cell) c t (recordAfter n)) (outcomeOf n))
@@ -261,6 +271,7 @@ pub run-on-path : (w : World) → AllOnPath w → (l : List Action) → AllOnPat
 run-on-path w p [] = p
 run-on-path w p (a ∷ l) = run-on-path (figure w a .0) (act-on-path w p a) l
 
+-- an action leaves the numbers of tasks and cells
 abbrev pub SameSizes : World → World → Type 0
 SameSizes w w' = (w' .tasks ≡ w .tasks) × (w' .cells ≡ w .cells)
 

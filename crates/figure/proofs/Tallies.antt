@@ -23,6 +23,7 @@ use Rattle.figure.specs.Paths.{paths, count}
 use Rattle.figure.proofs.LineLaws.{every, every-in, readPaths, Leads, goes, done}
 use Rattle.figure.proofs.Records.{Pending, not-idle, led, Then, one-line, pending-bounds, read-bounds, firstOf, Begun, starts, begin-cases, Stepped, runs, step-cases, OnPath, AllOnPath}
 
+-- the operation as begun: a swap of equal values reads, and is a swap
 abbrev pub opOf : Record → Op
 opOf q = cond (eqb (q .kind) 1) (read (q .cell)) (swap (q .cell) (q .expected) (q .new))
 
@@ -35,7 +36,7 @@ tallyOf q = cond (isIdle q) none (some (tally q))
 abbrev pub doing : World → ℕ → Option Tally
 doing w t = tallyOf (w .records t)
 
-was-doing : (v : ℕ) (did : List Line) (q : Record) → Pending v did q → tallyOf q ≡ some (tally q)
+pub was-doing : (v : ℕ) (did : List Line) (q : Record) → Pending v did q → tallyOf q ≡ some (tally q)
 was-doing v did q o = rw (not-idle q (o .line))
 
 -- BOUNDS
@@ -91,10 +92,15 @@ module _ (w : World) where
 
     line-follows : (c : Cell) {n : Next} → Leads (lineOf q) (counted q (accessOf t q)) n → Then (w .cells) did q o n
         → Follows doing (w .cells) w (step t) (withBoth w (q .cell) c t (recordAfter n)) (stepEvent (tried t q) (outcomeOf n))
-    line-follows c (goes {n = n} {w = x} {h = h} {t = k} {v = v} f) next = record { now = tally q; was = was-doing (w .cells) did q o; rest = put t _ _ (rw (not-idle _ (next .line), add-one)) }
+    line-follows c (goes f) next = record { now = tally q; was = was-doing (w .cells) did q o; rest = put t _ _ (rw (not-idle _ (next .line), add-one)) }
     line-follows c (done f) end = record {
-        now = tally q; was = was-doing (w .cells) did q o; rest = put t idle none refl; steps = add-one (q .steps); hard = refl;
-        few = rw (end .hard) (by-kind q (λ op. count hardware (did ++ (lineOf q ∷ [])) ≤ mostHard op) (λ e. few 1 readPaths tt (end .read-path e)) (few 3 paths tt (end .path))) }
+      now = tally q;
+      was = was-doing (w .cells) did q o;
+      rest = put t idle none refl;
+      steps = add-one (q .steps);
+      hard = refl;
+      few = rw (end .hard) (by-kind q (λ op. count hardware (did ++ (lineOf q ∷ [])) ≤ mostHard op) (λ e. few 1 readPaths tt (end .read-path e)) (few 3 paths tt (end .path)));
+    }
 
   step-follows : (t : ℕ) (did : List Line) {f : After} → Stepped w t did f → Follows doing (w .cells) w (step t) (f .world) (stepEvent (tried t (w .records t)) (f .outcome))
   unfolding ran
