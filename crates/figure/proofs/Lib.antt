@@ -3,7 +3,6 @@ pub mod Records
 pub mod Paths
 pub mod Tallies
 pub mod Classes
-pub mod Numbers
 pub mod Invariant
 pub mod Frame
 pub mod Looking
@@ -13,3 +12,5 @@ pub mod Deciding
 pub mod Replacing
 pub mod Steps
 pub mod Views
+pub mod Operations
+pub mod Worlds

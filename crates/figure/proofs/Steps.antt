@@ -15,13 +15,13 @@ use Rattle.cells.specs.declared.lines.Access.{Access}
 use Rattle.cells.specs.declared.lines.Next.{Next}
 use Rattle.cells.specs.declared.lines.Next.the-variants.{Go, Done}
 use Rattle.cells.specs.Record.{noValue, idle}
-use Rattle.cells.specs.Lines.{Wanted, for13, for25, for28, Line, l1, l2, l3, l10, l11, l12, l15, l16, l17, l18, l19, l20, l21, l22, l23, l24, l26, l27, l29, l30, nowhere, lineOf, accessAt, at, counted, nextAt, answer, readAnswer}
+use Rattle.cells.specs.Lines.{Wanted, for13, for25, for28, Line, l1, l2, l3, l10, l11, l12, l15, l16, l17, l18, l19, l20, l21, l22, l23, l24, l26, l27, l29, l30, nowhere, lineAt, lineOf, accessAt, at, counted, nextAt, answer, readAnswer}
 use Rattle.history.specs.Basics.{upd}
 use Rattle.history.proofs.Basics.{either, upd-at, upd-off, upd-cases}
 use Rattle.history.proofs.Simulation.{Phase, settled, frozen, late, Knowledge}
 use Rattle.figure.specs.Figure.{Cell, store, install, Memory, memory, perform}
 use Rattle.figure.proofs.Classes.{is, busy, holding, swapping, won, stored, lies-in, are-apart}
-use Rattle.figure.proofs.Numbers.{by-test, after-1, after-2}
+use Rattle.figure.proofs.LineLaws.{wanted-is}
 use Rattle.figure.proofs.Invariant.{none, View, Task, TaskOf, PhaseIs, line, held, Inv}
 use Rattle.figure.proofs.Frame.{moved, Mine, quiet, was, grow, undecided, active-current, active-undecided}
 use Rattle.figure.proofs.Looking.{idle-mine, not-late, T-of, settled≢late, active-settled, value-of, decided-not-late, from1, from2, from3-25, from3-28, from10, from11, from12, from15, from17-18, from17-27, from19-20, from19-27, from20, from21-1, from21-22, from21-23, from24-1, from24-26}
@@ -29,6 +29,22 @@ use Rattle.figure.proofs.Splitter.{keeps16, keeps18, keeps-leaving, kee
 use Rattle.figure.proofs.Storing as Storing
 use Rattle.figure.proofs.Deciding as Deciding
 use Rattle.figure.proofs.Replacing as Replacing
+
+-- in the deciding part the wanted line stays
+after-1 : (q : Record) (x : Wanted) → lineOf q ≡ l1 x → lineAt 2 (q .wanted) ≡ l2 x
+after-1 q for13 e = ap (lineAt 2) (wanted-is q e tt)
+after-1 q for25 e = ap (lineAt 2) (wanted-is q e tt)
+after-1 q for28 e = ap (lineAt 2) (wanted-is q e tt)
+
+after-2 : (q : Record) (x : Wanted) → lineOf q ≡ l2 x → lineAt 3 (q .wanted) ≡ l3 x
+after-2 q for13 e = ap (lineAt 3) (wanted-is q e tt)
+after-2 q for25 e = ap (lineAt 3) (wanted-is q e tt)
+after-2 q for28 e = ap (lineAt 3) (wanted-is q e tt)
+
+-- whichever a test picks
+by-test : {A : Type 0} (P : A → Type 0) (b : Bool) (x y : A) → (b ≡ true → P x) → (b ≡ false → P y) → P (cond b x y)
+by-test P true x y f g = f refl
+by-test P false x y f g = g refl
 
 -- WHAT A STEP DOES TO THE GHOST, of one cell (the moves of `Simulation`)
 
