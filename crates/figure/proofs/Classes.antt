@@ -4,6 +4,7 @@ use Prim.Native.Nat.{ℕ}
 use lib.Dec.{eqb, T}
 use Rattle.cells.specs.Basics.{within}
 use Rattle.cells.specs.Lines.{Wanted, for13, for25, for28, Line, l1, l2, l3, l10, l11, l12, l15, l16, l17, l18, l19, l20, l21, l22, l23, l24, l26, l27, l29, l30, nowhere}
+use Rattle.cells.specs.Questions.{ofKind}
 use Rattle.figure.proofs.LineLaws.{every, every-line, lines}
 
 abbrev pub wantedBy : Wanted → ℕ
@@ -72,7 +73,7 @@ holding ℓ = not (is 0 ℓ || (is 10 ℓ || is 15 ℓ))
 
 -- of a swap of unequal values
 abbrev pub swapping : Line → Bool
-swapping ℓ = within (number ℓ) 15 30 || (eqb (decisionFor ℓ) 25 || eqb (decisionFor ℓ) 28)
+swapping ℓ = ofKind ℓ false true
 
 -- has set Y and is about to look at X, or is about to set it
 abbrev pub racing : Line → Bool
@@ -104,6 +105,10 @@ checking ℓ = is 12 ℓ || is 21 ℓ
 -- set Y and has not reset it
 abbrev pub marking : Line → Bool
 marking ℓ = is 19 ℓ || (is 27 ℓ || won ℓ)
+
+-- attempts no hardware CAS and leads to none, in an active block that nobody else swaps on
+abbrev pub uncontended : Line → Bool
+uncontended ℓ = busy ℓ && not (contended ℓ || is 27 ℓ)
 
 -- INCLUSIONS
 

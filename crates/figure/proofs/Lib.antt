@@ -14,3 +14,5 @@ pub mod Steps
 pub mod Views
 pub mod Operations
 pub mod Worlds
+pub mod Begins
+pub mod Marks

@@ -42,7 +42,7 @@ after-2 q for25 e = ap (lineAt 3) (wanted-is q e tt)
 after-2 q for28 e = ap (lineAt 3) (wanted-is q e tt)
 
 -- whichever a test picks
-by-test : {A : Type 0} (P : A → Type 0) (b : Bool) (x y : A) → (b ≡ true → P x) → (b ≡ false → P y) → P (cond b x y)
+pub by-test : {A : Type 0} (P : A → Type 0) (b : Bool) (x y : A) → (b ≡ true → P x) → (b ≡ false → P y) → P (cond b x y)
 by-test P true x y f g = f refl
 by-test P false x y f g = g refl
 

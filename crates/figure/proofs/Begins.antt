@@ -1,0 +1,145 @@
+-- A call that begins: its record is the first one of its operation, and nobody has seen anything new.
+use mathlib.Core.Path.{_≡_, refl, sym, ap, subst, _∙_}
+use mathlib.Core.Logic.{_≢_, _⊎_, inl, inr}
+use mathlib.Core.Bool.{Bool, true, false, not, _&&_, _||_, cond, false≢true}
+use mathlib.Core.Option.{some}
+use mathlib.Core.List.{List, []}
+use Prim.Native.Nat.{ℕ, _<_}
+use native.Mathlib.Omega.{arith}
+use lib.Dec.{eqb, T}
+use lib.ListN.{getD}
+use borrow.Author.Tests.{eqb-true, eqb-false}
+use Rattle.cells.specs.declared.Record.{Record}
+use Rattle.cells.specs.Record.{noValue, idle, isIdle}
+use Rattle.cells.specs.Lines.{Line, lineOf, nowhere, l10, l15}
+use Rattle.cells.specs.Questions.{valuesFit}
+use Rattle.cells.specs.Begin.{first, firstRead}
+use Rattle.history.specs.Basics.{upd}
+use Rattle.history.specs.History.{Op, read, swap, cellOf}
+use Rattle.history.proofs.Basics.{either, upd-at, upd-same, upd-off}
+use Rattle.history.proofs.Simulation.{Phase, settled, late, Ghost, Knowledge, Tally, untold, Grown}
+use Rattle.history.proofs.Simulation as Sim
+use Rattle.figure.specs.Figure.{Cell, World, withRecord, opening}
+use Rattle.figure.proofs.Records.{Pending, AllOnPath, OnPath, Accepted, firstOf, not-idle, opening-on-path}
+use Rattle.figure.proofs.Tallies.{tally, tallyOf, doing}
+use Rattle.figure.proofs.Classes.{busy, stored, lies-in}
+use Rattle.figure.proofs.Invariant.{none, View, Self, Split, Value, Decided, Seen, Planned, Fresh, Owner, Task, TaskOf, Rival, line, held, Inv}
+use Rattle.figure.proofs.Frame.{moved, Mine, quiet}
+use Rattle.figure.proofs.Frame as Frame
+use Rattle.figure.proofs.Looking.{off, idle-task, settled≢late}
+use Rattle.figure.proofs.Views.{on, on-idle, on-changed, on-elsewhere, on-it, view, told-changed}
+use Rattle.figure.proofs.Worlds.{Good, doing-on}
+
+-- THE STEPPER'S FACTS at its first line
+
+module _ (s : View) (κ : Knowledge) (t : ℕ) (new : s .told t ≡ false) (o : s .phase ≢ late t) where
+  told-nowhere : T (s .told t) → ⊥
+  told-nowhere z = rw new at z
+
+  mine-read : (q : Record) → Mine s κ t l10 q
+  mine-read q = let n = told-nowhere in search off
+
+  mine-swap : (q : Record) → q .expected ≢ q .new → q .expected ≢ none → q .new ≢ none → Mine s κ t l15 q
+  mine-swap q d e v = let n = told-nowhere in search off
+
+-- a swap's values are other than none
+values-some : (e n : ℕ) → (not (eqb e noValue) && not (eqb n noValue)) ≡ true → (e ≢ none) × (n ≢ none)
+unfolding none
+values-some e n = go (eqb e noValue) (eqb n noValue) refl refl
+  where
+    go : (x y : Bool) → eqb e noValue ≡ x → eqb n noValue ≡ y → (not x && not y) ≡ true → (e ≢ noValue) × (n ≢ noValue)
+    go false false ex ey z = (eqb-false _ _ ex, eqb-false _ _ ey)
+    go false true ex ey z = absurd (false≢true z)
+    go true y ex ey z = absurd (false≢true z)
+
+module _ (w : World) (g : Ghost) (κ : Knowledge) (G : Good w g κ) (t : ℕ) (op : Op) (a : Accepted w t op) where
+  abbrev w′ : World
+  w′ = withRecord w t (firstOf op)
+
+  abbrev g′ : Ghost
+  g′ = untold g t
+
+  was-idle : w .records t ≡ idle
+  was-idle = go (G .on-path t .1)
+    where
+      go : OnPath (w .tasks) (w .cells) t (G .on-path t .0) (w .records t) → w .records t ≡ idle
+      go (inl i) = i .0
+      go (inr o) = absurd (false≢true (sym (not-idle (w .records t) (o .1 .line)) ∙ a .free))
+
+  idle-to : (j : ℕ) → on (w .records) j t ≡ idle
+  idle-to j = on-idle (w .records) j t was-idle
+
+  -- the others know what they knew, and t nothing
+  abbrev others : Knowledge
+  others = record { saw = λ u v. (u ≢ t) × κ .saw u v; early = λ u. (u ≢ t) × κ .early u }
+
+  busy-other : (j u : ℕ) → T (busy (line (view w g j) u)) → u ≢ t
+  busy-other j u b z = rw (z, idle-to j) at b
+
+  -- the cell as before, with t's swap standing nowhere
+  abbrev before : ℕ → View
+  before j = record { cell = w .cell j; task = on (w .records) j; value = g .cells j; told = g′ .told; phase = g .phase j }
+
+  kept-before : (j : ℕ) → Inv (before j) others
+  kept-before j = told-changed (view w g j) others (g′ .told) (λ u b. upd-off (g .told) t false u (busy-other j u b))
+      (λ u z. lies-in stored busy tt (line (view w g j) u) (G .cells j .tasks u .owner z .has-stored))
+      (Frame.grow (view w g j) κ others (λ u b. ((λ v z. (busy-other j u b, z)), λ z. (busy-other j u b, z))) (G .cells j))
+
+  not-late : (j : ℕ) → g .phase j ≢ late t
+  not-late j z = rw (idle-to j) at (G .cells j .tasks t .owner z .has-stored)
+
+  its-cell : firstOf op .cell ≡ cellOf op
+  its-cell = go op
+    where
+      go : (op : Op) → firstOf op .cell ≡ cellOf op
+      go (read k) = refl
+      go (swap k e n) = refl
+
+  begun : Inv (moved (before (cellOf op)) t (firstOf op)) others
+  begun = go op (a .values)
+    where
+      s : View
+      s = before (cellOf op)
+      n : s .told t ≡ false
+      n = upd-same (g .told) t false
+      by : (k e v : ℕ) (b : Bool) → eqb e v ≡ b → (e ≢ none) × (v ≢ none) → Inv (moved s t (first (cond b 10 15) 2 k e v)) others
+      by k e v true z x = quiet s others t l10 (first 10 2 k e v) refl (kept-before (cellOf op)) (mine-read s others t n (not-late (cellOf op)) (first 10 2 k e v))
+      by k e v false z x = quiet s others t l15 (first 15 2 k e v) refl (kept-before (cellOf op)) (mine-swap s others t n (not-late (cellOf op)) (first 15 2 k e v) (eqb-false _ _ z) (x .0) (x .1))
+      go : (p : Op) → valuesFit (firstOf p) ≡ true → Inv (moved s t (firstOf p)) others
+      go (read k) v = quiet s others t l10 (firstRead k) refl (kept-before (cellOf op)) (mine-read s others t n (not-late (cellOf op)) (firstRead k))
+      go (swap k e v) z = by k e v (eqb e v) refl (values-some e v z)
+
+  here : view w′ g′ (cellOf op) ≡ moved (before (cellOf op)) t (firstOf op)
+  here = λ i. record { cell = w .cell (cellOf op); task = on-changed (w .records) t (firstOf op) (cellOf op) (inl its-cell) i; value = g .cells (cellOf op); told = g′ .told; phase = g .phase (cellOf op) }
+
+  there : (j : ℕ) → j ≢ cellOf op → view w′ g′ j ≡ before j
+  there j n = λ i. record { cell = w .cell j; task = on-elsewhere (w .records) t (firstOf op) j (inr was-idle) (inl (λ z. n (sym z ∙ its-cell))) i; value = g .cells j; told = g′ .told; phase = g .phase j }
+
+  pub begun-good : AllOnPath w′ → (κ′ : Knowledge) → Grown doing w w′ g′ κ κ′ → Good w′ g′ κ′
+  begun-good p κ′ grown = record { on-path = p; eager = grown .fresh-early; cells = λ j. Frame.grow (view w′ g′ j) others κ′ (knows j) (go j (either j (cellOf op))) }
+    where
+      go : (j : ℕ) → (j ≡ cellOf op) ⊎ (j ≢ cellOf op) → Inv (view w′ g′ j) others
+      go j (inl e) = subst (λ i. Inv (view w′ g′ i) others) (sym e) (subst (λ (v : View). Inv v others) (sym here) begun)
+      go j (inr e) = subst (λ (v : View). Inv v others) (sym (there j e)) (kept-before j)
+      knows : (j u : ℕ) → T (busy (lineOf (on (w′ .records) j u))) → ((v : ℕ) → (u ≢ t) × κ .saw u v → κ′ .saw u v) × ((u ≢ t) × κ .early u → κ′ .early u)
+      knows j u b =
+          let d = doing-on w′ j u b .0 in
+          ( (λ v z. grown .saw u _ _ (sym (ap tallyOf (upd-off (w .records) t (firstOf op) u (z .0))) ∙ d) d v (z .1))
+          , (λ z. grown .early u _ _ (sym (ap tallyOf (upd-off (w .records) t (firstOf op) u (z .0))) ∙ d) d (z .1)) )
+
+-- THE OPENING
+
+pub opening-good : (n v : ℕ) (vs : List ℕ) → ((k : ℕ) → getD vs k 0 ≢ none) → (κ : Knowledge) → Good (opening n v vs) (Sim.fresh (λ k. getD vs k 0)) κ
+unfolding none
+opening-good n v vs ok κ = record
+  { on-path = opening-on-path n v vs
+  ; eager = λ u n z. absurd (let x : _≡_ {A = ℕ} 0 1 = cc in omega arith)
+  ; cells = λ k. record
+      { current = record { low = omega arith; P-some = ok k; v-some = ok k; decided-inactive = λ z. absurd (z refl); decision = λ z. absurd (z refl); phase-is = λ z. (refl, refl) }
+      ; tasks = λ u. rw (on-idle (λ t. idle) k u refl) (idle-task (view (opening n v vs) (Sim.fresh (λ k. getD vs k 0)) k) κ u idle (settled≢late u))
+      ; rivals = λ u x ne e. rw (on-idle (λ t. idle) k u refl, on-idle (λ t. idle) k x refl) record { one-won = λ b. absurd b; no-race = λ b. absurd b }
+      ; apart = λ u x ne. rw (on-idle (λ t. idle) k u refl) (λ b. absurd b) } }
+
+-- a refused action, or any moment: more is known
+pub good-grown : (w : World) (g : Ghost) (κ κ′ : Knowledge) → Good w g κ → Grown doing w w g κ κ′ → Good w g κ′
+good-grown w g κ κ′ G grown = record { on-path = G .on-path; eager = grown .fresh-early; cells = λ j. Frame.grow (view w g j) κ κ′ (λ u b. let d = doing-on w j u b .0 in (grown .saw u _ _ d d, grown .early u _ _ d d)) (G .cells j) }
