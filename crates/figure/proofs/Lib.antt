@@ -16,3 +16,4 @@ pub mod Operations
 pub mod Worlds
 pub mod Begins
 pub mod Marks
+pub mod Quiet
