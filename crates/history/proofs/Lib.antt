@@ -1,2 +1,4 @@
 pub mod Basics
 pub mod Simulation
+pub mod Tracks
+pub mod MovesOne
