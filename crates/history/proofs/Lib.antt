@@ -2,3 +2,5 @@ pub mod Basics
 pub mod Simulation
 pub mod Tracks
 pub mod MovesOne
+pub mod Counts
+pub mod Points
