@@ -4,3 +4,4 @@ pub mod Tracks
 pub mod MovesOne
 pub mod Counts
 pub mod Points
+pub mod Kept

@@ -55,20 +55,20 @@ abbrev pub At : ℕ → ℕ → (ℕ → ℕ) → List Point → ℕ → Type 0
 At m k c [] v = c k ≡ v
 At m k c (x ∷ l) v = (Past m (x ∷ l) × (c k ≡ v)) ⊎ ((x .moment ≤ m) × At m k (apply c (x .call .op)) l v)
 
-pub replies-agree : (c d : ℕ → ℕ) (l : List Point) → ((x : Point) → x ∈ l → c (cell x) ≡ d (cell x)) → replies c l ≡ replies d l
+replies-agree : (c d : ℕ → ℕ) (l : List Point) → ((x : Point) → x ∈ l → c (cell x) ≡ d (cell x)) → replies c l ≡ replies d l
 replies-agree c d [] h = refl
 replies-agree c d (x ∷ l) h = cc (h x (inl refl), replies-agree (apply c (x .call .op)) (apply d (x .call .op)) l (λ y m. apply-agree c d (x .call .op) (cell y) (h y (inr m))))
 
-pub at-agree : (m j : ℕ) (c d : ℕ → ℕ) (l : List Point) (w : ℕ) → c j ≡ d j → At m j c l w → At m j d l w
+at-agree : (m j : ℕ) (c d : ℕ → ℕ) (l : List Point) (w : ℕ) → c j ≡ d j → At m j c l w → At m j d l w
 at-agree m j c d [] w h e = sym h ∙ e
 at-agree m j c d (x ∷ l) w h (inl (p, e)) = inl (p, sym h ∙ e)
 at-agree m j c d (x ∷ l) w h (inr (p, r)) = inr (p, at-agree m j (apply c (x .call .op)) (apply d (x .call .op)) l w (apply-agree c d (x .call .op) j h) r)
 
-pub final-agree : (c d : ℕ → ℕ) (l : List Point) (j : ℕ) → c j ≡ d j → final c l j ≡ final d l j
+final-agree : (c d : ℕ → ℕ) (l : List Point) (j : ℕ) → c j ≡ d j → final c l j ≡ final d l j
 final-agree c d [] j h = h
 final-agree c d (x ∷ l) j h = final-agree (apply c (x .call .op)) (apply d (x .call .op)) l j (apply-agree c d (x .call .op) j h)
 
-pub final-none : (c : ℕ → ℕ) (l : List Point) (j : ℕ) → ((x : Point) → x ∈ l → j ≢ cell x) → final c l j ≡ c j
+final-none : (c : ℕ → ℕ) (l : List Point) (j : ℕ) → ((x : Point) → x ∈ l → j ≢ cell x) → final c l j ≡ c j
 final-none c [] j h = refl
 final-none c (x ∷ l) j h = final-none (apply c (x .call .op)) l j (λ y m. h y (inr m)) ∙ apply-off c (x .call .op) j (h x (inl refl))
 
@@ -83,7 +83,7 @@ at-final m k c (x ∷ l) s h = go (le-or-lt (x .moment) m) (at-final m k (apply 
     go (inl p) r = inr (p, r)
     go (inr p) r = inl (past p, sym (final-none c (x ∷ l) k (λ y i e. omega (arith, h y i (sym e), past p y i))))
 
--- AN POINT PUT IN
+-- A POINT PUT IN
 
 abbrev pub place : (e : Point) (v : ℕ) (c : ℕ → ℕ) (l : List Point) → At (e .moment) (cell e) c l v → List Point
 place e v c [] d = e ∷ []
@@ -93,11 +93,19 @@ place e v c (x ∷ l) (inr h) = x ∷ place e v (apply c (x .call .op)) l (h .1)
 abbrev pub ats : List Point → List ℕ
 ats l = map (λ e. e .call .at) l
 
+pub from-ats : (l : List Point) (n : ℕ) → n ∈ ats l → (x : Point) × (x ∈ l) × (n ≡ x .call .at)
+from-ats (x ∷ l) n (inl h) = (x, inl refl, h)
+from-ats (x ∷ l) n (inr h) = let r = from-ats l n h in (r .0, inr (r .1), r .2)
+
+to-ats : (l : List Point) (x : Point) → x ∈ l → x .call .at ∈ ats l
+to-ats (y ∷ l) x (inl h) = inl (ap (λ (x : Point). x .call .at) h)
+to-ats (y ∷ l) x (inr h) = inr (to-ats l x h)
+
 -- e changes nothing, or no later point is on its cell
 abbrev pub Calm : Point → ℕ → List Point → Type 0
 Calm e v l = (after v (e .call .op) ≡ v) ⊎ ((x : Point) → x ∈ l → e .moment < x .moment → cell x ≢ cell e)
 
-pub calm-tail : (e : Point) (v : ℕ) (x : Point) (l : List Point) → Calm e v (x ∷ l) → Calm e v l
+calm-tail : (e : Point) (v : ℕ) (x : Point) (l : List Point) → Calm e v (x ∷ l) → Calm e v l
 calm-tail e v x l (inl h) = inl h
 calm-tail e v x l (inr h) = inr (λ y i. h y (inr i))
 
@@ -112,16 +120,6 @@ module _ (e : Point) (v : ℕ) where
       go (inl p) = inl p
       go (inr p) = inr (inr p)
 
-  pub place-old : (c : ℕ → ℕ) (l : List Point) (d : At (e .moment) (cell e) c l v) (x : Point) → x ∈ l → x ∈ place e v c l d
-  place-old c (y ∷ l) (inl h) x i = inr i
-  place-old c (y ∷ l) (inr h) x (inl i) = inl i
-  place-old c (y ∷ l) (inr h) x (inr i) = inr (place-old (apply c (y .call .op)) l (h .1) x i)
-
-  pub place-new : (c : ℕ → ℕ) (l : List Point) (d : At (e .moment) (cell e) c l v) → e ∈ place e v c l d
-  place-new c [] d = inl refl
-  place-new c (y ∷ l) (inl h) = inl refl
-  place-new c (y ∷ l) (inr h) = inr (place-new (apply c (y .call .op)) l (h .1))
-
   pub place-sorted : (c : ℕ → ℕ) (l : List Point) (d : At (e .moment) (cell e) c l v) → Sorted l → Sorted (place e v c l d)
   place-sorted c [] d s = ((λ x i. absurd i), tt)
   place-sorted c (y ∷ l) (inl h) s = ((λ x i. omega (arith, h .0 x i)), s)
@@ -132,14 +130,11 @@ module _ (e : Point) (v : ℕ) where
       go x (inr p) = s .0 x p
 
   pub place-ats : (c : ℕ → ℕ) (l : List Point) (d : At (e .moment) (cell e) c l v) (n : ℕ) → n ∈ ats (place e v c l d) → (n ≡ e .call .at) ⊎ (n ∈ ats l)
-  place-ats c [] d n (inl h) = inl h
-  place-ats c (y ∷ l) (inl h) n i = i
-  place-ats c (y ∷ l) (inr h) n (inl i) = inr (inl i)
-  place-ats c (y ∷ l) (inr h) n (inr i) = go (place-ats (apply c (y .call .op)) l (h .1) n i)
+  place-ats c l d n i = let x = from-ats (place e v c l d) n i in go (x .0) (x .2) (place-mem c l d (x .0) (x .1))
     where
-      go : (n ≡ e .call .at) ⊎ (n ∈ ats l) → (n ≡ e .call .at) ⊎ (n ∈ ats (y ∷ l))
-      go (inl p) = inl p
-      go (inr p) = inr (inr p)
+      go : (x : Point) → n ≡ x .call .at → (x ≡ e) ⊎ (x ∈ l) → (n ≡ e .call .at) ⊎ (n ∈ ats l)
+      go x q (inl p) = inl (q ∙ ap (λ (x : Point). x .call .at) p)
+      go x q (inr p) = inr (rw q (to-ats l x p))
 
   pub place-once : (c : ℕ → ℕ) (l : List Point) (d : At (e .moment) (cell e) c l v) → ¬ (e .call .at ∈ ats l) → Once (ats l) → Once (ats (place e v c l d))
   place-once c [] d f o = ((λ i. i), tt)
@@ -155,13 +150,20 @@ module _ (e : Point) (v : ℕ) where
   place-answer c (y ∷ l) (inl h) = inl (ap (λ w. (e, reply w (e .call .op))) (sym (h .1)))
   place-answer c (y ∷ l) (inr h) = inr (place-answer (apply c (y .call .op)) l (h .1))
 
-  -- after e, put in where its cell has the value v, a later point's cell is as before
-  pub calm-apply : (c : ℕ → ℕ) (l : List Point) → c (cell e) ≡ v → Past (e .moment) l → Calm e v l → (x : Point) → x ∈ l → c (cell x) ≡ apply c (e .call .op) (cell x)
-  calm-apply c l q p (inl h) x i = sym (apply-still c (e .call .op) (rw q h) (cell x))
-  calm-apply c l q p (inr h) x i = sym (apply-off c (e .call .op) (cell x) (h x i (p x i)))
+  -- e, put in where its cell has the value v, leaves cell j as it was: it changes nothing, or is on another cell
+  abbrev pub Unmoved : ℕ → Type 0
+  Unmoved j = (after v (e .call .op) ≡ v) ⊎ (j ≢ cell e)
+
+  unmoved : (c : ℕ → ℕ) (j : ℕ) → c (cell e) ≡ v → Unmoved j → c j ≡ apply c (e .call .op) j
+  unmoved c j q (inl h) = sym (apply-still c (e .call .op) (rw q h) j)
+  unmoved c j q (inr h) = sym (apply-off c (e .call .op) j h)
+
+  calm-unmoved : (l : List Point) → Past (e .moment) l → Calm e v l → (x : Point) → x ∈ l → Unmoved (cell x)
+  calm-unmoved l p (inl h) x i = inl h
+  calm-unmoved l p (inr h) x i = inr (h x i (p x i))
 
   pub place-replies : (c : ℕ → ℕ) (l : List Point) (d : At (e .moment) (cell e) c l v) → Calm e v l → (p : Point × Answer) → p ∈ replies c l → p ∈ replies c (place e v c l d)
-  place-replies c (y ∷ l) (inl h) k p i = inr (subst (λ t. p ∈ t) (replies-agree c (apply c (e .call .op)) (y ∷ l) (calm-apply c (y ∷ l) (h .1) (h .0) k)) i)
+  place-replies c (y ∷ l) (inl h) k p i = inr (subst (λ t. p ∈ t) (replies-agree c (apply c (e .call .op)) (y ∷ l) (λ x j. unmoved c (cell x) (h .1) (calm-unmoved (y ∷ l) (h .0) k x j))) i)
   place-replies c (y ∷ l) (inr h) k p (inl i) = inl i
   place-replies c (y ∷ l) (inr h) k p (inr i) = inr (place-replies (apply c (y .call .op)) l (h .1) (calm-tail e v y l k) p i)
 
@@ -169,10 +171,10 @@ module _ (e : Point) (v : ℕ) where
   abbrev pub Apart : ℕ → ℕ → Type 0
   Apart m j = (after v (e .call .op) ≡ v) ⊎ ((j ≢ cell e) ⊎ (m < e .moment))
 
-  pub apart-apply : (c : ℕ → ℕ) (m j : ℕ) → c (cell e) ≡ v → e .moment ≤ m → Apart m j → c j ≡ apply c (e .call .op) j
-  apart-apply c m j q p (inl h) = sym (apply-still c (e .call .op) (rw q h) j)
-  apart-apply c m j q p (inr (inl h)) = sym (apply-off c (e .call .op) j h)
-  apart-apply c m j q p (inr (inr h)) = absurd (omega arith)
+  apart-unmoved : (m j : ℕ) → e .moment ≤ m → Apart m j → Unmoved j
+  apart-unmoved m j p (inl h) = inl h
+  apart-unmoved m j p (inr (inl h)) = inr h
+  apart-unmoved m j p (inr (inr h)) = absurd (omega arith)
 
   -- the point put in at the head
   at-head : (c : ℕ → ℕ) (l : List Point) (m j w : ℕ) → c (cell e) ≡ v → Past (e .moment) l → Apart m j → At m j c l w → At m j c (e ∷ l) w
@@ -186,7 +188,7 @@ module _ (e : Point) (v : ℕ) where
       first (x ∷ l) p h (inl r) = r .1
       first (x ∷ l) p h (inr r) = absurd (omega (arith, p x (inl refl), r .0))
       go : (e .moment ≤ m) ⊎ (m < e .moment) → At m j c (e ∷ l) w
-      go (inl h) = inr (h, at-agree m j c (apply c (e .call .op)) l w (apart-apply c m j q h a) r)
+      go (inl h) = inr (h, at-agree m j c (apply c (e .call .op)) l w (unmoved c j q (apart-unmoved m j h a)) r)
       go (inr h) = inl (past h, first l p h r)
 
   pub place-at : (c : ℕ → ℕ) (l : List Point) (d : At (e .moment) (cell e) c l v) (m j w : ℕ) → Apart m j → At m j c l w → At m j c (place e v c l d) w
@@ -199,11 +201,9 @@ module _ (e : Point) (v : ℕ) where
       past x (inr p) = r .0 x p
   place-at c (y ∷ l) (inr h) m j w a (inr r) = inr (r .0, place-at (apply c (y .call .op)) l (h .1) m j w a (r .1))
 
-  pub place-final-other : (c : ℕ → ℕ) (l : List Point) (d : At (e .moment) (cell e) c l v) (j : ℕ) → (after v (e .call .op) ≡ v) ⊎ (j ≢ cell e) → final c (place e v c l d) j ≡ final c l j
-  place-final-other c [] d j (inl h) = apply-still c (e .call .op) (rw d h) j
-  place-final-other c [] d j (inr h) = apply-off c (e .call .op) j h
-  place-final-other c (y ∷ l) (inl d) j (inl h) = final-agree (apply c (e .call .op)) c (y ∷ l) j (apply-still c (e .call .op) (rw (d .1) h) j)
-  place-final-other c (y ∷ l) (inl d) j (inr h) = final-agree (apply c (e .call .op)) c (y ∷ l) j (apply-off c (e .call .op) j h)
+  pub place-final-other : (c : ℕ → ℕ) (l : List Point) (d : At (e .moment) (cell e) c l v) (j : ℕ) → Unmoved j → final c (place e v c l d) j ≡ final c l j
+  place-final-other c [] d j h = sym (unmoved c j d h)
+  place-final-other c (y ∷ l) (inl d) j h = sym (final-agree c (apply c (e .call .op)) (y ∷ l) j (unmoved c j (d .1) h))
   place-final-other c (y ∷ l) (inr d) j h = place-final-other (apply c (y .call .op)) l (d .1) j h
 
   pub place-final-same : (c : ℕ → ℕ) (l : List Point) (d : At (e .moment) (cell e) c l v) → ((x : Point) → x ∈ l → e .moment < x .moment → cell x ≢ cell e) →
