@@ -5,3 +5,4 @@ pub mod MovesOne
 pub mod Counts
 pub mod Points
 pub mod Kept
+pub mod Moves
