@@ -51,7 +51,7 @@ pub record Seen (values : ℕ → ℕ) (l : List Point) (firm : ℕ → ℕ) (s 
   pub is-firm : moment < firm (cellOf (s .op))
   pub at : At moment (cellOf (s .op)) values l v
 
-placed-on : {slack : ℕ} {b b' : Calls} → MovesOne slack b b' → (x : Point) → Placed b x → Placed b' x
+placed-on : {slack t : ℕ} {b b' : Calls} → MovesOne slack t b b' → (x : Point) → Placed b x → Placed b' x
 placed-on m x p =
     let r = continues m (p .call) (p .end) (p .of-history) in
     record {
@@ -86,13 +86,13 @@ point c m = record { moment = m; call = c .start }
 module _ {values cells : ℕ → ℕ} {phase : ℕ → Phase} {says : ℕ → Option Answer} {b : Calls} {l : List Point} {firm : ℕ → ℕ} (k : Kept values cells phase says b l firm) where
   -- THE CALLS MOVE: what ends must stand there, what begins does not yet
 
-  pub calls-kept : {slack : ℕ} {b' : Calls} (m : MovesOne slack b b') (says' : ℕ → Option Answer) →
+  pub calls-kept : {slack t : ℕ} {b' : Calls} (m : MovesOne slack t b b') (says' : ℕ → Option Answer) →
       ((f : Finished) → f ∈ b' .finished → Stands values l (f .call) (f .answer)) →
       ((u : ℕ) (c d : Call) → b .pending u ≡ some c → b' .pending u ≡ some d → says' u ≡ says u) →
       ((u : ℕ) (d : Call) → b' .pending u ≡ some d → b .pending u ≡ none → says' u ≡ none) →
-      ((c : Call) → b .pending (m .task) ≡ some c → says (m .task) ≡ none → (d : Call) × (b' .pending (m .task) ≡ some d) × Onward c d) →
+      ((c : Call) → b .pending t ≡ some c → says t ≡ none → (d : Call) × (b' .pending t ≡ some d) × Onward c d) →
       Kept values cells phase says' b' l firm
-  calls-kept {b' = b'} m says' answers old new stay = record {
+  calls-kept {t = t} {b' = b'} m says' answers old new stay = record {
       sorted = k .sorted;
       firmed = k .firmed;
       bound = λ j. omega (arith, k .bound j, m .later);
@@ -115,7 +115,7 @@ module _ {values cells : ℕ → ℕ} {phase : ℕ → Phase} {says : ℕ → Op
           let p = k .placed (x .0) (x .1) in
           omega (arith, x .2, p .after-begin, ap (λ (s : Begin). s .at) (p .is), k .firmed (x .0) (x .1), k .bound (cell (x .0)))
       lates : (j u : ℕ) → Late b says firm j u → Late b' says' firm j u
-      lates j u p = go (either u (m .task))
+      lates j u p = go (either u t)
         where
           onto : (d : Call) → b' .pending u ≡ some d → Onward (p .call) d → Late b' says' firm j u
           onto d h o = record {
@@ -126,7 +126,7 @@ module _ {values cells : ℕ → ℕ} {phase : ℕ → Phase} {says : ℕ → Op
               stepped = omega (arith, p .stepped, o .last);
               untold = old u (p .call) d (p .busy) h ∙ p .untold
             }
-          go : (u ≡ m .task) ⊎ (u ≢ m .task) → Late b' says' firm j u
+          go : (u ≡ t) ⊎ (u ≢ t) → Late b' says' firm j u
           go (inl e) = let s = stay (p .call) (rw e at (p .busy)) (rw e at (p .untold)) in onto (s .0) (rw e (s .1)) (s .2)
           go (inr n) = onto (p .call) (m .others u n ∙ p .busy) (record { start = refl; last = omega arith })
 

@@ -6,3 +6,4 @@ pub mod Counts
 pub mod Points
 pub mod Kept
 pub mod Moves
+pub mod Linearize

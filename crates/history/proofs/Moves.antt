@@ -56,8 +56,8 @@ module _ {values : ℕ → ℕ} (g : Ghost) {b : Calls} {l : List Point} {firm :
   pub phase-onto : (phase : ℕ → Phase) → Lates phase → Onto values (record { cells = g .cells; told = g .told; phase = phase }) b l firm
   phase-onto phase lates = record { points = l; kept = phases-kept k phase lates; seen = seen-up (up phase) }
 
-  -- the value of a cell now is its value at every moment from the firm one on
-  pub value-now : (j m : ℕ) → firm j ≤ m → At m j values l (g .cells j)
+  -- the value of a cell now is its value at every moment behind which nothing stands
+  pub value-now : (j m : ℕ) → firm j ≤ suc m → At m j values l (g .cells j)
   value-now j m h = subst (λ v. At m j values l v) (k .ends j) (at-final m j values l (k .sorted) (λ x i e. omega (arith, k .firmed x i, ap firm e)))
 
   -- task u's swap takes effect at the moment m, and its cell is settled
@@ -78,7 +78,7 @@ module _ {values : ℕ → ℕ} (g : Ghost) {b : Calls} {l : List Point} {firm :
       k2 : Kept values (g .cells) phase (saying g) b l (raise phase firm (b .now))
       k2 = phases-kept k phase lates
       d : At m (cell-of c) values l v
-      d = value-now (cell-of c) m firm≤
+      d = value-now (cell-of c) m (omega arith)
       last : (x : Point) → x ∈ l → m < x .moment → cell x ≢ cell-of c
       last x i h q = omega (arith, k .firmed x i, ap firm q)
       own : cond (upd (g .told) u true u) (some Yes) none ≡ some (reply v (c .start .op))

@@ -31,27 +31,27 @@ pub record Dated (b : Calls) : Type 0 where
 abbrev pub From : Calls → ℕ → Call → Type 0
 From b t d = ((c : Call) × (b .pending t ≡ some c) × Onward c d) ⊎ ((b .pending t ≡ none) × (d .start .at ≡ b .now))
 
-pub record MovesOne (slack : ℕ) (b b' : Calls) : Type 0 where
-  pub task : ℕ
+-- only task t's call moves
+pub record MovesOne (slack t : ℕ) (b b' : Calls) : Type 0 where
   pub later : b .now ≤ b' .now
-  pub others : (u : ℕ) → u ≢ task → b' .pending u ≡ b .pending u
+  pub others : (u : ℕ) → u ≢ t → b' .pending u ≡ b .pending u
   pub kept : (f : Finished) → f ∈ b .finished → f ∈ b' .finished
-  pub on : (c : Call) → b .pending task ≡ some c → (d : Call) × (m : ℕ) × CallOf b' d m × Onward c d × (b .now ≤ slack + m)
-  pub from : (d : Call) → b' .pending task ≡ some d → (d .start .at < b' .now) × (d .last < b' .now) × From b task d
+  pub on : (c : Call) → b .pending t ≡ some c → (d : Call) × (m : ℕ) × CallOf b' d m × Onward c d × (b .now ≤ slack + m)
+  pub from : (d : Call) → b' .pending t ≡ some d → (d .start .at < b' .now) × (d .last < b' .now) × From b t d
 
-module _ {slack : ℕ} {b b' : Calls} (m : MovesOne slack b b') where
+module _ {slack t : ℕ} {b b' : Calls} (m : MovesOne slack t b b') where
   pub continues : Continues slack b b'
   continues c n (finished f i) = (f .call, f .call .last, finished f (m .kept f i), stays (f .call), omega arith)
-  continues c n (pending u d h) = go (either u (m .task))
+  continues c n (pending u d h) = go (either u t)
     where
-      go : (u ≡ m .task) ⊎ (u ≢ m .task) → (d : Call) × (k : ℕ) × CallOf b' d k × Onward c d × (b .now ≤ slack + k)
+      go : (u ≡ t) ⊎ (u ≢ t) → (d : Call) × (k : ℕ) × CallOf b' d k × Onward c d × (b .now ≤ slack + k)
       go (inl e) = m .on c (subst (λ n. b .pending n ≡ some c) e h)
       go (inr n) = (c, b' .now, pending u c (m .others u n ∙ h), stays c, omega (arith, m .later))
 
   pub from-where : (u : ℕ) (d : Call) → b' .pending u ≡ some d → From b u d
-  from-where u d h = go (either u (m .task))
+  from-where u d h = go (either u t)
     where
-      go : (u ≡ m .task) ⊎ (u ≢ m .task) → From b u d
+      go : (u ≡ t) ⊎ (u ≢ t) → From b u d
       go (inl e) = subst (λ n. From b n d) (sym e) (m .from d (subst (λ n. b' .pending n ≡ some d) e h) .2)
       go (inr n) = inl (d, sym (m .others u n) ∙ h, stays d)
 
@@ -67,9 +67,9 @@ module _ {slack : ℕ} {b b' : Calls} (m : MovesOne slack b b') where
   dated-on k = record { past = past; distinct = distinct }
     where
       past : (u : ℕ) (d : Call) → b' .pending u ≡ some d → (d .start .at < b' .now) × (d .last < b' .now)
-      past u d h = go (either u (m .task))
+      past u d h = go (either u t)
         where
-          go : (u ≡ m .task) ⊎ (u ≢ m .task) → (d .start .at < b' .now) × (d .last < b' .now)
+          go : (u ≡ t) ⊎ (u ≢ t) → (d .start .at < b' .now) × (d .last < b' .now)
           go (inl e) = let p = m .from d (subst (λ n. b' .pending n ≡ some d) e h) in (p .0, p .1)
           go (inr n) = omega (arith, k .past u d (sym (m .others u n) ∙ h), m .later)
       distinct : (u w : ℕ) (d e : Call) → b' .pending u ≡ some d → b' .pending w ≡ some e → d .start .at ≡ e .start .at → u ≡ w
@@ -77,10 +77,10 @@ module _ {slack : ℕ} {b b' : Calls} (m : MovesOne slack b b') where
         where
           moment : {c d : Call} → Onward c d → c .start .at ≡ d .start .at
           moment o = ap (λ (s : Begin). s .at) (o .start)
-          only : (w : ℕ) (e : Call) → b' .pending w ≡ some e → b .pending w ≡ none → w ≡ m .task
-          only w e i n = one (either w (m .task))
+          only : (w : ℕ) (e : Call) → b' .pending w ≡ some e → b .pending w ≡ none → w ≡ t
+          only w e i n = one (either w t)
             where
-              one : (w ≡ m .task) ⊎ (w ≢ m .task) → w ≡ m .task
+              one : (w ≡ t) ⊎ (w ≢ t) → w ≡ t
               one (inl z) = z
               one (inr z) = absurd (clash n (sym (m .others w z) ∙ i))
           go : From b u d → From b w e → u ≡ w
@@ -91,6 +91,10 @@ module _ {slack : ℕ} {b b' : Calls} (m : MovesOne slack b b') where
 
 -- WHAT THE ACTIONS MOVE
 
+abbrev pub taskOf : Action → ℕ
+taskOf (begin t op) = t
+taskOf (step t) = t
+
 module _ (b : Calls) (dated : Dated b) where
   -- a call becomes longer by a step
   module _ (t x : ℕ) (c : Call) (busy : b .pending t ≡ some c) where
@@ -100,9 +104,8 @@ module _ (b : Calls) (dated : Dated b) where
     pub going-pending : enter b (step t) (going x) .pending t ≡ some (advance b x c)
     going-pending = upd-same (b .pending) t (advanced b x (b .pending t)) ∙ ap (advanced b x) busy
 
-    pub goes-on : MovesOne 0 b (enter b (step t) (going x))
+    pub goes-on : MovesOne 0 t b (enter b (step t) (going x))
     goes-on = record {
-        task = t;
         later = omega arith;
         others = upd-off (b .pending) t (advanced b x (b .pending t));
         kept = λ f i. i;
@@ -126,9 +129,8 @@ module _ (b : Calls) (dated : Dated b) where
       ended-kept : (f : Finished) → f ∈ b .finished → f ∈ enter b (step t) (answered x a n h) .finished
       ended-kept f i = rw ended-finished (inr i)
 
-      pub ends-on : MovesOne 0 b (enter b (step t) (answered x a n h))
+      pub ends-on : MovesOne 0 t b (enter b (step t) (answered x a n h))
       ends-on = record {
-          task = t;
           later = omega arith;
           others = upd-off (b .pending) t none;
           kept = ended-kept;
@@ -137,9 +139,8 @@ module _ (b : Calls) (dated : Dated b) where
         }
 
       -- the last step as one more step after which the call leaves
-      pub leaves : MovesOne 1 (enter b (step t) (going x)) (enter b (step t) (answered x a n h))
+      pub leaves : MovesOne 1 t (enter b (step t) (going x)) (enter b (step t) (answered x a n h))
       leaves = record {
-          task = t;
           later = omega arith;
           others = λ u q. upd-off (b .pending) t none u q ∙ sym (upd-off (b .pending) t (advanced b x (b .pending t)) u q);
           kept = ended-kept;
@@ -147,9 +148,8 @@ module _ (b : Calls) (dated : Dated b) where
           from = λ d i. absurd (ended-idle d i)
         }
 
-  pub starts-on : (t : ℕ) (op : Op) → b .pending t ≡ none → MovesOne 0 b (enter b (begin t op) begun)
+  pub starts-on : (t : ℕ) (op : Op) → b .pending t ≡ none → MovesOne 0 t b (enter b (begin t op) begun)
   starts-on t op idle = record {
-      task = t;
       later = omega arith;
       others = upd-off (b .pending) t (some (called b t op));
       kept = λ f i. i;
@@ -157,18 +157,17 @@ module _ (b : Calls) (dated : Dated b) where
       from = λ d h. rw (some-inj h (upd-same (b .pending) t (some (called b t op)))) (omega arith, omega arith, inr (idle, refl))
     }
 
-  pub passes-on : MovesOne 0 b (enter b (step 0) (refused 0))
-  passes-on = record {
-      task = 0;
+  pub passes-on : (t : ℕ) → MovesOne 0 t b (enter b (step t) (refused 0))
+  passes-on t = record {
       later = omega arith;
       others = λ u q. refl;
       kept = λ f i. i;
-      on = λ c h. (c, suc (b .now), pending 0 c h, stays c, omega arith);
-      from = λ d h. let p = dated .past 0 d h in (omega arith, omega arith, inl (d, h, stays d))
+      on = λ c h. (c, suc (b .now), pending t c h, stays c, omega arith);
+      from = λ d h. let p = dated .past t d h in (omega arith, omega arith, inl (d, h, stays d))
     }
 
-  pub moves-one : {S : Type 0} {s s' : S} {a : Action} {e : Event} → Change s s' b a e → MovesOne 0 b (enter b a e)
-  moves-one (refuses q) = passes-on
+  pub moves-one : {S : Type 0} {s s' : S} {a : Action} {e : Event} → Change s s' b a e → MovesOne 0 (taskOf a) b (enter b a e)
+  moves-one (refuses {a} q) = passes-on (taskOf a)
   moves-one (starts {t} {op} idle) = starts-on t op idle
   moves-one (goes {t} {x} c busy) = goes-on t x c busy
   moves-one (ends {t} {x} {a} {n} {h} c busy p q r) = ends-on t x c busy a n h

@@ -1,0 +1,127 @@
+-- A linearization from a forward simulation: what each action makes of it, with what the pending calls have seen.
+use mathlib.Core.Path.{_≡_, refl, sym, ap, _∙_, subst}
+use mathlib.Core.Logic.{_≢_, _⊎_, inl, inr}
+use mathlib.Core.Bool.{Bool, true, false, not, cond}
+use mathlib.Core.Option.{Option, none, some}
+use mathlib.Core.List.{List, [], _∷_}
+use Prim.Native.Nat.{ℕ, suc, _≤_, _<_}
+use native.Mathlib.Omega.{arith}
+use lib.Dec.{T}
+use Rattle.history.specs.Basics.{upd, _∈_}
+use Rattle.history.specs.History.{Op, cellOf, Action, begin, step, Event, refused, begun, going, answered, Answer, Yes, Begin, Call, Finished, Calls, noCalls, called, advance, enter}
+use Rattle.history.specs.Linearization.{reply, after, Point, Linearizes}
+use Rattle.history.proofs.Basics.{either, upd-same, upd-off}
+use Rattle.history.proofs.Simulation.{Phase, settled, late, Ghost, fresh, Knowledge, Move, still, act, shift, untold, Tally, May, Grown, Keeps, Moves, Why, acts, acted, observes, Answers, Forward, Simulation}
+use Rattle.history.proofs.Tracks.{clash, some-inj, tallied, call-of, Tracks, Change, refuses, starts, goes, ends}
+use Rattle.history.proofs.MovesOne.{Onward, Dated, MovesOne, same-begin, dated-on, going-pending, steps-on, goes-on, last-one, ended-finished, ended-idle, leaves, starts-on, passes-on, moves-one}
+use Rattle.history.proofs.Points.{place, place-final-other}
+use Rattle.history.proofs.Kept.{Stands, Kept, Seen, raise, raise-up, point, calls-kept, phases-kept, point-kept, point-seen}
+use Rattle.history.proofs.Moves.{saying, says-none, says-yes, cell-of, Onto, phase-onto, value-now, move-onto}
+
+abbrev pub knows : (ℕ → ℕ) → Calls → List Point → (ℕ → ℕ) → Knowledge
+knows values b l firm = record {
+    saw = λ u v. (c : Call) × (b .pending u ≡ some c) × Seen values l firm (c .start) v;
+    early = λ u. (c : Call) × (b .pending u ≡ some c) × (c .start .at < firm (cell-of c))
+  }
+
+module _ {values : ℕ → ℕ} (g : Ghost) {b : Calls} {l : List Point} {firm : ℕ → ℕ} (k : Kept values (g .cells) (g .phase) (saying g) b l firm) (dated : Dated b) where
+  -- WHAT A REFUSAL AND A BEGIN MAKE OF IT
+
+  pass-onto : Onto values g (enter b (step 0) (refused 0)) l firm
+  pass-onto =
+      let k1 = calls-kept k (passes-on b dated 0) (saying g) (k .answers) (λ u c d h i. refl) (λ u d h i. absurd (clash i h)) (λ c h q. (c, h, record { start = refl; last = omega arith })) in
+      phase-onto g k1 (g .phase) (k1 .lates)
+
+  start-onto : (t : ℕ) (op : Op) → b .pending t ≡ none → Onto values (untold g t) (enter b (begin t op) begun) l firm
+  start-onto t op idle = phase-onto (untold g t) k1 (g .phase) (k1 .lates)
+    where
+      m : MovesOne 0 t b (enter b (begin t op) begun)
+      m = starts-on b dated t op idle
+      old : (u : ℕ) (c d : Call) → b .pending u ≡ some c → enter b (begin t op) begun .pending u ≡ some d → saying (untold g t) u ≡ saying g u
+      old u c d h i = rw (upd-off (g .told) t false u (λ q. clash idle (rw q at h)))
+      new : (u : ℕ) (d : Call) → enter b (begin t op) begun .pending u ≡ some d → b .pending u ≡ none → saying (untold g t) u ≡ none
+      new u d h i = go (either u t)
+        where
+          go : (u ≡ t) ⊎ (u ≢ t) → saying (untold g t) u ≡ none
+          go (inl q) = rw (q, upd-same (g .told) t false)
+          go (inr n) = absurd (clash i (sym (m .others u n) ∙ h))
+      k1 : Kept values (g .cells) (g .phase) (saying (untold g t)) (enter b (begin t op) begun) l firm
+      k1 = calls-kept k m (saying (untold g t)) (k .answers) old new (λ c h q. absurd (clash idle h))
+
+  -- WHAT A STEP MAKES OF IT
+
+  module _ {S : Type 0} (doing : S → ℕ → Option Tally) (s : S) (same : Tracks doing s b) (t x : ℕ) (c : Call) (busy : b .pending t ≡ some c) where
+    abbrev stepped : Calls
+    stepped = enter b (step t) (going x)
+
+    stepped-dated : Dated stepped
+    stepped-dated = dated-on (goes-on b dated t x c busy) dated
+
+    stepped-kept : Kept values (g .cells) (g .phase) (saying g) stepped l firm
+    stepped-kept = calls-kept k (goes-on b dated t x c busy) (saying g) (k .answers) (λ u c d h i. refl) new
+        (λ e h q. (advance b x c, going-pending b dated t x c busy, rw (some-inj h busy) (steps-on b dated t x c busy)))
+      where
+        new : (u : ℕ) (d : Call) → stepped .pending u ≡ some d → b .pending u ≡ none → saying g u ≡ none
+        new u d h i = absurd (clash i (sym (goes-on b dated t x c busy .others u (λ q. clash (rw q at i) busy)) ∙ h))
+
+    pub go-onto : (mv : Move) → May doing s g (knows values b l firm) t (c .start .op) mv → Onto values (shift g t (c .start .op) mv) stepped l firm
+    go-onto = move-onto g stepped-kept stepped-dated t (advance b x c) (b .now) (going-pending b dated t x c busy) refl refl (dated .past t c busy .0) (k .bound)
+        doing s (knows values b l firm) (λ p. subst (λ (c : Call). c .start .at < firm (cell-of c)) (some-inj (p .1) busy) (p .2)) ops
+      where
+        ops : (u : ℕ) (n : Tally) (d : Call) → doing s u ≡ some n → stepped .pending u ≡ some d → d .start .op ≡ n .op
+        ops u n d h i =
+            let e = call-of (b .pending u) n (sym (same u) ∙ h) in
+            let q = same-begin (goes-on b dated t x c busy) u (e .0) d (e .1) i in
+            cc (e .2)
+
+    module _ (a : Answer) (n h : ℕ) where
+      abbrev ended : Calls
+      ended = enter b (step t) (answered x a n h)
+
+      -- the stepper's call, which stands there with the answer a, leaves
+      leave-kept : (g' : Ghost) (l' : List Point) (firm' : ℕ → ℕ) (says : ℕ → Option Answer) → Kept values (g' .cells) (g' .phase) says stepped l' firm' → says t ≡ some a →
+          ((u : ℕ) → u ≢ t → saying g' u ≡ says u) → Kept values (g' .cells) (g' .phase) (saying g') ended l' firm'
+      leave-kept g' l' firm' says k1 own others = calls-kept k1 m (saying g') (λ f i. answers f (rw (ended-finished b dated t x c busy a n h) at i)) (λ u d e i j. others u (off u e j))
+          (λ u e j i. absurd (clash i (sym (m .others u (off u e j)) ∙ j))) (λ d i q. absurd (clash q own))
+        where
+          m : MovesOne 1 t stepped ended
+          m = leaves b dated t x c busy a n h
+          off : (u : ℕ) (d : Call) → ended .pending u ≡ some d → u ≢ t
+          off u d i q = ended-idle b dated t x c busy a n h d (rw q at i)
+          answers : (f : Finished) → f ∈ (last-one b dated t x c busy a n h ∷ b .finished) → Stands values l' (f .call) (f .answer)
+          answers f (inl e) = rw e (k1 .stands t (advance b x c) a (going-pending b dated t x c busy) own)
+          answers f (inr i) = k1 .answers f i
+
+      leave-onto : (g' : Ghost) → Onto values g' stepped l firm → saying g' t ≡ some a → Onto values g' ended l firm
+      leave-onto g' o own = record { points = o .points; kept = leave-kept g' (o .points) (raise (g' .phase) firm (suc (b .now))) (saying g') (o .kept) own (λ u q. refl); seen = o .seen }
+
+      -- it stands there where it saw what it answers
+      observe-onto : (v : ℕ) → Seen values l firm (c .start) v → reply v (c .start .op) ≡ a → after v (c .start .op) ≡ v → saying g t ≡ none → g .phase (cell-of c) ≢ late t →
+          Onto values g ended l firm
+      observe-onto v p says calm untold unlate = record {
+          points = place (point (advance b x c) (p .moment)) v values l (p .at);
+          kept = leave-kept g (place (point (advance b x c) (p .moment)) v values l (p .at)) firm' (upd (saying g) t (some a))
+            (point-kept k2 stepped-dated t (advance b x c) (going-pending b dated t x c busy) untold (p .moment) v (p .after-begin) lasts (p .at) (g .cells) (upd (saying g) t (some a))
+              (inl calm) (rw says (upd-same (saying g) t (some a))) (upd-off (saying g) t (some a))
+              (λ j. place-final-other (point c (p .moment)) v values l (p .at) j (inl calm) ∙ k .ends j) (omega (arith, p .is-firm, up (cell-of c))) unlates)
+            (upd-same (saying g) t (some a)) (λ u q. sym (upd-off (saying g) t (some a) u q));
+          seen = point-seen k2 stepped-dated t (advance b x c) (going-pending b dated t x c busy) untold (p .moment) v (p .after-begin) lasts (p .at) firm up (inl calm) _ _
+        }
+        where
+          firm' : ℕ → ℕ
+          firm' = raise (g .phase) firm (suc (b .now))
+          up : (j : ℕ) → firm j ≤ firm' j
+          up j = raise-up (g .phase) firm (suc (b .now)) j (stepped-kept .bound j) .0
+          k2 : Kept values (g .cells) (g .phase) (saying g) stepped l firm'
+          k2 = phases-kept stepped-kept (g .phase) (stepped-kept .lates)
+          lasts : p .moment ≤ b .now
+          lasts = omega (arith, p .is-firm, k .bound (cell-of c))
+          unlates : (j : ℕ) → g .phase j ≢ late t
+          unlates j i = let q = k .lates j t i in unlate (rw (ap cell-of (some-inj busy (q .busy)) ∙ q .on) i)
+
+      pub end-onto : (Inv : S → Ghost → Knowledge → Type 0) (mv : Move) → May doing s g (knows values b l firm) t (c .start .op) mv →
+          Why doing Inv g (knows values b l firm) t (c .start .op) a mv → Onto values (shift g t (c .start .op) mv) ended l firm
+      end-onto Inv act may (acts e) = leave-onto (shift g t (c .start .op) act) (go-onto act may) (rw (upd-same (g .told) t true, e))
+      end-onto Inv still may (acted p e) = leave-onto g (go-onto still may) (says-yes (g .told t) p ∙ ap some (sym e))
+      end-onto Inv still may (observes v p r q untold unlate) =
+          observe-onto v (subst (λ (c : Call). Seen values l firm (c .start) v) (some-inj (p .1) busy) (p .2)) r q (says-none (g .told t) untold) unlate
