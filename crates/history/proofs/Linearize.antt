@@ -12,11 +12,11 @@ use Rattle.history.specs.History.{Op, cellOf, Action, begin, step, Event
 use Rattle.history.specs.Linearization.{reply, after, Point, Linearizes}
 use Rattle.history.proofs.Basics.{either, upd-same, upd-off}
 use Rattle.history.proofs.Simulation.{Phase, settled, late, Ghost, fresh, Knowledge, Move, still, act, shift, untold, Tally, May, Grown, Keeps, Moves, Why, acts, acted, observes, Answers, Forward, Simulation}
-use Rattle.history.proofs.Tracks.{clash, some-inj, tallied, call-of, Tracks, Change, refuses, starts, goes, ends}
-use Rattle.history.proofs.MovesOne.{Onward, Dated, MovesOne, same-begin, dated-on, going-pending, steps-on, goes-on, last-one, ended-finished, ended-idle, leaves, starts-on, passes-on, moves-one}
-use Rattle.history.proofs.Points.{place, place-final-other}
+use Rattle.history.proofs.Tracks.{clash, some-inj, tallied, tallyOf, call-of, Tracks, Change, refuses, starts, goes, ends}
+use Rattle.history.proofs.MovesOne.{Onward, Dated, MovesOne, same-begin, dated-on, going-pending, steps-on, goes-on, last-one, ended-finished, ended-idle, ends-on, leaves, starts-on, passes-on}
+use Rattle.history.proofs.Points.{At, place, place-final-other}
 use Rattle.history.proofs.Kept.{Stands, Kept, Seen, raise, raise-up, point, calls-kept, phases-kept, point-kept, point-seen}
-use Rattle.history.proofs.Moves.{saying, says-none, says-yes, cell-of, Onto, phase-onto, value-now, move-onto}
+use Rattle.history.proofs.Moves.{saying, says-none, says-yes, cell-of, settled-late, Onto, phase-onto, value-now, move-onto}
 
 abbrev pub knows : (ℕ → ℕ) → Calls → List Point → (ℕ → ℕ) → Knowledge
 knows values b l firm = record {
@@ -125,3 +125,105 @@ module _ {values : ℕ → ℕ} (g : Ghost) {b : Calls} {l : List Point} {firm :
       end-onto Inv still may (acted p e) = leave-onto g (go-onto still may) (says-yes (g .told t) p ∙ ap some (sym e))
       end-onto Inv still may (observes v p r q untold unlate) =
           observe-onto v (subst (λ (c : Call). Seen values l firm (c .start) v) (some-inj (p .1) busy) (p .2)) r q (says-none (g .told t) untold) unlate
+
+module _ {S : Type 0} {machine : S → Action → S × Event} {start : S} {active : S → ℕ → Type 0} {size : ℕ} {values : ℕ → ℕ} (M : Simulation machine start active size values) where
+  -- the machine's invariant holds, with the knowledge that the linearization gives
+  pub record Simulated (s : S) (b : Calls) : Type 1 where
+    pub ghost : Ghost
+    pub points : List Point
+    pub firm : ℕ → ℕ
+    pub inv : M .Inv s ghost (knows values b points firm)
+    pub kept : Kept values (ghost .cells) (ghost .phase) (saying ghost) b points firm
+
+  pub simulated-start : Simulated start noCalls
+  simulated-start = record {
+      ghost = fresh values;
+      points = [];
+      firm = λ k. 0;
+      inv = M .opened (knows values noCalls [] (λ k. 0));
+      kept = record {
+        sorted = tt;
+        firmed = λ x i. absurd i;
+        bound = λ k. omega arith;
+        ends = λ k. refl;
+        placed = λ x i. absurd i;
+        once = tt;
+        answers = λ f i. absurd i;
+        stands = λ t c a h q. absurd (clash refl h);
+        absent = λ t c h q i. i;
+        lates = λ k u h. settled-late refl h
+      }
+    }
+
+  pub linearized : {s : S} {b : Calls} (G : Simulated s b) → Linearizes values b (G .points)
+  linearized G = record { sorted = G .kept .sorted; placed = G .kept .placed; once = G .kept .once; answers = G .kept .answers }
+
+  module _ (s s' : S) (b : Calls) (G : Simulated s b) (same : Tracks (M .doing) s b) (dated : Dated b) where
+    abbrev known : Knowledge
+    known = knows values b (G .points) (G .firm)
+
+    -- the move that the machine's proof names, of the call that the history has
+    is : (t : ℕ) (c : Call) → b .pending t ≡ some c → (v : Moves (M .doing) (M .Inv) s s' (G .ghost) known t) → v .now ≡ tallied c
+    is t c busy v = some-inj (v .was) (same t ∙ ap tallyOf busy)
+
+    own : (t : ℕ) (c : Call) → b .pending t ≡ some c → (v : Moves (M .doing) (M .Inv) s s' (G .ghost) known t) →
+        May (M .doing) s (G .ghost) known t (c .start .op) (v .move) × Keeps (M .doing) (M .Inv) s s' (shift (G .ghost) t (c .start .op) (v .move)) known
+    own t c busy v = subst (λ (n : Tally). May (M .doing) s (G .ghost) known t (n .op) (v .move) × Keeps (M .doing) (M .Inv) s s' (shift (G .ghost) t (n .op) (v .move)) known)
+        (is t c busy v) (v .may, v .keeps)
+
+    -- what was known is known after an action, and in settled cells the value now
+    finish : {t : ℕ} (b' : Calls) (m : MovesOne 0 t b b') → b' .now ≡ suc (b .now) → Tracks (M .doing) s' b' → (g' : Ghost) (o : Onto values g' b' (G .points) (G .firm)) →
+        Keeps (M .doing) (M .Inv) s s' g' known → Simulated s' b'
+    finish b' m now same' g' o keeps = record {
+        ghost = g';
+        points = o .points;
+        firm = firm';
+        inv = keeps (knows values b' (o .points) firm') (record { saw = saw; early = early; sees = sees; fresh-early = fresh-early });
+        kept = o .kept
+      }
+      where
+        firm' : ℕ → ℕ
+        firm' = raise (g' .phase) (G .firm) (b' .now)
+        at : (u : ℕ) (n : Tally) → M .doing s' u ≡ some n → (d : Call) × (b' .pending u ≡ some d) × (tallied d ≡ n)
+        at u n h = call-of (b' .pending u) n (sym (same' u) ∙ h)
+        saw : (u : ℕ) (n n' : Tally) → M .doing s u ≡ some n → M .doing s' u ≡ some n' → (v : ℕ) → known .saw u v → knows values b' (o .points) firm' .saw u v
+        saw u n n' h h' v (c, i, p) =
+            let d = at u n' h' in
+            (d .0, d .1, subst (λ (s : Begin). Seen values (o .points) firm' s v) (same-begin m u c (d .0) i (d .1)) (o .seen p))
+        early : (u : ℕ) (n n' : Tally) → M .doing s u ≡ some n → M .doing s' u ≡ some n' → known .early u → knows values b' (o .points) firm' .early u
+        early u n n' h h' (c, i, p) =
+            let d = at u n' h' in
+            (d .0, d .1, subst (λ (s : Begin). s .at < firm' (cellOf (s .op))) (same-begin m u c (d .0) i (d .1))
+              (omega (arith, raise-up (g' .phase) (G .firm) (b' .now) (cell-of c) (omega (arith, G .kept .bound (cell-of c))))))
+        sees : (u : ℕ) (n n' : Tally) → M .doing s u ≡ some n → M .doing s' u ≡ some n' → g' .phase (cellOf (n' .op)) ≡ settled → knows values b' (o .points) firm' .saw u (g' .cells (cellOf (n' .op)))
+        sees u n n' h h' f =
+            let c = call-of (b .pending u) n (sym (same u) ∙ h) in
+            let d = at u n' h' in
+            let q = ap (λ (s : Begin). s .at) (same-begin m u (c .0) (d .0) (c .1) (d .1)) in
+            let e = ap (λ (n : Tally). cellOf (n .op)) (d .2) in
+            (d .0, d .1, record {
+              moment = b .now;
+              after-begin = omega (arith, dated .past u (c .0) (c .1) .0);
+              is-firm = rw (e, f) (omega arith);
+              at = subst (λ j. At (b .now) (cell-of (d .0)) values (o .points) (g' .cells j)) e (value-now g' (o .kept) (cell-of (d .0)) (b .now) (omega (arith, o .kept .bound (cell-of (d .0)))))
+            })
+        fresh-early : (u : ℕ) (n' : Tally) → M .doing s' u ≡ some n' → g' .phase (cellOf (n' .op)) ≡ settled → knows values b' (o .points) firm' .early u
+        fresh-early u n' h' f =
+            let d = at u n' h' in
+            let e = ap (λ (n : Tally). cellOf (n .op)) (d .2) in
+            (d .0, d .1, rw (e, f) (dated-on m dated .past u (d .0) (d .1) .0))
+
+    pub simulated-next : {a : Action} {e : Event} → Change s s' b a e → Tracks (M .doing) s' (enter b a e) → Forward (M .doing) (M .Inv) s (G .ghost) known a s' e → Simulated s' (enter b a e)
+    simulated-next (refuses q) same' f =
+        finish (enter b (step 0) (refused 0)) (passes-on b dated 0) refl same' (G .ghost) (pass-onto (G .ghost) (G .kept) dated)
+          (rw q (λ κ grown. M .grow s (G .ghost) known κ (G .inv) grown))
+    simulated-next (starts {t} {op} idle) same' f =
+        finish (enter b (begin t op) begun) (starts-on b dated t op idle) refl same' (untold (G .ghost) t) (start-onto (G .ghost) (G .kept) dated t op idle) f
+    simulated-next (goes {t} {x} c busy) same' f =
+        finish (enter b (step t) (going x)) (goes-on b dated t x c busy) refl same' (shift (G .ghost) t (c .start .op) (f .move))
+          (go-onto (G .ghost) (G .kept) dated (M .doing) s same t x c busy (f .move) (own t c busy f .0)) (own t c busy f .1)
+    simulated-next (ends {t} {x} {a} {n} {h} c busy p q r) same' f =
+        finish (enter b (step t) (answered x a n h)) (ends-on b dated t x c busy a n h) refl same' (shift (G .ghost) t (c .start .op) (f .moves .move))
+          (end-onto (G .ghost) (G .kept) dated (M .doing) s same t x c busy a n h (M .Inv) (f .moves .move) (own t c busy (f .moves) .0)
+            (subst (λ (n : Tally). Why (M .doing) (M .Inv) (G .ghost) known t (n .op) a (f .moves .move)) (is t c busy (f .moves)) (f .why)))
+          (own t c busy (f .moves) .1)
