@@ -7,3 +7,4 @@ pub mod Points
 pub mod Kept
 pub mod Moves
 pub mod Linearize
+pub mod NoHardware
