@@ -8,3 +8,4 @@ pub mod Kept
 pub mod Moves
 pub mod Linearize
 pub mod NoHardware
+pub mod Meets
