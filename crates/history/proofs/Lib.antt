@@ -9,3 +9,4 @@ pub mod Moves
 pub mod Linearize
 pub mod NoHardware
 pub mod Meets
+pub mod EndsWithin

@@ -39,15 +39,18 @@ module _ {S : Type 0} {machine : S → Action → S × Event} {start : S} {activ
   within s b G t c h = let m = G .simulated in M .within s (m .ghost) (knows values b (m .points) (m .firm)) (m .inv) t (tallied c) (G .tracks t ∙ ap tallyOf h)
 
   -- refused actions leave the state, so it is the one after the accepted actions
-  reached-next : (s s' : S) (b : Calls) {a : Action} {e : Event} → Change s s' b a e → s' ≡ machine s a .0 → s ≡ run machine start (b .accepted) → s' ≡ run machine start (enter b a e .accepted)
-  reached-next s s' b (refuses q) m r = q ∙ r
-  reached-next s s' b {a} (starts i) m r = m ∙ (ap (λ s. machine s a .0) r ∙ sym (run-snoc machine start (b .accepted) a))
-  reached-next s s' b {a} (goes c i) m r = m ∙ (ap (λ s. machine s a .0) r ∙ sym (run-snoc machine start (b .accepted) a))
-  reached-next s s' b {a} (ends c i p q z) m r = m ∙ (ap (λ s. machine s a .0) r ∙ sym (run-snoc machine start (b .accepted) a))
+  one-more : {s : S} (l : List Action) (a : Action) → s ≡ run machine start l → machine s a .0 ≡ run machine start (l ++ (a ∷ []))
+  one-more l a r = ap (λ s. machine s a .0) r ∙ sym (run-snoc machine start l a)
+
+  reached-next : {s : S} {b : Calls} {a : Action} {e : Event} → Change s (machine s a .0) b a e → s ≡ run machine start (b .accepted) → machine s a .0 ≡ run machine start (enter b a e .accepted)
+  reached-next (refuses q) r = q ∙ r
+  reached-next {b = b} {a = a} (starts i) r = one-more (b .accepted) a r
+  reached-next {b = b} {a = a} (goes c i) r = one-more (b .accepted) a r
+  reached-next {b = b} {a = a} (ends c i p q z) r = one-more (b .accepted) a r
 
   next : (s : S) (b : Calls) (G : Good s b) (a : Action) → Tracked (M .doing) size s (machine s a .0) b a (machine s a .1) → Good (machine s a .0) (enter b a (machine s a .1))
   next s b G a k = record {
-      reached = reached-next s (machine s a .0) b (k .change) refl (G .reached);
+      reached = reached-next (k .change) (G .reached);
       tracks = k .tracks;
       dated = dated-on (moves-one b (G .dated) (k .change)) (G .dated);
       ended = ended-next (G .dated) (within s b G) (G .ended) (k .change);
@@ -67,16 +70,17 @@ module _ {S : Type 0} {machine : S → Action → S × Event} {start : S} {activ
       let r = all (machine s a .0) (enter b a (machine s a .1)) l (next s b G a k) in
       ((k .allowed, r .0), r .1)
 
-  -- a machine with a simulation meets demand 3 at every list of actions: its histories are well-formed, each has a linearization by the
-  -- sequential specification, its calls keep their bounds, and those without contention make no hardware CAS
-  pub meets : Meets machine start (activeAfter machine start active) size values
-  meets l =
-      let r = all start noCalls l good-start in
-      let G = r .1 .1 in
-      record {
-        well-formed = r .0;
-        linearization = G .simulated .points;
-        linearizes = linearized M (G .simulated);
-        bounds = bounds-of (within (r .1 .0) _ G) (G .ended);
-        no-hardware = no-hardware machine start active (M .doing) (M .Quiet) (G .quiet)
-      }
+-- a machine with a simulation meets demand 3 at every list of actions: its histories are well-formed, each has a linearization by the
+-- sequential specification, its calls keep their bounds, and those without contention make no hardware CAS
+pub meets : {S : Type 0} {machine : S → Action → S × Event} {start : S} {active : S → ℕ → Type 0} {size : ℕ} {values : ℕ → ℕ} →
+    Simulation machine start active size values → Meets machine start (activeAfter machine start active) size values
+meets {machine = machine} {start = start} {active = active} M l =
+    let r = all M start noCalls l (good-start M) in
+    let G = r .1 .1 in
+    record {
+      well-formed = r .0;
+      linearization = G .simulated .points;
+      linearizes = linearized M (G .simulated);
+      bounds = bounds-of (within M (r .1 .0) _ G) (G .ended);
+      no-hardware = no-hardware machine start active (M .doing) (M .Quiet) (G .quiet)
+    }
