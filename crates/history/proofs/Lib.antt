@@ -10,3 +10,4 @@ pub mod Linearize
 pub mod NoHardware
 pub mod Meets
 pub mod EndsWithin
+pub mod Examples
