@@ -140,3 +140,89 @@ decided = record { call = decider; answer = No; steps = 7; hard = 1 }
 its-calls : (callsOf late-swap .pending 0 ≡ some halted) × (callsOf late-swap .pending 1 ≡ none) × (callsOf late-swap .finished ≡ decided ∷ []) × (callsOf late-swap .now ≡ 17)
 unfolding upd
 its-calls = (refl, refl, refl, refl)
+
+late-two : TwoCalls (callsOf late-swap) halted decider
+unfolding upd
+late-two = two-calls (callsOf late-swap) halted decider (λ t p q. rw (ne-eqb t 0 p, ne-eqb t 1 q)) (λ e h. some-inj h refl) refl done
+  where
+    done : (f : Finished) → f ∈ (decided ∷ []) → (f .call ≡ halted) ⊎ (f .call ≡ decider)
+    done f (inl q) = inr (ap (λ (f : Finished). f .call) q)
+
+late-done : decided ∈ callsOf late-swap .finished
+unfolding upd
+late-done = inl refl
+
+-- the halted swap may take effect at any of its moments that is not past its last step
+late-linearizes : (m : ℕ) → 0 < m → m ≤ 13 → Linearizes five (callsOf late-swap) (point halted m ∷ point decider 15 ∷ [])
+unfolding upd
+late-linearizes m low high = record { sorted = (first, ((λ x i. absurd i), tt)); placed = placed; once = ((λ i. other i), ((λ i. i), tt)); answers = answers }
+  where
+    first : (x : Point) → x ∈ (point decider 15 ∷ []) → m ≤ x .moment
+    first x (inl q) = rw q (omega arith)
+    other : _∈_ {A = ℕ} 0 (1 ∷ []) → ⊥
+    other (inl q) = omega arith
+    placed : (x : Point) → x ∈ (point halted m ∷ point decider 15 ∷ []) → Placed (callsOf late-swap) x
+    placed x (inl q) = rw q (record { call = halted; end = 17; of-history = pending 0 halted refl; is = refl; after-begin = low; by-last-step = high })
+    placed x (inr (inl q)) = rw q (record { call = decider; end = 16; of-history = finished decided (inl refl); is = refl; after-begin = omega arith; by-last-step = omega arith })
+    answers : (f : Finished) → f ∈ (decided ∷ []) →
+        (e : Point) × (e .call ≡ f .call .start) × (f .call .start .at < e .moment) × (e .moment ≤ f .call .last) × ((e, f .answer) ∈ replies five (point halted m ∷ point decider 15 ∷ []))
+    answers f (inl q) = rw q (point decider 15, refl, omega arith, omega arith, inr (inl refl))
+
+-- RIGHT: at the action that made the block inactive, where the source puts it; and at its own store
+pub late-swap-at-the-freezing : Linearizes five (callsOf late-swap) (point halted 12 ∷ point decider 15 ∷ [])
+late-swap-at-the-freezing = late-linearizes 12 (omega arith) (omega arith)
+
+pub late-swap-at-its-store : Linearizes five (callsOf late-swap) (point halted 13 ∷ point decider 15 ∷ [])
+late-swap-at-its-store = late-linearizes 13 (omega arith) (omega arith)
+
+-- WRONG: the halted swap only at the deciding, or at any other moment after its last step
+pub no-effect-after-the-last-step : (l : List Point) (m : ℕ) → 13 < m → point halted m ∈ l → Linearizes five (callsOf late-swap) l → ⊥
+no-effect-after-the-last-step l m h i r = omega (arith, within-c halted decider late-two r (λ q. omega arith) m i .1)
+
+-- WRONG: the halted swap left out, though the other call saw its value
+pub no-seen-swap-left-out : (l : List Point) → ((x : Point) → x ∈ l → x .call ≢ halted .start) → Linearizes five (callsOf late-swap) l → ⊥
+no-seen-swap-left-out l out r = go l out (must r decided late-done) (shape halted decider late-two r)
+  where
+    go : (l : List Point) → ((x : Point) → x ∈ l → x .call ≢ halted .start) → T (said 1 (replies five l)) → Shape halted decider l → ⊥
+    go l out h neither = h
+    go l out h (only-c m) = out (point halted m) (inl refl) refl
+    go l out h (only-d n) = h
+    go l out h (c-then-d m n) = out (point halted m) (inl refl) refl
+    go l out h (d-then-c n m) = out (point halted m) (inr (inl refl)) refl
+
+-- WRONG: the finished call left out
+pub no-finished-call-left-out : (l : List Point) → ((x : Point) → x ∈ l → x .call ≢ decider .start) → Linearizes five (callsOf late-swap) l → ⊥
+no-finished-call-left-out l out r = go l out (must r decided late-done) (shape halted decider late-two r)
+  where
+    go : (l : List Point) → ((x : Point) → x ∈ l → x .call ≢ decider .start) → T (said 1 (replies five l)) → Shape halted decider l → ⊥
+    go l out h neither = h
+    go l out h (only-c m) = h
+    go l out h (only-d n) = out (point decider n) (inl refl) refl
+    go l out h (c-then-d m n) = out (point decider n) (inr (inl refl)) refl
+    go l out h (d-then-c n m) = out (point decider n) (inl refl) refl
+
+-- WRONG IN EVERY HISTORY: a call twice; a call at its own begin
+
+pub no-call-twice : (values : ℕ → ℕ) (b : Calls) (c : Call) (m n : ℕ) (l : List Point) → Linearizes values b (point c m ∷ point c n ∷ l) → ⊥
+no-call-twice values b c m n l r = r .once .0 (inl refl)
+
+pub no-effect-at-the-begin : (values : ℕ → ℕ) (b : Calls) (l : List Point) (x : Point) → x ∈ l → x .moment ≡ x .call .at → Linearizes values b l → ⊥
+no-effect-at-the-begin values b l x i q r = let p = r .placed x i in omega (arith, p .after-begin, ap (λ (s : Begin). s .at) (p .is))
+
+-- WRONG ANSWERS: no linearization has them
+
+-- a read answers 6, which no cell held
+abbrev odd-read : List (Action × Event)
+odd-read = (begin 0 (read 0), begun) ∷ (step 0, going 0) ∷ (step 0, going 0) ∷ (step 0, answered 0 (Value 6) 3 0) ∷ []
+
+-- two swaps of the value 5 both answer yes
+abbrev two-winners : List (Action × Event)
+two-winners = (begin 0 (swap 0 5 7), begun) ∷ (begin 1 (swap 0 5 9), begun) ∷ (step 0, answered 0 Yes 1 0) ∷ (step 1, answered 0 Yes 1 0) ∷ []
+
+-- a read begins after a swap has ended, and answers the value before it
+abbrev stale-read : List (Action × Event)
+stale-read = (begin 0 (swap 0 5 7), begun) ∷ (step 0, answered 0 Yes 1 0) ∷ (begin 1 (read 0), begun) ∷ (step 1, answered 0 (Value 5) 1 0) ∷ []
+
+-- a swap that is alone answers no
+abbrev lone-no : List (Action × Event)
+lone-no = (begin 0 (swap 0 5 7), begun) ∷ (step 0, answered 0 No 1 0) ∷ []
