@@ -211,18 +211,154 @@ no-effect-at-the-begin values b l x i q r = let p = r .placed x i in omega (arit
 
 -- WRONG ANSWERS: no linearization has them
 
--- a read answers 6, which no cell held
+-- a call of one step or more, finished as reported
+abbrev ended : (begun task : ℕ) → Op → List Action → (last steps hard : ℕ) → Answer → Finished
+ended n t op l last steps hard a = record { call = record { start = record { at = n; task = t; op = op; before = l }; last = last; steps = steps; hard = hard }; answer = a; steps = steps; hard = hard }
+
+-- all calls of the history are finished, and they are f and g
+both-ended : (b : Calls) (f g : Finished) → ((t : ℕ) → t ≢ 0 → t ≢ 1 → b .pending t ≡ none) → b .pending 0 ≡ none → b .pending 1 ≡ none →
+    ((h : Finished) → h ∈ b .finished → (h ≡ f) ⊎ (h ≡ g)) → TwoCalls b (f .call) (g .call)
+both-ended b f g rest at0 at1 all = two-calls b (f .call) (g .call) rest (λ e h. absurd (clash at0 h)) at1 (λ h i. go h (all h i))
+  where
+    go : (h : Finished) → (h ≡ f) ⊎ (h ≡ g) → (h .call ≡ f .call) ⊎ (h .call ≡ g .call)
+    go h (inl q) = inl (ap (λ (f : Finished). f .call) q)
+    go h (inr q) = inr (ap (λ (f : Finished). f .call) q)
+
+one-of : (f : Finished) (h : Finished) → h ∈ (f ∷ []) → (h ≡ f) ⊎ (h ≡ f)
+one-of f h (inl q) = inl q
+
+two-of : (f g : Finished) (h : Finished) → h ∈ (g ∷ f ∷ []) → (h ≡ f) ⊎ (h ≡ g)
+two-of f g h (inl q) = inr q
+two-of f g h (inr (inl q)) = inl q
+
+-- a read answers 6, which its cell never held
 abbrev odd-read : List (Action × Event)
 odd-read = (begin 0 (read 0), begun) ∷ (step 0, going 0) ∷ (step 0, going 0) ∷ (step 0, answered 0 (Value 6) 3 0) ∷ []
+
+abbrev odd : Finished
+odd = ended 0 0 (read 0) [] 3 3 0 (Value 6)
+
+pub no-value-never-held : (l : List Point) → Linearizes five (callsOf odd-read) l → ⊥
+unfolding upd
+no-value-never-held l r = go l (must r odd (inl refl)) (shape (odd .call) (odd .call) (both-ended (callsOf odd-read) odd odd (λ t p q. rw (ne-eqb t 0 p)) refl refl (one-of odd)) r)
+  where
+    go : (l : List Point) → T (said 800 (replies five l)) → Shape (odd .call) (odd .call) l → ⊥
+    go l h neither = h
+    go l h (only-c m) = h
+    go l h (only-d n) = h
+    go l h (c-then-d m n) = h
+    go l h (d-then-c n m) = h
+
+-- a swap that nobody meets answers no, though its cell holds the value that it expects
+abbrev lone-no : List (Action × Event)
+lone-no = (begin 0 (swap 0 5 7), begun) ∷ (step 0, answered 0 No 1 0) ∷ []
+
+abbrev refusal : Finished
+refusal = ended 0 0 (swap 0 5 7) [] 1 1 0 No
+
+pub no-spurious-no : (l : List Point) → Linearizes five (callsOf lone-no) l → ⊥
+unfolding upd
+no-spurious-no l r = go l (must r refusal (inl refl)) (shape (refusal .call) (refusal .call) two r) (r .once)
+  where
+    two : TwoCalls (callsOf lone-no) (refusal .call) (refusal .call)
+    two = both-ended (callsOf lone-no) refusal refusal (λ t p q. rw (ne-eqb t 0 p)) refl refl (one-of refusal)
+    go : (l : List Point) → T (said 0 (replies five l)) → Shape (refusal .call) (refusal .call) l → Once (ats l) → ⊥
+    go l h neither o = h
+    go l h (only-c m) o = h
+    go l h (only-d n) o = h
+    go l h (c-then-d m n) o = o .0 (inl refl)
+    go l h (d-then-c n m) o = o .0 (inl refl)
 
 -- two swaps of the value 5 both answer yes
 abbrev two-winners : List (Action × Event)
 two-winners = (begin 0 (swap 0 5 7), begun) ∷ (begin 1 (swap 0 5 9), begun) ∷ (step 0, answered 0 Yes 1 0) ∷ (step 1, answered 0 Yes 1 0) ∷ []
 
+abbrev winner : Finished
+winner = ended 0 0 (swap 0 5 7) [] 2 1 0 Yes
+
+abbrev second-winner : Finished
+second-winner = ended 1 1 (swap 0 5 9) (begin 0 (swap 0 5 7) ∷ []) 3 1 0 Yes
+
+pub no-two-winners : (l : List Point) → Linearizes five (callsOf two-winners) l → ⊥
+unfolding upd
+no-two-winners l r = go l (must r winner (inr (inl refl))) (must r second-winner (inl refl)) (shape (winner .call) (second-winner .call) two r)
+  where
+    two : TwoCalls (callsOf two-winners) (winner .call) (second-winner .call)
+    two = both-ended (callsOf two-winners) winner second-winner (λ t p q. rw (ne-eqb t 0 p, ne-eqb t 1 q)) refl refl (two-of winner second-winner)
+    go : (l : List Point) → T (said 100 (replies five l)) → T (said 101 (replies five l)) → Shape (winner .call) (second-winner .call) l → ⊥
+    go l h i neither = h
+    go l h i (only-c m) = i
+    go l h i (only-d n) = h
+    go l h i (c-then-d m n) = i
+    go l h i (d-then-c n m) = h
+
 -- a read begins after a swap has ended, and answers the value before it
 abbrev stale-read : List (Action × Event)
 stale-read = (begin 0 (swap 0 5 7), begun) ∷ (step 0, answered 0 Yes 1 0) ∷ (begin 1 (read 0), begun) ∷ (step 1, answered 0 (Value 5) 1 0) ∷ []
 
--- a swap that is alone answers no
-abbrev lone-no : List (Action × Event)
-lone-no = (begin 0 (swap 0 5 7), begun) ∷ (step 0, answered 0 No 1 0) ∷ []
+abbrev changer : Finished
+changer = ended 0 0 (swap 0 5 7) [] 1 1 0 Yes
+
+abbrev stale : Finished
+stale = ended 2 1 (read 0) (begin 0 (swap 0 5 7) ∷ step 0 ∷ []) 3 1 0 (Value 5)
+
+pub no-stale-read : (l : List Point) → Linearizes five (callsOf stale-read) l → ⊥
+unfolding upd
+no-stale-read l r = go l r (must r changer (inr (inl refl))) (must r stale (inl refl)) (shape (changer .call) (stale .call) two r)
+  where
+    two : TwoCalls (callsOf stale-read) (changer .call) (stale .call)
+    two = both-ended (callsOf stale-read) changer stale (λ t p q. rw (ne-eqb t 0 p, ne-eqb t 1 q)) refl refl (two-of changer stale)
+    go : (l : List Point) → Linearizes five (callsOf stale-read) l → T (said 100 (replies five l)) → T (said 702 (replies five l)) → Shape (changer .call) (stale .call) l → ⊥
+    go l r h i neither = h
+    go l r h i (only-c m) = i
+    go l r h i (only-d n) = h
+    go l r h i (c-then-d m n) = i
+    go l r h i (d-then-c n m) =
+        let p = r .placed (point (stale .call) n) (inl refl) in
+        omega (arith, r .sorted .0 (point (changer .call) m) (inl refl), p .after-begin, ap (λ (s : Begin). s .at) (p .is),
+          within-c (changer .call) (stale .call) two r (λ q. omega arith) m (inr (inl refl)) .1)
+
+-- WRONG EVENTS: no well-formed history has them
+
+pub no-refusal-of-a-pending-call : WellFormed 1 noCalls ((begin 0 (read 0), begun) ∷ (step 0, refused 11) ∷ []) → ⊥
+unfolding upd
+no-refusal-of-a-pending-call w = clash (w .1 .0) refl
+
+pub no-second-call-of-a-busy-task : WellFormed 1 noCalls ((begin 0 (read 0), begun) ∷ (begin 0 (read 0), begun) ∷ []) → ⊥
+unfolding upd
+no-second-call-of-a-busy-task w = clash (w .1 .0 .0) refl
+
+pub no-answer-without-a-call : WellFormed 1 noCalls ((step 0, answered 0 (Value 5) 3 0) ∷ []) → ⊥
+no-answer-without-a-call w = w .0
+
+pub no-call-on-a-cell-that-is-not-there : WellFormed 1 noCalls ((begin 0 (read 1), begun) ∷ []) → ⊥
+no-call-on-a-cell-that-is-not-there w = omega (arith, w .0 .1)
+
+-- WRONG COUNTS
+
+pub no-invented-counts : Bounds (callsOf ((begin 0 (read 0), begun) ∷ (step 0, answered 0 (Value 5) 3 0) ∷ [])) → ⊥
+unfolding upd
+no-invented-counts c = omega (arith, c .reported _ (inl refl) .0)
+
+-- a read that six steps did not end
+pub no-read-beyond-its-bound : Bounds (callsOf ((begin 0 (read 0), begun) ∷
+    (step 0, going 0) ∷ (step 0, going 0) ∷ (step 0, going 0) ∷ (step 0, going 0) ∷ (step 0, going 0) ∷ (step 0, going 0) ∷ [])) → ⊥
+unfolding upd
+no-read-beyond-its-bound c = omega (arith, c .unended 0 _ refl .0)
+
+-- a swap that is alone, on an active block, tries the hardware CAS
+abbrev needless : Finished
+needless = ended 0 0 (swap 0 5 7) [] 1 1 1 Yes
+
+pub no-hardware-CAS-alone : NoHardware (λ l k. Unit {0}) (callsOf ((begin 0 (swap 0 5 7), begun) ∷ (step 0, answered 1 Yes 1 1) ∷ [])) → ⊥
+unfolding upd
+no-hardware-CAS-alone h = omega (arith, h (needless .call) 1 (finished needless (inl refl)) tt alone)
+  where
+    b : Calls
+    b = callsOf ((begin 0 (swap 0 5 7), begun) ∷ (step 0, answered 1 Yes 1 1) ∷ [])
+    alone : Alone b (needless .call) 1
+    alone d n i u q ne = absurd (go (both-ended b needless needless (λ t p q. rw (ne-eqb t 0 p)) refl refl (one-of needless) d n i))
+      where
+        go : (d ≡ needless .call) ⊎ (d ≡ needless .call) → ⊥
+        go (inl q) = ne (ap (λ (c : Call). c .start .at) q)
+        go (inr q) = ne (ap (λ (c : Call). c .start .at) q)
