@@ -1,12 +1,12 @@
 -- The bounds: of a pending call they are the machine's own; a finished call keeps those of its last step.
-use mathlib.Core.Path.{_≡_, refl, sym, ap, _∙_, subst}
-use mathlib.Core.Logic.{_⊎_, inl, inr}
-use mathlib.Core.Option.{Option, some}
-use mathlib.Core.List.{List, _∷_}
-use Prim.Native.Nat.{ℕ, suc, _+_, _≤_, _<_}
+use mathlib.Core.Path.{_≡_}
+use mathlib.Core.Logic.{inl, inr}
+use mathlib.Core.Option.{some}
+use mathlib.Core.List.{_∷_}
+use Prim.Native.Nat.{ℕ, _≤_, _<_}
 use native.Mathlib.Omega.{arith}
 use Rattle.history.specs.Basics.{_∈_}
-use Rattle.history.specs.History.{Action, Event, Call, Finished, Calls, advance, enter}
+use Rattle.history.specs.History.{Action, Event, Call, Finished, Calls, enter}
 use Rattle.history.specs.Demand3.{most, mostHard, Bounds}
 use Rattle.history.proofs.Tracks.{Change, refuses, starts, goes, ends}
 use Rattle.history.proofs.MovesOne.{Dated, last-one, ended-finished}

@@ -3,15 +3,16 @@
 use mathlib.Core.Path.{_≡_, refl, sym, ap, _∙_, subst}
 use mathlib.Core.Logic.{_≢_, _⊎_, inl, inr}
 use mathlib.Core.Bool.{Bool, true, false, cond}
-use mathlib.Core.Option.{Option, none, some}
-use mathlib.Core.List.{List, [], _∷_, map}
-use Prim.Native.Nat.{ℕ, suc, _+_, _*_, _≤_, _<_}
+use mathlib.Core.Option.{none, some}
+use mathlib.Core.List.{List, [], _∷_}
+use Prim.Native.Nat.{ℕ, _+_, _*_, _≤_, _<_}
 use native.Mathlib.Omega.{arith}
 use lib.Dec.{eqb, T}
 use borrow.Author.Tests.{eq-eqb, ne-eqb}
 use Rattle.history.specs.Basics.{upd, _∈_, Once}
-use Rattle.history.specs.History.{Op, read, swap, Action, begin, step, Event, refused, begun, going, answered, Answer, Value, Yes, No, Begin, Call, Finished, Calls, noCalls, enter, enterAll, callsOf, CallOf, finished, pending, WellFormed}
-use Rattle.history.specs.Linearization.{reply, apply, Point, replies, Sorted, Placed, Linearizes}
+use Rattle.history.specs.History.{Op, read, swap, Action, begin, step, Event, refused, begun, going, answered, Answer, Value, Yes, No, Begin, Call, Finished, Calls, noCalls, callsOf}
+use Rattle.history.specs.History.{CallOf, finished, pending, WellFormed}
+use Rattle.history.specs.Linearization.{Point, replies, Placed, Linearizes}
 use Rattle.history.specs.Demand3.{Bounds, Alone, NoHardware}
 use Rattle.history.proofs.Basics.{either}
 use Rattle.history.proofs.Tracks.{clash, some-inj}
@@ -159,11 +160,14 @@ late-linearizes m low high = record { sorted = (first, ((λ x i. absurd i), tt))
   where
     first : (x : Point) → x ∈ (point decider 15 ∷ []) → m ≤ x .moment
     first x (inl q) = rw q (omega arith)
+
     other : _∈_ {A = ℕ} 0 (1 ∷ []) → ⊥
     other (inl q) = omega arith
+
     placed : (x : Point) → x ∈ (point halted m ∷ point decider 15 ∷ []) → Placed (callsOf late-swap) x
     placed x (inl q) = rw q (record { call = halted; end = 17; of-history = pending 0 halted refl; is = refl; after-begin = low; by-last-step = high })
     placed x (inr (inl q)) = rw q (record { call = decider; end = 16; of-history = finished decided (inl refl); is = refl; after-begin = omega arith; by-last-step = omega arith })
+
     answers : (f : Finished) → f ∈ (decided ∷ []) →
         (e : Point) × (e .call ≡ f .call .start) × (f .call .start .at < e .moment) × (e .moment ≤ f .call .last) × ((e, f .answer) ∈ replies five (point halted m ∷ point decider 15 ∷ []))
     answers f (inl q) = rw q (point decider 15, refl, omega arith, omega arith, inr (inl refl))
@@ -179,27 +183,23 @@ late-swap-at-its-store = late-linearizes 13 (omega arith) (omega arith)
 pub no-effect-after-the-last-step : (l : List Point) (m : ℕ) → 13 < m → point halted m ∈ l → Linearizes five (callsOf late-swap) l → ⊥
 no-effect-after-the-last-step l m h i r = omega (arith, within-c halted decider late-two r (λ q. omega arith) m i .1)
 
--- WRONG: the halted swap left out, though the other call saw its value
-pub no-seen-swap-left-out : (l : List Point) → ((x : Point) → x ∈ l → x .call ≢ halted .start) → Linearizes five (callsOf late-swap) l → ⊥
-no-seen-swap-left-out l out r = go l out (must r decided late-done) (shape halted decider late-two r)
-  where
-    go : (l : List Point) → ((x : Point) → x ∈ l → x .call ≢ halted .start) → T (said 1 (replies five l)) → Shape halted decider l → ⊥
-    go l out h neither = h
-    go l out h (only-c m) = out (point halted m) (inl refl) refl
-    go l out h (only-d n) = h
-    go l out h (c-then-d m n) = out (point halted m) (inl refl) refl
-    go l out h (d-then-c n m) = out (point halted m) (inr (inl refl)) refl
+-- every linearization has both calls, the halted one first: the other answers no only behind it
+late-both : (l : List Point) → T (said 1 (replies five l)) → Shape halted decider l → (m n : ℕ) × (point halted m ∈ l) × (point decider n ∈ l)
+late-both l h neither = absurd h
+late-both l h (only-c m) = absurd h
+late-both l h (only-d n) = absurd h
+late-both l h (c-then-d m n) = (m, n, inl refl, inr (inl refl))
+late-both l h (d-then-c n m) = absurd h
 
--- WRONG: the finished call left out
+late-has : (l : List Point) → Linearizes five (callsOf late-swap) l → (m n : ℕ) × (point halted m ∈ l) × (point decider n ∈ l)
+late-has l r = late-both l (must r decided late-done) (shape halted decider late-two r)
+
+-- WRONG: the halted swap left out, though the other call saw its value; the finished call left out
+pub no-seen-swap-left-out : (l : List Point) → ((x : Point) → x ∈ l → x .call ≢ halted .start) → Linearizes five (callsOf late-swap) l → ⊥
+no-seen-swap-left-out l out r = let p = late-has l r in out (point halted (p .0)) (p .2) refl
+
 pub no-finished-call-left-out : (l : List Point) → ((x : Point) → x ∈ l → x .call ≢ decider .start) → Linearizes five (callsOf late-swap) l → ⊥
-no-finished-call-left-out l out r = go l out (must r decided late-done) (shape halted decider late-two r)
-  where
-    go : (l : List Point) → ((x : Point) → x ∈ l → x .call ≢ decider .start) → T (said 1 (replies five l)) → Shape halted decider l → ⊥
-    go l out h neither = h
-    go l out h (only-c m) = h
-    go l out h (only-d n) = out (point decider n) (inl refl) refl
-    go l out h (c-then-d m n) = out (point decider n) (inr (inl refl)) refl
-    go l out h (d-then-c n m) = out (point decider n) (inl refl) refl
+no-finished-call-left-out l out r = let p = late-has l r in out (point decider (p .1)) (p .3) refl
 
 -- WRONG IN EVERY HISTORY: a call twice; a call at its own begin
 
@@ -213,7 +213,12 @@ no-effect-at-the-begin values b l x i q r = let p = r .placed x i in omega (arit
 
 -- a call of one step or more, finished as reported
 abbrev ended : (begun task : ℕ) → Op → List Action → (last steps hard : ℕ) → Answer → Finished
-ended n t op l last steps hard a = record { call = record { start = record { at = n; task = t; op = op; before = l }; last = last; steps = steps; hard = hard }; answer = a; steps = steps; hard = hard }
+ended n t op l last steps hard a = record {
+  call = record { start = record { at = n; task = t; op = op; before = l }; last = last; steps = steps; hard = hard };
+  answer = a;
+  steps = steps;
+  hard = hard;
+}
 
 -- all calls of the history are finished, and they are f and g
 both-ended : (b : Calls) (f g : Finished) → ((t : ℕ) → t ≢ 0 → t ≢ 1 → b .pending t ≡ none) → b .pending 0 ≡ none → b .pending 1 ≡ none →
@@ -262,6 +267,7 @@ no-spurious-no l r = go l (must r refusal (inl refl)) (shape (refusal .call) (re
   where
     two : TwoCalls (callsOf lone-no) (refusal .call) (refusal .call)
     two = both-ended (callsOf lone-no) refusal refusal (λ t p q. rw (ne-eqb t 0 p)) refl refl (one-of refusal)
+
     go : (l : List Point) → T (said 0 (replies five l)) → Shape (refusal .call) (refusal .call) l → Once (ats l) → ⊥
     go l h neither o = h
     go l h (only-c m) o = h
@@ -285,6 +291,7 @@ no-two-winners l r = go l (must r winner (inr (inl refl))) (must r second-winner
   where
     two : TwoCalls (callsOf two-winners) (winner .call) (second-winner .call)
     two = both-ended (callsOf two-winners) winner second-winner (λ t p q. rw (ne-eqb t 0 p, ne-eqb t 1 q)) refl refl (two-of winner second-winner)
+
     go : (l : List Point) → T (said 100 (replies five l)) → T (said 101 (replies five l)) → Shape (winner .call) (second-winner .call) l → ⊥
     go l h i neither = h
     go l h i (only-c m) = i
@@ -308,6 +315,7 @@ no-stale-read l r = go l r (must r changer (inr (inl refl))) (must r stale (inl 
   where
     two : TwoCalls (callsOf stale-read) (changer .call) (stale .call)
     two = both-ended (callsOf stale-read) changer stale (λ t p q. rw (ne-eqb t 0 p, ne-eqb t 1 q)) refl refl (two-of changer stale)
+
     go : (l : List Point) → Linearizes five (callsOf stale-read) l → T (said 100 (replies five l)) → T (said 702 (replies five l)) → Shape (changer .call) (stale .call) l → ⊥
     go l r h i neither = h
     go l r h i (only-c m) = i
@@ -315,8 +323,13 @@ no-stale-read l r = go l r (must r changer (inr (inl refl))) (must r stale (inl 
     go l r h i (c-then-d m n) = i
     go l r h i (d-then-c n m) =
         let p = r .placed (point (stale .call) n) (inl refl) in
-        omega (arith, r .sorted .0 (point (changer .call) m) (inl refl), p .after-begin, ap (λ (s : Begin). s .at) (p .is),
-          within-c (changer .call) (stale .call) two r (λ q. omega arith) m (inr (inl refl)) .1)
+        omega (
+          arith,
+          r .sorted .0 (point (changer .call) m) (inl refl),
+          p .after-begin,
+          ap (λ (s : Begin). s .at) (p .is),
+          within-c (changer .call) (stale .call) two r (λ q. omega arith) m (inr (inl refl)) .1,
+        )
 
 -- WRONG EVENTS: no well-formed history has them
 
@@ -356,6 +369,7 @@ no-hardware-CAS-alone h = omega (arith, h (needless .call) 1 (finished needless 
   where
     b : Calls
     b = callsOf ((begin 0 (swap 0 5 7), begun) ∷ (step 0, answered 1 Yes 1 1) ∷ [])
+
     alone : Alone b (needless .call) 1
     alone d n i u q ne = absurd (go (both-ended b needless needless (λ t p q. rw (ne-eqb t 0 p)) refl refl (one-of needless) d n i))
       where

@@ -1,9 +1,8 @@
 -- Demand 3 from a machine's simulation: one induction over the actions, with all that its clauses need.
-use mathlib.Core.Path.{_≡_, refl, sym, ap, _∙_, subst}
-use mathlib.Core.Option.{some}
+use mathlib.Core.Path.{_≡_, refl, sym, ap, _∙_}
 use mathlib.Core.List.{List, [], _∷_, _++_}
 use Prim.Native.Nat.{ℕ}
-use Rattle.history.specs.History.{Action, Event, history, run, Call, Calls, noCalls, enter, enterAll, WellFormed}
+use Rattle.history.specs.History.{Action, Event, history, run, Calls, noCalls, enter, enterAll, WellFormed}
 use Rattle.history.specs.Demand3.{Meets}
 use Rattle.history.proofs.Simulation.{Simulation, activeAfter}
 use Rattle.history.proofs.Tracks.{clash, tallied, tallyOf, Tracks, Change, refuses, starts, goes, ends, Tracked, tracked}
@@ -27,13 +26,13 @@ module _ {S : Type 0} {machine : S → Action → S × Event} {start : S} {activ
 
   good-start : Good start noCalls
   good-start = record {
-      reached = refl;
-      tracks = M .idle;
-      dated = record { past = λ t c h. absurd (clash refl h); distinct = λ t u c d h i q. absurd (clash refl h) };
-      ended = λ f i. absurd i;
-      simulated = simulated-start M;
-      quiet = record { quiet = λ t c h l. absurd (clash refl h); past = λ f i l. absurd i }
-    }
+    reached = refl;
+    tracks = M .idle;
+    dated = record { past = λ t c h. absurd (clash refl h); distinct = λ t u c d h i q. absurd (clash refl h) };
+    ended = λ f i. absurd i;
+    simulated = simulated-start M;
+    quiet = record { quiet = λ t c h l. absurd (clash refl h); past = λ f i l. absurd i };
+  }
 
   within : (s : S) (b : Calls) → Good s b → Within b
   within s b G t c h = let m = G .simulated in M .within s (m .ghost) (knows values b (m .points) (m .firm)) (m .inv) t (tallied c) (G .tracks t ∙ ap tallyOf h)
@@ -50,14 +49,14 @@ module _ {S : Type 0} {machine : S → Action → S × Event} {start : S} {activ
 
   next : (s : S) (b : Calls) (G : Good s b) (a : Action) → Tracked (M .doing) size s (machine s a .0) b a (machine s a .1) → Good (machine s a .0) (enter b a (machine s a .1))
   next s b G a k = record {
-      reached = reached-next (k .change) (G .reached);
-      tracks = k .tracks;
-      dated = dated-on (moves-one b (G .dated) (k .change)) (G .dated);
-      ended = ended-next (G .dated) (within s b G) (G .ended) (k .change);
-      simulated = simulated-next M s (machine s a .0) b m (G .tracks) (G .dated) (k .change) (k .tracks) (M .forward s (m .ghost) (knows values b (m .points) (m .firm)) (m .inv) a);
-      quiet = quiet-next machine start active (M .doing) (M .Quiet) s (machine s a .0) b (G .quiet) (G .tracks) (G .dated) (k .change) (G .reached) (k .tracks)
-        (M .quietly s (m .ghost) (knows values b (m .points) (m .firm)) (m .inv) a)
-    }
+    reached = reached-next (k .change) (G .reached);
+    tracks = k .tracks;
+    dated = dated-on (moves-one b (G .dated) (k .change)) (G .dated);
+    ended = ended-next (G .dated) (within s b G) (G .ended) (k .change);
+    simulated = simulated-next M s (machine s a .0) b m (G .tracks) (G .dated) (k .change) (k .tracks) (M .forward s (m .ghost) (knows values b (m .points) (m .firm)) (m .inv) a);
+    quiet = quiet-next machine start active (M .doing) (M .Quiet) s (machine s a .0) b (G .quiet) (G .tracks) (G .dated) (k .change) (G .reached) (k .tracks)
+        (M .quietly s (m .ghost) (knows values b (m .points) (m .firm)) (m .inv) a);
+  }
     where
       m : Simulated M s b
       m = G .simulated
@@ -82,5 +81,5 @@ meets {machine = machine} {start = start} {active = active} M l =
       linearization = G .simulated .points;
       linearizes = linearized M (G .simulated);
       bounds = bounds-of (within M (r .1 .0) _ G) (G .ended);
-      no-hardware = no-hardware machine start active (M .doing) (M .Quiet) (G .quiet)
+      no-hardware = no-hardware machine start active (M .doing) (M .Quiet) (G .quiet);
     }

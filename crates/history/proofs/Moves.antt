@@ -8,8 +8,8 @@ use Prim.Native.Nat.{ℕ, suc, _≤_, _<_}
 use native.Mathlib.Omega.{arith}
 use lib.Dec.{T}
 use Rattle.history.specs.Basics.{upd, _∈_}
-use Rattle.history.specs.History.{Op, cellOf, Answer, Yes, Begin, Call, Calls}
-use Rattle.history.specs.Linearization.{reply, after, apply, Point}
+use Rattle.history.specs.History.{cellOf, Answer, Yes, Begin, Call, Calls}
+use Rattle.history.specs.Linearization.{reply, apply, Point}
 use Rattle.history.proofs.Basics.{either, upd-same, upd-off, upd-cases}
 use Rattle.history.proofs.Simulation.{Phase, settled, frozen, late, Ghost, Knowledge, Move, still, act, freeze, store, settle, land, inPhase, takesEffect, shift, Tally, May}
 use Rattle.history.proofs.Tracks.{some-inj}
@@ -65,26 +65,33 @@ module _ {values : ℕ → ℕ} (g : Ghost) {b : Calls} {l : List Point} {firm :
       firm (cell-of c) ≤ m → m < b .now → phase (cell-of c) ≡ settled → reply (g .cells (cell-of c)) (c .start .op) ≡ Yes →
       Onto values (record { cells = apply (g .cells) (c .start .op); told = upd (g .told) u true; phase = phase }) b l firm
   effect-onto dated phase lates u c m busy untold begins lasts firm≤ below calm says = record {
-      points = place e v values l d;
-      kept = point-kept k2 dated u c busy untold m v begins lasts d (apply (g .cells) (c .start .op)) (λ t. cond (upd (g .told) u true t) (some Yes) none) (inr last) own others ends
+    points = place e v values l d;
+    kept = point-kept k2 dated u c busy untold m v begins lasts d (apply (g .cells) (c .start .op)) (λ t. cond (upd (g .told) u true t) (some Yes) none) (inr last) own others ends
         (rw calm below) unlate;
-      seen = point-seen k2 dated u c busy untold m v begins lasts d firm (up phase) (inr firm≤) _ _
-    }
+    seen = point-seen k2 dated u c busy untold m v begins lasts d firm (up phase) (inr firm≤) _ _;
+  }
     where
       v : ℕ
       v = g .cells (cell-of c)
+
       e : Point
       e = point c m
+
       k2 : Kept values (g .cells) phase (saying g) b l (raise phase firm (b .now))
       k2 = phases-kept k phase lates
+
       d : At m (cell-of c) values l v
       d = value-now (cell-of c) m (omega arith)
+
       last : (x : Point) → x ∈ l → m < x .moment → cell x ≢ cell-of c
       last x i h q = omega (arith, k .firmed x i, ap firm q)
+
       own : cond (upd (g .told) u true u) (some Yes) none ≡ some (reply v (c .start .op))
       own = rw (upd-same (g .told) u true, says)
+
       others : (w : ℕ) → w ≢ u → cond (upd (g .told) u true w) (some Yes) none ≡ saying g w
       others w n = rw (upd-off (g .told) u true w n)
+
       ends : (j : ℕ) → final values (place e v values l d) j ≡ apply (g .cells) (c .start .op) j
       ends j = go (either j (cell-of c))
         where
@@ -92,6 +99,7 @@ module _ {values : ℕ → ℕ} (g : Ghost) {b : Calls} {l : List Point} {firm :
           go (inl q) = subst (λ n. final values (place e v values l d) n ≡ apply (g .cells) (c .start .op) n) (sym q)
               (place-final-same e v values l d last ∙ sym (apply-at (g .cells) (c .start .op) (cell-of c) refl))
           go (inr q) = place-final-other e v values l d j (inr q) ∙ (k .ends j ∙ sym (apply-off (g .cells) (c .start .op) j q))
+
       unlate : (j : ℕ) → phase j ≢ late u
       unlate j h =
           let p = lates j u h in
@@ -112,12 +120,14 @@ module _ {values : ℕ → ℕ} (g : Ghost) {b : Calls} {l : List Point} {firm :
     move-onto doing s κ early ops settle may = phase-onto (upd (g .phase) (cell-of c) settled) (lates-upd (cell-of c) settled (λ w h. settled-late refl h))
     move-onto doing s κ early ops (land u o) (f, w, y) =
         subst (λ o. Onto values (inPhase (takesEffect g u o) kk settled) b l firm) e
-          (effect-onto dated (upd (g .phase) kk settled) (lates-upd kk settled (λ w h. settled-late refl h)) u (p .call) (firm kk) (p .busy) (p .untold) (p .begun) (p .stepped)
-            (omega (arith, ap firm (p .on))) (omega (arith, firm≤ kk)) (rw (p .on) (upd-same (g .phase) kk settled)) (subst (λ o. reply (g .cells (cellOf o)) o ≡ Yes) (sym e) y))
+        (effect-onto dated (upd (g .phase) kk settled) (lates-upd kk settled (λ w h. settled-late refl h)) u (p .call) (firm kk) (p .busy) (p .untold) (p .begun) (p .stepped)
+        (omega (arith, ap firm (p .on))) (omega (arith, firm≤ kk)) (rw (p .on) (upd-same (g .phase) kk settled)) (subst (λ o. reply (g .cells (cellOf o)) o ≡ Yes) (sym e) y))
       where
         kk : ℕ
         kk = cell-of c
+
         p : Late b (saying g) firm kk u
         p = k .lates kk u f
+
         e : p .call .start .op ≡ o
         e = ops u (w .0) (p .call) (w .1) (p .busy) ∙ w .2

@@ -1,12 +1,13 @@
 -- An action moves the call of one task at most, and every call goes on: with the same begin, its last step and its end no earlier.
 use mathlib.Core.Path.{_≡_, refl, sym, ap, _∙_, subst}
 use mathlib.Core.Logic.{_≢_, _⊎_, inl, inr}
-use mathlib.Core.Option.{Option, none, some}
-use mathlib.Core.List.{List, [], _∷_}
+use mathlib.Core.Option.{none, some}
+use mathlib.Core.List.{_∷_}
 use Prim.Native.Nat.{ℕ, suc, _+_, _≤_, _<_}
 use native.Mathlib.Omega.{arith}
-use Rattle.history.specs.Basics.{upd, _∈_}
-use Rattle.history.specs.History.{Op, Action, begin, step, Event, refused, begun, going, answered, Answer, Begin, Call, Finished, Calls, called, advance, advanced, closed, enter, CallOf, finished, pending}
+use Rattle.history.specs.Basics.{_∈_}
+use Rattle.history.specs.History.{Op, Action, begin, step, Event, refused, begun, going, answered, Answer, Begin, Call, Finished, Calls, called, advance, advanced, closed, enter}
+use Rattle.history.specs.History.{CallOf, finished, pending}
 use Rattle.history.proofs.Basics.{either, upd-same, upd-off}
 use Rattle.history.proofs.Tracks.{clash, some-inj, Change, refuses, starts, goes, ends}
 
@@ -72,17 +73,20 @@ module _ {slack t : ℕ} {b b' : Calls} (m : MovesOne slack t b b') where
           go : (u ≡ t) ⊎ (u ≢ t) → (d .start .at < b' .now) × (d .last < b' .now)
           go (inl e) = let p = m .from d (subst (λ n. b' .pending n ≡ some d) e h) in (p .0, p .1)
           go (inr n) = omega (arith, k .past u d (sym (m .others u n) ∙ h), m .later)
+
       distinct : (u w : ℕ) (d e : Call) → b' .pending u ≡ some d → b' .pending w ≡ some e → d .start .at ≡ e .start .at → u ≡ w
       distinct u w d e h i q = go (from-where u d h) (from-where w e i)
         where
           moment : {c d : Call} → Onward c d → c .start .at ≡ d .start .at
           moment o = ap (λ (s : Begin). s .at) (o .start)
+
           only : (w : ℕ) (e : Call) → b' .pending w ≡ some e → b .pending w ≡ none → w ≡ t
           only w e i n = one (either w t)
             where
               one : (w ≡ t) ⊎ (w ≢ t) → w ≡ t
               one (inl z) = z
               one (inr z) = absurd (clash n (sym (m .others w z) ∙ i))
+
           go : From b u d → From b w e → u ≡ w
           go (inl (c, j, o)) (inl (f, l, p)) = k .distinct u w c f j l (moment o ∙ (q ∙ sym (moment p)))
           go (inl (c, j, o)) (inr (l, z)) = absurd (omega (arith, k .past u c j, moment o))
@@ -106,12 +110,12 @@ module _ (b : Calls) (dated : Dated b) where
 
     pub goes-on : MovesOne 0 t b (enter b (step t) (going x))
     goes-on = record {
-        later = omega arith;
-        others = upd-off (b .pending) t (advanced b x (b .pending t));
-        kept = λ f i. i;
-        on = λ e h. (advance b x c, suc (b .now), pending t (advance b x c) going-pending, rw (some-inj h busy) steps-on, omega arith);
-        from = λ d h. rw (some-inj h going-pending) (omega (arith, dated .past t c busy .0), omega arith, inl (c, busy, steps-on))
-      }
+      later = omega arith;
+      others = upd-off (b .pending) t (advanced b x (b .pending t));
+      kept = λ f i. i;
+      on = λ e h. (advance b x c, suc (b .now), pending t (advance b x c) going-pending, rw (some-inj h busy) steps-on, omega arith);
+      from = λ d h. rw (some-inj h going-pending) (omega (arith, dated .past t c busy .0), omega arith, inl (c, busy, steps-on));
+    }
 
     module _ (a : Answer) (n h : ℕ) where
       abbrev pub last-one : Finished
@@ -131,40 +135,40 @@ module _ (b : Calls) (dated : Dated b) where
 
       pub ends-on : MovesOne 0 t b (enter b (step t) (answered x a n h))
       ends-on = record {
-          later = omega arith;
-          others = upd-off (b .pending) t none;
-          kept = ended-kept;
-          on = λ e i. (advance b x c, b .now, ended-last, rw (some-inj i busy) steps-on, omega arith);
-          from = λ d i. absurd (ended-idle d i)
-        }
+        later = omega arith;
+        others = upd-off (b .pending) t none;
+        kept = ended-kept;
+        on = λ e i. (advance b x c, b .now, ended-last, rw (some-inj i busy) steps-on, omega arith);
+        from = λ d i. absurd (ended-idle d i);
+      }
 
       -- the last step as one more step after which the call leaves
       pub leaves : MovesOne 1 t (enter b (step t) (going x)) (enter b (step t) (answered x a n h))
       leaves = record {
-          later = omega arith;
-          others = λ u q. upd-off (b .pending) t none u q ∙ sym (upd-off (b .pending) t (advanced b x (b .pending t)) u q);
-          kept = ended-kept;
-          on = λ e i. (advance b x c, b .now, ended-last, rw (some-inj i going-pending) (stays (advance b x c)), omega arith);
-          from = λ d i. absurd (ended-idle d i)
-        }
+        later = omega arith;
+        others = λ u q. upd-off (b .pending) t none u q ∙ sym (upd-off (b .pending) t (advanced b x (b .pending t)) u q);
+        kept = ended-kept;
+        on = λ e i. (advance b x c, b .now, ended-last, rw (some-inj i going-pending) (stays (advance b x c)), omega arith);
+        from = λ d i. absurd (ended-idle d i);
+      }
 
   pub starts-on : (t : ℕ) (op : Op) → b .pending t ≡ none → MovesOne 0 t b (enter b (begin t op) begun)
   starts-on t op idle = record {
-      later = omega arith;
-      others = upd-off (b .pending) t (some (called b t op));
-      kept = λ f i. i;
-      on = λ c h. absurd (clash idle h);
-      from = λ d h. rw (some-inj h (upd-same (b .pending) t (some (called b t op)))) (omega arith, omega arith, inr (idle, refl))
-    }
+    later = omega arith;
+    others = upd-off (b .pending) t (some (called b t op));
+    kept = λ f i. i;
+    on = λ c h. absurd (clash idle h);
+    from = λ d h. rw (some-inj h (upd-same (b .pending) t (some (called b t op)))) (omega arith, omega arith, inr (idle, refl));
+  }
 
   pub passes-on : (t : ℕ) → MovesOne 0 t b (enter b (step t) (refused 0))
   passes-on t = record {
-      later = omega arith;
-      others = λ u q. refl;
-      kept = λ f i. i;
-      on = λ c h. (c, suc (b .now), pending t c h, stays c, omega arith);
-      from = λ d h. let p = dated .past t d h in (omega arith, omega arith, inl (d, h, stays d))
-    }
+    later = omega arith;
+    others = λ u q. refl;
+    kept = λ f i. i;
+    on = λ c h. (c, suc (b .now), pending t c h, stays c, omega arith);
+    from = λ d h. let p = dated .past t d h in (omega arith, omega arith, inl (d, h, stays d));
+  }
 
   pub moves-one : {S : Type 0} {s s' : S} {a : Action} {e : Event} → Change s s' b a e → MovesOne 0 (taskOf a) b (enter b a e)
   moves-one (refuses {a} q) = passes-on (taskOf a)

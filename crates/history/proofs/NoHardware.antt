@@ -2,16 +2,17 @@
 use mathlib.Core.Path.{_≡_, refl, sym, ap, _∙_, subst}
 use mathlib.Core.Logic.{_≢_, _⊎_, inl, inr}
 use mathlib.Core.Option.{Option, none, some}
-use mathlib.Core.List.{List, [], _∷_}
-use Prim.Native.Nat.{ℕ, suc, _+_, _≤_, _<_}
+use mathlib.Core.List.{_∷_}
+use Prim.Native.Nat.{ℕ, suc, _+_, _≤_}
 use native.Mathlib.Omega.{arith}
-use Rattle.history.specs.Basics.{upd, _∈_}
-use Rattle.history.specs.History.{Op, cellOf, Action, begin, step, Event, refused, begun, going, answered, Answer, Begin, Call, Finished, Calls, noCalls, called, advance, advanced, enter, CallOf, finished, pending, run}
+use Rattle.history.specs.Basics.{_∈_}
+use Rattle.history.specs.History.{cellOf, Action, begin, step, Event, begun, going, answered, Begin, Call, Finished, Calls, called, advance, advanced, enter, CallOf, finished, pending}
+use Rattle.history.specs.History.{run}
 use Rattle.history.specs.Demand3.{Unequal, Alone, NoHardware}
 use Rattle.history.proofs.Basics.{upd-same}
-use Rattle.history.proofs.Simulation.{Tally, Free, QuietStarts, QuietSteps, Quietly, activeAfter}
+use Rattle.history.proofs.Simulation.{Tally, QuietSteps, Quietly, activeAfter}
 use Rattle.history.proofs.Tracks.{clash, some-inj, upd-some, tallied, tallyOf, call-of, Tracks, Change, refuses, starts, goes, ends}
-use Rattle.history.proofs.MovesOne.{Onward, Dated, MovesOne, continues, steps-on, last-one, ended-finished, ended-idle, taskOf, moves-one}
+use Rattle.history.proofs.MovesOne.{Onward, Dated, MovesOne, continues, last-one, ended-finished, moves-one}
 
 -- a call that is alone was so before
 alone-before : {t : ℕ} {b b' : Calls} → MovesOne 0 t b b' → (c d : Call) (n n' : ℕ) → c .start ≡ d .start → n ≤ n' → Alone b' d n' → Alone b c n
@@ -20,6 +21,7 @@ alone-before {b' = b'} m c d n n' s le alone e k h unequal q ne =
   where
     r : (f : Call) × (j : ℕ) × CallOf b' f j × Onward e f × (k ≤ 0 + j)
     r = continues m e k h
+
     go : (r .1 ≤ d .start .at) ⊎ (n' ≤ r .0 .start .at) → (k ≤ c .start .at) ⊎ (n ≤ e .start .at)
     go (inl z) = inl (omega (arith, z, r .4, ap (λ (x : Begin). x .at) s))
     go (inr z) = inr (omega (arith, z, ap (λ (x : Begin). x .at) (r .3 .start)))
@@ -57,60 +59,75 @@ module _ {S : Type 0} (machine : S → Action → S × Event) (start : S) (activ
         enter b (step t) e .pending u ≡ some d → b .pending u ≡ some d → Calm (enter b (step t) e) d (suc (b .now)) → Quiet s' u × (d .hard ≡ 0)
     other-quiet t x k p same' u d i h l = let w = was-quiet k u d d (suc (b .now)) h refl (omega arith) l in (p .kept u (tallied d) (same' u ∙ ap tallyOf i) (w .0), w .1)
 
-    pub quiet-next : {a : Action} {e : Event} → Change s s' b a e → s ≡ run machine start (b .accepted) → Tracks doing s' (enter b a e) → Quietly doing active Quiet s a s' e → AllQuiet s' (enter b a e)
+    pub quiet-next : {a : Action} {e : Event} → Change s s' b a e → s ≡ run machine start (b .accepted) → Tracks doing s' (enter b a e) →
+        Quietly doing active Quiet s a s' e → AllQuiet s' (enter b a e)
     quiet-next (refuses {a} {r} q) reached same' p = record {
-        quiet = λ t c h l. rw q (was-quiet (refuses {a = a} {r = r} q) t c c (suc (b .now)) h refl (omega arith) l);
-        past = was-past (refuses {a = a} {r = r} q)
-      }
+      quiet = λ t c h l. rw q (was-quiet (refuses {a = a} {r = r} q) t c c (suc (b .now)) h refl (omega arith) l);
+      past = was-past (refuses {a = a} {r = r} q);
+    }
     quiet-next (starts {t} {op} idle) reached same' p = record { quiet = λ u d h l. quiet u d l (upd-some (b .pending) t (some c0) u d h); past = was-past (starts idle) }
       where
         c0 : Call
         c0 = called b t op
+
         b' : Calls
         b' = enter b (begin t op) begun
+
         on : (u : ℕ) (c : Call) → b .pending u ≡ some c → b' .pending u ≡ some c
         on u c h = moves-one b dated {s = s} {s' = s'} (starts idle) .others u (λ q. clash idle (rw q at h)) ∙ h
+
         -- two calls pending now are not apart
         never : {n m : ℕ} → n ≤ b .now → m ≤ b .now → (suc (b .now) ≤ n) ⊎ (suc (b .now) ≤ m) → ⊥
         never h i (inl z) = omega arith
         never h i (inr z) = omega arith
+
         quiet : (u : ℕ) (d : Call) → Calm b' d (b' .now) → ((u ≡ t) × (some c0 ≡ some d)) ⊎ ((u ≢ t) × (b .pending u ≡ some d)) → Quiet s' u × (d .hard ≡ 0)
         quiet u d l (inl (q, h)) = rw q (subst (λ (d : Call). Calm b' d (b' .now) → Quiet s' t × (d .hard ≡ 0)) (some-inj {o = some c0} refl h) first l)
           where
             first : Calm b' c0 (b' .now) → Quiet s' t × (c0 .hard ≡ 0)
-            first (r, l) = (p .new (rw reached r) (λ w n i x y.
-                let e = call-of (b .pending w) n (sym (same w) ∙ i) in
-                let z = dated .past w (e .0) (e .1) .0 in
-                never (omega arith) (omega arith) (l (e .0) (b' .now) (pending w (e .0) (on w (e .0) (e .1)))
-                  (subst (λ (n : Tally). Unequal (n .op)) (sym (e .2)) x) (ap (λ (n : Tally). cellOf (n .op)) (e .2) ∙ y) (λ q. omega arith))), refl)
+            first (r, l) = (
+              p .new (rw reached r) (λ w n i x y.
+                  let e = call-of (b .pending w) n (sym (same w) ∙ i) in
+                  let z = dated .past w (e .0) (e .1) .0 in
+                  never (omega arith) (omega arith) (l (e .0) (b' .now) (pending w (e .0) (on w (e .0) (e .1)))
+                  (subst (λ (n : Tally). Unequal (n .op)) (sym (e .2)) x) (ap (λ (n : Tally). cellOf (n .op)) (e .2) ∙ y) (λ q. omega arith))),
+              refl,
+            )
         quiet u d (r, l) (inr (q, h)) =
             let w = was-quiet (starts idle) u d d (suc (b .now)) h refl (omega arith) (r, l) in
-            let z = dated .past u d h .0 in
-            (p .others u (tallied d) (same u ∙ ap tallyOf h) (λ x y. never (omega arith) (omega arith)
-              (l c0 (b' .now) (pending t c0 (upd-same (b .pending) t (some c0))) x y (λ q. omega arith))) (w .0), w .1)
+            let z = dated .past u d h .0 in (
+              p .others u (tallied d) (same u ∙ ap tallyOf h) (λ x y. never (omega arith) (omega arith)
+                  (l c0 (b' .now) (pending t c0 (upd-same (b .pending) t (some c0))) x y (λ q. omega arith))) (w .0),
+              w .1,
+            )
     quiet-next (goes {t} {x} c busy) reached same' p =
         record { quiet = λ u d h l. quiet u d h l (upd-some (b .pending) t (advanced b x (b .pending t)) u d h); past = was-past (goes {x = x} c busy) }
       where
         b' : Calls
         b' = enter b (step t) (going x)
-        quiet : (u : ℕ) (d : Call) → b' .pending u ≡ some d → Calm b' d (b' .now) → ((u ≡ t) × (advanced b x (b .pending t) ≡ some d)) ⊎ ((u ≢ t) × (b .pending u ≡ some d)) → Quiet s' u × (d .hard ≡ 0)
+
+        quiet : (u : ℕ) (d : Call) → b' .pending u ≡ some d → Calm b' d (b' .now) →
+            ((u ≡ t) × (advanced b x (b .pending t) ≡ some d)) ⊎ ((u ≢ t) × (b .pending u ≡ some d)) → Quiet s' u × (d .hard ≡ 0)
         quiet u d h l (inl (q, i)) =
             let z : advance b x c ≡ d = some-inj (ap (advanced b x) busy) i in
             let w = untried t x (goes {x = x} c busy) c (suc (b .now)) busy (omega arith) p (rw (← z) at l) in
             (p .kept u (tallied d) (same' u ∙ ap tallyOf h) (rw q (w .0)), ap (λ (d : Call). d .hard) (sym z) ∙ w .1)
         quiet u d h l (inr (q, i)) = other-quiet t x (goes c busy) p same' u d h i l
     quiet-next (ends {t} {x} {a} {n} {h} c busy p q r) reached same' p' = record {
-        quiet = λ u d i l. quiet u d i l (upd-some (b .pending) t none u d i);
-        past = λ f i l. past f l (rw (ended-finished b dated t x c busy a n h) at i)
-      }
+      quiet = λ u d i l. quiet u d i l (upd-some (b .pending) t none u d i);
+      past = λ f i l. past f l (rw (ended-finished b dated t x c busy a n h) at i);
+    }
       where
         b' : Calls
         b' = enter b (step t) (answered x a n h)
+
         k : Change s s' b (step t) (answered x a n h)
         k = ends c busy p q r
+
         quiet : (u : ℕ) (d : Call) → b' .pending u ≡ some d → Calm b' d (b' .now) → ((u ≡ t) × (none ≡ some d)) ⊎ ((u ≢ t) × (b .pending u ≡ some d)) → Quiet s' u × (d .hard ≡ 0)
         quiet u d i l (inl (z, j)) = absurd (clash refl j)
         quiet u d i l (inr (z, j)) = other-quiet t x k p' same' u d i j l
+
         past : (f : Finished) → Calm b' (f .call) (f .call .last) → f ∈ (last-one b dated t x c busy a n h ∷ b .finished) → f .call .hard ≡ 0
         past f l (inl z) = rw z (untried t x k c (b .now) busy (omega arith) p' (rw z at l) .1)
         past f l (inr i) = was-past k f i l

@@ -79,6 +79,7 @@ at-final m k c (x ∷ l) s h = go (le-or-lt (x .moment) m) (at-final m k (apply 
     past : m < x .moment → Past m (x ∷ l)
     past p y (inl e) = subst (λ (z : Point). m < z .moment) (sym e) p
     past p y (inr i) = omega (arith, s .0 y i)
+
     go : (x .moment ≤ m) ⊎ (m < x .moment) → At m k (apply c (x .call .op)) l (final (apply c (x .call .op)) l k) → At m k c (x ∷ l) (final c (x ∷ l) k)
     go (inl p) r = inr (p, r)
     go (inr p) r = inl (past p, sym (final-none c (x ∷ l) k (λ y i e. omega (arith, h y i (sym e), past p y i))))
@@ -183,10 +184,12 @@ module _ (e : Point) (v : ℕ) where
       past : m < e .moment → Past m (e ∷ l)
       past h x (inl i) = rw i h
       past h x (inr i) = omega (arith, p x i)
+
       first : (l : List Point) → Past (e .moment) l → m < e .moment → At m j c l w → c j ≡ w
       first [] p h r = r
       first (x ∷ l) p h (inl r) = r .1
       first (x ∷ l) p h (inr r) = absurd (omega (arith, p x (inl refl), r .0))
+
       go : (e .moment ≤ m) ⊎ (m < e .moment) → At m j c (e ∷ l) w
       go (inl h) = inr (h, at-agree m j c (apply c (e .call .op)) l w (unmoved c j q (apart-unmoved m j h a)) r)
       go (inr h) = inl (past h, first l p h r)

@@ -2,13 +2,12 @@
 use mathlib.Core.Path.{_≡_, refl, sym, ap, _∙_, subst}
 use mathlib.Core.Logic.{_≢_, _⊎_, inl, inr}
 use mathlib.Core.Option.{Option, none, some}
-use mathlib.Core.List.{List, [], _∷_}
-use Prim.Native.Nat.{ℕ, suc, _+_, _≤_, _<_}
+use Prim.Native.Nat.{ℕ, suc, _+_, _≤_}
 use native.Mathlib.Omega.{arith}
-use Rattle.history.specs.Basics.{upd, _∈_}
-use Rattle.history.specs.History.{Op, cellOf, Action, begin, step, Event, refused, begun, going, answered, Answer, Begin, Call, Finished, Calls, called, advance, advanced, closed, enter, CallOf, finished, pending, IsBusy, Allowed}
+use Rattle.history.specs.Basics.{upd}
+use Rattle.history.specs.History.{Op, Action, begin, step, Event, refused, begun, going, answered, Answer, Call, Calls, called, advanced, enter, IsBusy, Allowed}
 use Rattle.history.specs.Demand3.{mostHard}
-use Rattle.history.proofs.Basics.{either, upd-at, upd-same, upd-off}
+use Rattle.history.proofs.Basics.{either, upd-at, upd-off}
 use Rattle.history.proofs.Simulation.{Tally, first, further, Follows}
 
 -- OPTIONS
@@ -86,12 +85,12 @@ module _ {S : Type 0} (doing : S → ℕ → Option Tally) (size : ℕ) (s s' : 
       record {
         allowed = is-busy (c .1);
         change = goes (c .0) (c .1);
-        tracks = changed t (some (further (f .now) x)) (advanced b x (b .pending t)) (ap (λ n. some (further n x)) (sym (c .2)) ∙ sym (ap (λ o. tallyOf (advanced b x o)) (c .1))) (f .rest)
+        tracks = changed t (some (further (f .now) x)) (advanced b x (b .pending t)) (ap (λ n. some (further n x)) (sym (c .2)) ∙ sym (ap (λ o. tallyOf (advanced b x o)) (c .1))) (f .rest);
       }
   tracked (step t) (answered x a n h) f =
       let c = call-of (b .pending t) (f .now) (sym (same t) ∙ f .was) in
       record {
         allowed = is-busy (c .1);
         change = ends {x = x} {n = n} {h = h} (c .0) (c .1) (cc (c .2)) (cc (c .2)) (subst (λ (n : Tally). h ≤ mostHard (n .op)) (sym (c .2)) (f .few));
-        tracks = changed t none none refl (f .rest)
+        tracks = changed t none none refl (f .rest);
       }
