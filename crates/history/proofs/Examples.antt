@@ -13,7 +13,7 @@ use Rattle.history.specs.Basics.{upd, _∈_, Once}
 use Rattle.history.specs.History.{Op, read, swap, Action, begin, step, Event, refused, begun, going, answered, Answer, Value, Yes, No, Begin, Call, Finished, Calls, noCalls, callsOf}
 use Rattle.history.specs.History.{CallOf, finished, pending, WellFormed}
 use Rattle.history.specs.Linearization.{Point, replies, Placed, Linearizes}
-use Rattle.history.specs.Demand3.{Bounds, Alone, NoHardware}
+use Rattle.history.specs.Demand3.{most, mostHard, Bounds, Alone, NoHardware, Demand3}
 use Rattle.history.proofs.Basics.{either}
 use Rattle.history.proofs.Tracks.{clash, some-inj}
 use Rattle.history.proofs.Points.{ats}
@@ -178,6 +178,39 @@ late-swap-at-the-freezing = late-linearizes 12 (omega arith) (omega arith)
 
 pub late-swap-at-its-store : Linearizes five (callsOf late-swap) (point halted 13 ∷ point decider 15 ∷ [])
 late-swap-at-its-store = late-linearizes 13 (omega arith) (omega arith)
+
+-- RIGHT: the whole of demand 3, on a block active at both begins: the halted swap made no hardware CAS, the other was not alone
+pub late-swap-meets-demand-3 : Demand3 (λ l k. Unit {0}) 1 five late-swap
+unfolding upd
+late-swap-meets-demand-3 = record {
+  well-formed = ((refl, omega arith), ((refl, omega arith), (tt, (tt, (tt, (tt, (tt, (tt, (tt, (tt, (tt, (tt, (tt, (tt, (tt, (tt, (tt, tt)))))))))))))))));
+  linearization = point halted 12 ∷ point decider 15 ∷ [];
+  linearizes = late-swap-at-the-freezing;
+  bounds = record { ended = ended; reported = reported; unended = λ t c h. unended c (late-two c 17 (pending t c h)) };
+  no-hardware = λ c n i a l. hard c n i l (late-two c n i);
+}
+  where
+    ended : (f : Finished) → f ∈ (decided ∷ []) → (f .call .steps ≤ most (f .call .start .op)) × (f .call .hard ≤ mostHard (f .call .start .op))
+    ended f (inl q) = rw q (omega arith)
+
+    reported : (f : Finished) → f ∈ (decided ∷ []) → (f .steps ≡ f .call .steps) × (f .hard ≡ f .call .hard)
+    reported f (inl q) = rw q (refl, refl)
+
+    unended : (c : Call) → (c ≡ halted) ⊎ (c ≡ decider) → (c .steps < most (c .start .op)) × (c .hard ≤ mostHard (c .start .op))
+    unended c (inl q) = rw q (omega arith)
+    unended c (inr q) = rw q (omega arith)
+
+    apart : (c : Call) (n : ℕ) → 0 < n → c ≡ decider → Alone (callsOf late-swap) c n → ⊥
+    apart c n h q l = go (l halted 17 (pending 0 halted refl) (λ e. omega arith) (rw q) (rw q (λ e. omega arith)))
+      where
+        go : (17 ≤ c .start .at) ⊎ (n ≤ 0) → ⊥
+        go (inl z) = let o = ap (λ (c : Call). c .start .at) q in omega arith
+        go (inr z) = omega arith
+
+    hard : (c : Call) (n : ℕ) → CallOf (callsOf late-swap) c n → Alone (callsOf late-swap) c n → (c ≡ halted) ⊎ (c ≡ decider) → c .hard ≡ 0
+    hard c n i l (inl q) = ap (λ (c : Call). c .hard) q
+    hard c n (finished f i) l (inr q) = absurd (apart (f .call) (f .call .last) (rw q (omega arith)) q l)
+    hard c n (pending t d h) l (inr q) = absurd (apart c 17 (omega arith) q l)
 
 -- WRONG: the halted swap only at the deciding, or at any other moment after its last step
 pub no-effect-after-the-last-step : (l : List Point) (m : ℕ) → 13 < m → point halted m ∈ l → Linearizes five (callsOf late-swap) l → ⊥
