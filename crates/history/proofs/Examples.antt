@@ -4,7 +4,7 @@ use mathlib.Core.Path.{_≡_, refl, sym, ap, _∙_, subst}
 use mathlib.Core.Logic.{_≢_, _⊎_, inl, inr}
 use mathlib.Core.Bool.{Bool, true, false, cond}
 use mathlib.Core.Option.{none, some}
-use mathlib.Core.List.{List, [], _∷_}
+use mathlib.Core.List.{List, [], _∷_, _++_}
 use Prim.Native.Nat.{ℕ, _+_, _*_, _≤_, _<_}
 use native.Mathlib.Omega.{arith}
 use lib.Dec.{eqb, T}
@@ -16,7 +16,7 @@ use Rattle.history.specs.Linearization.{Point, replies, Placed, Lineariz
 use Rattle.history.specs.Demand3.{most, mostHard, Bounds, Alone, NoHardware, Demand3}
 use Rattle.history.proofs.Basics.{either}
 use Rattle.history.proofs.Tracks.{clash, some-inj}
-use Rattle.history.proofs.Points.{ats}
+use Rattle.history.proofs.Points.{ats, to-ats}
 use Rattle.history.proofs.Kept.{point}
 
 -- TOOLS: every cell holds 5 first; a history of the tasks 0 and 1 with the calls c and d
@@ -234,12 +234,16 @@ no-seen-swap-left-out l out r = let p = late-has l r in out (point halted (p .0)
 pub no-finished-call-left-out : (l : List Point) → ((x : Point) → x ∈ l → x .call ≢ decider .start) → Linearizes five (callsOf late-swap) l → ⊥
 no-finished-call-left-out l out r = let p = late-has l r in out (point decider (p .1)) (p .3) refl
 
--- WRONG IN EVERY HISTORY: a call twice; a call at its own begin
+-- WRONG IN EVERY HISTORY: a call twice; a call at its own begin, or earlier
 
-pub no-call-twice : (values : ℕ → ℕ) (b : Calls) (c : Call) (m n : ℕ) (l : List Point) → Linearizes values b (point c m ∷ point c n ∷ l) → ⊥
-no-call-twice values b c m n l r = r .once .0 (inl refl)
+not-again : (xs ys : List Point) (x y : Point) → Once (ats (xs ++ (x ∷ ys))) → y ∈ ys → y .call .at ≡ x .call .at → ⊥
+not-again [] ys x y o i q = o .0 (rw (← q) (to-ats ys y i))
+not-again (z ∷ xs) ys x y o i q = not-again xs ys x y (o .1) i q
 
-pub no-effect-at-the-begin : (values : ℕ → ℕ) (b : Calls) (l : List Point) (x : Point) → x ∈ l → x .moment ≡ x .call .at → Linearizes values b l → ⊥
+pub no-call-twice : (values : ℕ → ℕ) (b : Calls) (c : Call) (m n : ℕ) (xs ys : List Point) → point c n ∈ ys → Linearizes values b (xs ++ (point c m ∷ ys)) → ⊥
+no-call-twice values b c m n xs ys i r = not-again xs ys (point c m) (point c n) (r .once) i refl
+
+pub no-effect-at-the-begin : (values : ℕ → ℕ) (b : Calls) (l : List Point) (x : Point) → x ∈ l → x .moment ≤ x .call .at → Linearizes values b l → ⊥
 no-effect-at-the-begin values b l x i q r = let p = r .placed x i in omega (arith, p .after-begin, ap (λ (s : Begin). s .at) (p .is))
 
 -- WRONG ANSWERS: no linearization has them

@@ -1,5 +1,5 @@
 -- What a linearization in the making keeps from action to action. Its one idea: each cell has a moment, `firm`, before which
--- nothing changes any more, and behind which nothing stands yet.
+-- nothing changes any more, and from which on no point stands yet.
 use mathlib.Core.Path.{_≡_, refl, sym, ap, _∙_, subst}
 use mathlib.Core.Logic.{_≢_, _⊎_, inl, inr}
 use mathlib.Core.Option.{Option, none, some}

@@ -98,7 +98,7 @@ pub from-ats : (l : List Point) (n : ℕ) → n ∈ ats l → (x : Point) × (x 
 from-ats (x ∷ l) n (inl h) = (x, inl refl, h)
 from-ats (x ∷ l) n (inr h) = let r = from-ats l n h in (r .0, inr (r .1), r .2)
 
-to-ats : (l : List Point) (x : Point) → x ∈ l → x .call .at ∈ ats l
+pub to-ats : (l : List Point) (x : Point) → x ∈ l → x .call .at ∈ ats l
 to-ats (y ∷ l) x (inl h) = inl (ap (λ (x : Point). x .call .at) h)
 to-ats (y ∷ l) x (inr h) = inr (to-ats l x h)
 
