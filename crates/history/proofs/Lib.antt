@@ -1,2 +1,13 @@
 pub mod Basics
 pub mod Simulation
+pub mod Tracks
+pub mod MovesOne
+pub mod Counts
+pub mod Points
+pub mod Kept
+pub mod Moves
+pub mod Linearize
+pub mod NoHardware
+pub mod Meets
+pub mod EndsWithin
+pub mod Examples

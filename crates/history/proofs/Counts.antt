@@ -1,0 +1,36 @@
+-- The bounds: of a pending call they are the machine's own; a finished call keeps those of its last step.
+use mathlib.Core.Path.{_≡_}
+use mathlib.Core.Logic.{inl, inr}
+use mathlib.Core.Option.{some}
+use mathlib.Core.List.{_∷_}
+use Prim.Native.Nat.{ℕ, _≤_, _<_}
+use native.Mathlib.Omega.{arith}
+use Rattle.history.specs.Basics.{_∈_}
+use Rattle.history.specs.History.{Action, Event, Call, Finished, Calls, enter}
+use Rattle.history.specs.Demand3.{most, mostHard, Bounds}
+use Rattle.history.proofs.Tracks.{Change, refuses, starts, goes, ends}
+use Rattle.history.proofs.MovesOne.{Dated, last-one, ended-finished}
+
+-- task by task, what the machine promises of the pending calls
+abbrev pub Within : Calls → Type 0
+Within b = (t : ℕ) (c : Call) → b .pending t ≡ some c → (c .steps < most (c .start .op)) × (c .hard ≤ mostHard (c .start .op))
+
+pub record Ended (f : Finished) : Type 0 where
+  pub few : (f .call .steps ≤ most (f .call .start .op)) × (f .call .hard ≤ mostHard (f .call .start .op))
+  pub reported : (f .steps ≡ f .call .steps) × (f .hard ≡ f .call .hard)
+
+abbrev pub AllEnded : Calls → Type 0
+AllEnded b = (f : Finished) → f ∈ b .finished → Ended f
+
+pub ended-next : {S : Type 0} {s s' : S} {b : Calls} {a : Action} {e : Event} → Dated b → Within b → AllEnded b → Change s s' b a e → AllEnded (enter b a e)
+ended-next dated within all (refuses q) f i = all f i
+ended-next dated within all (starts idle) f i = all f i
+ended-next dated within all (goes c busy) f i = all f i
+ended-next {b = b} dated within all (ends {t} {x} {a} {n} {h} c busy p q r) f i = go (rw (ended-finished b dated t x c busy a n h) at i)
+  where
+    go : f ∈ (last-one b dated t x c busy a n h ∷ b .finished) → Ended f
+    go (inl e) = rw e (record { few = (omega (arith, within t c busy .0), omega arith); reported = (p, q) })
+    go (inr j) = all f j
+
+pub bounds-of : {b : Calls} → Within b → AllEnded b → Bounds b
+bounds-of within all = record { ended = λ f i. all f i .few; reported = λ f i. all f i .reported; unended = within }

@@ -1,0 +1,96 @@
+-- How an action changes the calls of a history, and that the machine's tallies change with them: one analysis of the cases for all of demand 3.
+use mathlib.Core.Path.{_≡_, refl, sym, ap, _∙_, subst}
+use mathlib.Core.Logic.{_≢_, _⊎_, inl, inr}
+use mathlib.Core.Option.{Option, none, some}
+use Prim.Native.Nat.{ℕ, suc, _+_, _≤_}
+use native.Mathlib.Omega.{arith}
+use Rattle.history.specs.Basics.{upd}
+use Rattle.history.specs.History.{Op, Action, begin, step, Event, refused, begun, going, answered, Answer, Call, Calls, called, advanced, enter, IsBusy, Allowed}
+use Rattle.history.specs.Demand3.{mostHard}
+use Rattle.history.proofs.Basics.{either, upd-at, upd-off}
+use Rattle.history.proofs.Simulation.{Tally, first, further, Follows}
+
+-- OPTIONS
+
+pub clash : {A : Type 0} {o : Option A} {a : A} → o ≡ none → o ≡ some a → ⊥
+clash p q = let z : _≡_ {A = ℕ} 0 1 = cc in omega arith
+
+pub some-inj : {A : Type 0} {o : Option A} {a b : A} → o ≡ some a → o ≡ some b → a ≡ b
+some-inj p q = cc
+
+-- where a changed function gives something, it is the new thing or an old one
+pub upd-some : {A : Type 0} (f : ℕ → Option A) (t : ℕ) (o : Option A) (u : ℕ) (a : A) → upd f t o u ≡ some a → ((u ≡ t) × (o ≡ some a)) ⊎ ((u ≢ t) × (f u ≡ some a))
+upd-some f t o u a h = go (either u t)
+  where
+    go : (u ≡ t) ⊎ (u ≢ t) → ((u ≡ t) × (o ≡ some a)) ⊎ ((u ≢ t) × (f u ≡ some a))
+    go (inl e) = inl (e, sym (upd-at f t o u e) ∙ h)
+    go (inr n) = inr (n, sym (upd-off f t o u n) ∙ h)
+
+pub upd-map : {A B : Type 0} (m : A → B) (f : ℕ → B) (g : ℕ → A) → ((u : ℕ) → f u ≡ m (g u)) → (t : ℕ) (a : A) (u : ℕ) → upd f t (m a) u ≡ m (upd g t a u)
+upd-map m f g h t a u = go (either u t)
+  where
+    go : (u ≡ t) ⊎ (u ≢ t) → upd f t (m a) u ≡ m (upd g t a u)
+    go (inl e) = upd-at f t (m a) u e ∙ sym (ap m (upd-at g t a u e))
+    go (inr n) = upd-off f t (m a) u n ∙ (h u ∙ sym (ap m (upd-off g t a u n)))
+
+-- THE MACHINE'S TALLIES ARE THE PENDING CALLS'
+
+abbrev pub tallied : Call → Tally
+tallied c = record { op = c .start .op; steps = c .steps; hard = c .hard }
+
+abbrev pub tallyOf : Option Call → Option Tally
+tallyOf none = none
+tallyOf (some c) = some (tallied c)
+
+pub call-of : (o : Option Call) (n : Tally) → tallyOf o ≡ some n → (c : Call) × (o ≡ some c) × (tallied c ≡ n)
+call-of none n h = absurd (clash {o = tallyOf none} refl h)
+call-of (some c) n h = (c, refl, some-inj {o = some (tallied c)} refl h)
+
+idle-of : (o : Option Call) → tallyOf o ≡ none → o ≡ none
+idle-of none h = refl
+idle-of (some c) h = absurd (clash {o = tallyOf (some c)} h refl)
+
+is-busy : {o : Option Call} {c : Call} → o ≡ some c → IsBusy o
+is-busy h = rw h tt
+
+abbrev pub Tracks : {S : Type 0} → (S → ℕ → Option Tally) → S → Calls → Type 0
+Tracks doing s b = (t : ℕ) → doing s t ≡ tallyOf (b .pending t)
+
+-- what an action did: it was refused, or a call began, went on, or ended
+pub data Change {S : Type 0} (s s' : S) (b : Calls) : Action → Event → Type 0 where
+  refuses : {a : Action} {r : ℕ} → s' ≡ s → Change s s' b a (refused r)
+  starts : {t : ℕ} {op : Op} → b .pending t ≡ none → Change s s' b (begin t op) begun
+  goes : {t x : ℕ} (c : Call) → b .pending t ≡ some c → Change s s' b (step t) (going x)
+  ends : {t x : ℕ} {a : Answer} {n h : ℕ} (c : Call) → b .pending t ≡ some c → n ≡ suc (c .steps) → h ≡ c .hard + x → h ≤ mostHard (c .start .op) →
+      Change s s' b (step t) (answered x a n h)
+
+pub record Tracked {S : Type 0} (doing : S → ℕ → Option Tally) (size : ℕ) (s s' : S) (b : Calls) (a : Action) (e : Event) : Type 0 where
+  pub allowed : Allowed size b a e
+  pub change : Change s s' b a e
+  pub tracks : Tracks doing s' (enter b a e)
+
+module _ {S : Type 0} (doing : S → ℕ → Option Tally) (size : ℕ) (s s' : S) (b : Calls) (same : Tracks doing s b) where
+  -- the tallies changed as the pending calls
+  changed : (t : ℕ) (n : Option Tally) (o : Option Call) → n ≡ tallyOf o → ((u : ℕ) → doing s' u ≡ upd (doing s) t n u) → (u : ℕ) → doing s' u ≡ tallyOf (upd (b .pending) t o u)
+  changed t n o e rest u = rest u ∙ (ap (λ m. upd (doing s) t m u) e ∙ upd-map tallyOf (doing s) (b .pending) same t o u)
+
+  pub tracked : (a : Action) (e : Event) → Follows doing size s a s' e → Tracked doing size s s' b a e
+  tracked (begin t op) (refused r) f = record { allowed = tt; change = refuses f; tracks = rw f same }
+  tracked (begin t op) begun f =
+      let idle : b .pending t ≡ none = idle-of (b .pending t) (sym (same t) ∙ f .idle) in
+      record { allowed = (idle, f .cell); change = starts idle; tracks = changed t (some (first op)) (some (called b t op)) refl (f .rest) }
+  tracked (step t) (refused r) f = record { allowed = idle-of (b .pending t) (sym (same t) ∙ f .1); change = refuses (f .0); tracks = rw (f .0) same }
+  tracked (step t) (going x) f =
+      let c = call-of (b .pending t) (f .now) (sym (same t) ∙ f .was) in
+      record {
+        allowed = is-busy (c .1);
+        change = goes (c .0) (c .1);
+        tracks = changed t (some (further (f .now) x)) (advanced b x (b .pending t)) (ap (λ n. some (further n x)) (sym (c .2)) ∙ sym (ap (λ o. tallyOf (advanced b x o)) (c .1))) (f .rest);
+      }
+  tracked (step t) (answered x a n h) f =
+      let c = call-of (b .pending t) (f .now) (sym (same t) ∙ f .was) in
+      record {
+        allowed = is-busy (c .1);
+        change = ends {x = x} {n = n} {h = h} (c .0) (c .1) (cc (c .2)) (cc (c .2)) (subst (λ (n : Tally). h ≤ mostHard (n .op)) (sym (c .2)) (f .few));
+        tracks = changed t none none refl (f .rest);
+      }
