@@ -1,1 +1,3 @@
-
+pub mod Tests
+pub mod Counting
+pub mod Unused
