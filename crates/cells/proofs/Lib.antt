@@ -2,3 +2,4 @@ pub mod Tests
 pub mod Counting
 pub mod Unused
 pub mod Numbers
+pub mod Words
