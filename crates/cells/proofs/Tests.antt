@@ -4,12 +4,14 @@ use mathlib.Core.Logic.{⊎-elim}
 use mathlib.Core.Bool.{Bool, true, false, _&&_, _||_, not, cond, and-eq-true-iff, false≢true}
 use mathlib.Core.Option.{Option, none, some}
 use mathlib.Core.List.{List, [], _∷_}
-use Prim.Native.Nat.{ℕ, zero, suc, _+_, _≤_, _<_}
+use Prim.Native.Nat.{ℕ, zero, suc, _+_, _*_, _≤_, _<_}
 use native.Mathlib.Omega.{arith}
 use native.Mathlib.Nat.{eq-or-lt-of-le}
+use lib.Dec.{eqb, leb}
 use lib.ListN.{getD}
-use Rattle.cells.specs.Basics.{ands, allFrom, anyFrom}
-use Rattle.cells.specs.Questions.{Question, refusal}
+use borrow.Author.Tests.{eqb-true, leb-true}
+use Rattle.cells.specs.Basics.{within, ands, allFrom, anyFrom}
+use Rattle.cells.specs.Questions.{Question, refusal, blocksOk}
 
 pub both : {a b : Bool} → a ≡ true → b ≡ true → (a && b) ≡ true
 both e g = rw e g
@@ -26,6 +28,14 @@ or-right false b e = e
 pub implied : (a b : Bool) → (a ≡ true → b ≡ true) → (not a || b) ≡ true
 implied true b h = h refl
 implied false b h = refl
+
+pub within-true : (n a b : ℕ) → within n a b ≡ true → (a ≤ n) × (n ≤ b)
+within-true n a b e = let q = and-eq-true-iff (leb a n) (leb n b) .0 e in (leb-true a n (q .0), leb-true n b (q .1))
+
+pub blocks-true : (n v b len : ℕ) → blocksOk n v b len ≡ true → (v + 2 * n ≤ b) × (len ≡ 5 * b)
+blocks-true n v b len e =
+    let q = and-eq-true-iff (leb (v + 2 * n) b && leb b 128) (eqb len (5 * b)) .0 e in
+    (leb-true _ _ (and-eq-true-iff (leb (v + 2 * n) b) (leb b 128) .0 (q .0) .0), eqb-true _ _ (q .1))
 
 -- the k-th test of a list of which all pass
 pub nth : (l : List Bool) → ands l ≡ true → (k : ℕ) → getD l k true ≡ true

@@ -1,21 +1,21 @@
 -- At line 29 some block is unused, and the search finds it: each cell names one block, a task uses at most two, and at line 29 at most one.
 use mathlib.Core.Path.{_≡_, refl, sym, _∙_}
 use mathlib.Core.Logic.{_⊎_, inl, inr, ⊎-elim}
-use mathlib.Core.Bool.{Bool, true, false, _&&_, _||_, not, and-eq-true-iff, false≢true}
+use mathlib.Core.Bool.{Bool, true, false, _&&_, _||_, not, false≢true}
 use mathlib.Core.Option.{Option, some}
 use mathlib.Core.List.{List}
 use Prim.Native.Nat.{ℕ, zero, suc, _+_, _*_, _≤_, _<_}
 use native.Mathlib.Omega.{arith}
 use native.Mathlib.Decide.{decLe}
-use lib.Dec.{eqb, leb}
+use lib.Dec.{eqb}
 use lib.ListN.{getD, length}
-use borrow.Author.Tests.{eqb-true, eqb-false, ltb-true, leb-true}
+use borrow.Author.Tests.{eqb-true, eqb-false, ltb-true}
 use Rattle.cells.specs.declared.Record.{Record}
 use Rattle.cells.specs.declared.State.{State}
 use Rattle.cells.specs.Record.{isIdle, recordAt}
 use Rattle.cells.specs.Questions.{holds, installs, fit, fitTests}
 use Rattle.cells.specs.Blocks.{isCurrent, isHeld, used, usesBlock, after, unusedFrom, unused}
-use Rattle.cells.proofs.Tests.{nth}
+use Rattle.cells.proofs.Tests.{nth, blocks-true}
 use Rattle.cells.proofs.Counting.{count, gap, count-or, count-and, count-none, count-one, count-any, count-less}
 
 -- COUNTING
@@ -98,6 +98,6 @@ pub one-is-unused : (s : State) (p : List ℕ) (t : ℕ) → fit s p ≡ true �
 unfolding fit unused
 one-is-unused s p t e l g =
     let test = nth (fitTests s p) e in
-    let enough : s .cells + 2 * s .tasks ≤ s .blocks = leb-true _ _ (and-eq-true-iff _ (leb (s .blocks) 128) .0 (and-eq-true-iff _ (eqb (length p) (5 * s .blocks)) .0 (test 2) .0) .0) in
+    let enough = blocks-true (s .tasks) (s .cells) (s .blocks) (length p) (test 2) .0 in
     let free = gap (used s) (s .blocks) (few s t enough l g) in
     round s (free .0) (free .1) (free .2) (after (s .blocks) (s .last)) (after-below (s .blocks) (s .last) (ltb-true _ _ (test 4)))

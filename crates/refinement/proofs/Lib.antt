@@ -1,1 +1,3 @@
-
+pub mod Assumed
+pub mod Agree
+pub mod Memory
