@@ -1,3 +1,5 @@
 pub mod Assumed
 pub mod Agree
 pub mod Memory
+pub mod Fits
+pub mod Allocation
