@@ -3,3 +3,4 @@ pub mod Agree
 pub mod Memory
 pub mod Fits
 pub mod Allocation
+pub mod Access
