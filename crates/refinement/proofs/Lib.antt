@@ -4,3 +4,4 @@ pub mod Memory
 pub mod Fits
 pub mod Allocation
 pub mod Access
+pub mod Lines
