@@ -5,3 +5,4 @@ pub mod Fits
 pub mod Allocation
 pub mod Access
 pub mod Lines
+pub mod Steps
