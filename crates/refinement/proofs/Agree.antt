@@ -6,7 +6,7 @@ use mathlib.Core.Logic.{_⊎_, inl, inr}
 use mathlib.Core.List.{List}
 use Prim.Native.Nat.{ℕ, _≤_, _<_}
 use native.Mathlib.Omega.{arith}
-use lib.Dec.{eqb, T}
+use lib.Dec.{eqb, T, T-not, eqb→eq}
 use lib.ListN.{getD, set, length, length-set}
 use lib.Seq.{getD-set-same, getD-set-other}
 use Rattle.cells.specs.declared.Record.{Record}
@@ -42,6 +42,10 @@ pub record Task (R : Links) (r q : Record) : Type 0 where
   pub same : r ≡ named q (r .held) (r .taken)
   pub held : T (holdsAt (q .line)) → R (q .cell) (q .held) (r .held)
   pub taken : T (installsAt (q .line)) → R (q .cell) (q .taken) (r .taken)
+
+-- a record that refers to no block
+pub no-blocks : {R : Links} (r : Record) → T (not (holdsAt (r .line))) → Task R r r
+no-blocks r d = record { same = refl; held = λ e. absurd (T-not (holdsAt (r .line)) d e); taken = λ e. absurd (T-not (holdsAt (r .line)) d (rw (eqb→eq (r .line) 30 e) tt)) }
 
 -- the numbers that both have: n tasks and v cells; and a pool of as many words as its blocks have
 pub record Sizes (n v tasks cells figure-tasks figure-cells blocks words : ℕ) : Type 0 where

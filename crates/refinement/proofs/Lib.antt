@@ -6,3 +6,4 @@ pub mod Allocation
 pub mod Access
 pub mod Lines
 pub mod Steps
+pub mod Opening

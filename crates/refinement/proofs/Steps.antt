@@ -28,7 +28,7 @@ use Rattle.figure.specs.Figure.{Cell, World, withBoth, leaving, recordAfter, ou
 use Rattle.figure.specs.Figure
 use Rattle.refinement.specs.Pool.{Pool, pool}
 use Rattle.refinement.proofs.Assumed.{Busy, WellRecord}
-use Rattle.refinement.proofs.Agree.{Links, Agree, Task, named, holdsAt, installsAt, records-change}
+use Rattle.refinement.proofs.Agree.{Links, Agree, Task, named, holdsAt, installsAt, no-blocks, records-change}
 use Rattle.refinement.proofs.Memory.{withCell}
 use Rattle.refinement.proofs.Fits.{fits}
 use Rattle.refinement.proofs.Access.{performs, same-hardware}
@@ -45,14 +45,11 @@ gives e r = ((r .state, r .pool), e (r .outcome))
 abbrev figureGives : (Outcome → Event) → Figure.After → World × Event
 figureGives e r = (r .world, e (r .outcome))
 
-idle-task : {R : Links} → Task R idle idle
-idle-task = record { same = refl; held = λ e. absurd e; taken = λ e. absurd e }
-
 -- what follows a line, in the pool and in the figure
 finishes : {n v : ℕ} {R : Links} (m : Memory) (w : World) (k t x : ℕ) (c : Cell) {X Y : Next} → Agree n v R (m .state) (m .pool) (withCell w k c) → t < n → Nexts R X Y
     → Same n v (gives (stepEvent x) (followed m t X)) (figureGives (stepEvent x) (leaving (withBoth w k c t (recordAfter Y)) (outcomeOf Y)))
 finishes {R = R} m w k t x c a l (going {r} {q} e) = record { R = R; agree = records-change a t r q l e; event = refl }
-finishes {R = R} m w k t x c a l ended = record { R = R; agree = records-change a t idle idle l idle-task; event = refl }
+finishes {R = R} m w k t x c a l ended = record { R = R; agree = records-change a t idle idle l (no-blocks idle tt); event = refl }
 
 module _ {n v : ℕ} {R : Links} {s : State} {p : List ℕ} {w : World} (a : Agree n v R s p w) (well : (t : ℕ) → WellRecord v (w .records t)) (t : ℕ) where
   -- THE QUESTIONS
@@ -126,14 +123,14 @@ module _ {n v : ℕ} {R : Links} {s : State} {p : List ℕ} {w : World} (a : Agr
 
   -- A BEGIN
 
-  begun : (r : Record) → Task R r r → t < n → Same n v (gives beginEvent (started s p t r)) (figureGives beginEvent (leaving (Figure.withRecord w t r) Acted))
-  begun r x l = record { R = R; agree = records-change a t r r l x; event = refl }
+  begun : (r : Record) → T (not (holdsAt (r .line))) → t < n → Same n v (gives beginEvent (started s p t r)) (figureGives beginEvent (leaving (Figure.withRecord w t r) Acted))
+  begun r x l = record { R = R; agree = records-change a t r r l (no-blocks r x); event = refl }
 
-  begins-anew : (k e x : ℕ) (c : Bool) → Task R (first (cond c 10 15) 2 k e x) (first (cond c 10 15) 2 k e x)
-  begins-anew k e x true = record { same = refl; held = λ e. absurd e; taken = λ e. absurd e }
-  begins-anew k e x false = record { same = refl; held = λ e. absurd e; taken = λ e. absurd e }
+  at-first : (c : Bool) → T (not (holdsAt (cond c 10 15)))
+  at-first true = tt
+  at-first false = tt
 
   pub begins : (op : Op) → Same n v (pool (s, p) (begin t op)) (figure w (begin t op))
   unfolding readBegun swapBegun Figure.begins
-  begins (read k) = asked (λ v i. (8, ltb k v) ∷ (9, i) ∷ []) beginEvent beginEvent _ _ (λ r. refl) (λ l _. begun (firstRead k) (record { same = refl; held = λ e. absurd e; taken = λ e. absurd e }) l)
-  begins (swap k e x) = asked (λ v i. (8, ltb k v) ∷ (9, i) ∷ (10, not (eqb e noValue) && not (eqb x noValue)) ∷ []) beginEvent beginEvent _ _ (λ r. refl) (λ l _. begun (firstSwap k e x) (begins-anew k e x (eqb e x)) l)
+  begins (read k) = asked (λ v i. (8, ltb k v) ∷ (9, i) ∷ []) beginEvent beginEvent _ _ (λ r. refl) (λ l _. begun (firstRead k) tt l)
+  begins (swap k e x) = asked (λ v i. (8, ltb k v) ∷ (9, i) ∷ (10, not (eqb e noValue) && not (eqb x noValue)) ∷ []) beginEvent beginEvent _ _ (λ r. refl) (λ l _. begun (firstSwap k e x) (at-first (eqb e x)) l)
