@@ -7,3 +7,4 @@ pub mod Access
 pub mod Lines
 pub mod Steps
 pub mod Opening
+pub mod Refines
