@@ -21,14 +21,11 @@ use Rattle.history.specs.Basics.{upd}
 use Rattle.history.proofs.Basics.{either, upd-at, upd-off, upd-cases}
 use Rattle.figure.specs.Figure.{Cell, World, wordOf}
 use Rattle.figure.specs.Figure
+use Rattle.refinement.specs.Terms.{named}
 
 -- R k i b: block i of cell k in the figure is block b of the pool
 abbrev pub Links : Type 1
 Links = ℕ → ℕ → ℕ → Type 0
-
--- the record with other block numbers
-abbrev pub named : Record → (held taken : ℕ) → Record
-named q h k = record { line = q .line; wanted = q .wanted; kind = q .kind; cell = q .cell; expected = q .expected; new = q .new; held = h; taken = k; loaded = q .loaded; steps = q .steps; hard = q .hard }
 
 -- by the number of its line, a task has done its first load; its next line is 30
 abbrev pub holdsAt : ℕ → Bool

@@ -16,8 +16,9 @@ use Rattle.cells.specs.Blocks.{isCurrent, isHeld, used, usesBlock}
 use Rattle.cells.specs.Step.{current}
 use Rattle.cells.proofs.Tests.{both, implied, or-left, or-right, all-from, none-of}
 use Rattle.figure.specs.Figure.{World}
+use Rattle.refinement.specs.Terms.{named}
 use Rattle.refinement.proofs.Assumed.{Busy, WellRecord}
-use Rattle.refinement.proofs.Agree.{Links, Agree, Task, named, holdsAt, installsAt}
+use Rattle.refinement.proofs.Agree.{Links, Agree, Task, holdsAt, installsAt}
 
 -- FIT
 

@@ -14,7 +14,8 @@ use Rattle.cells.specs.Questions.{ofKind}
 use Rattle.cells.specs.Blocks.{unused}
 use Rattle.cells.proofs.Numbers.{number}
 use Rattle.cells.proofs.Unused.{Found}
-use Rattle.refinement.proofs.Agree.{Links, Task, named, holdsAt, installsAt}
+use Rattle.refinement.specs.Terms.{named}
+use Rattle.refinement.proofs.Agree.{Links, Task, holdsAt, installsAt}
 use Rattle.refinement.proofs.Access.{Linked, loadCell, load, store, decideCas, installCas, allocate, Answers}
 
 -- what a task at a line has: the links that its access uses

@@ -20,8 +20,9 @@ use Rattle.history.specs.History.{Action, begin, step, Event, history, run}
 use Rattle.figure.specs.Figure.{World, figure, opening, wordOf}
 use Rattle.figure.specs.Figure
 use Rattle.refinement.specs.Pool.{Pool, pool}
+use Rattle.refinement.specs.Terms.{start, named}
 use Rattle.refinement.proofs.Assumed.{WellRecord, Well}
-use Rattle.refinement.proofs.Agree.{Links, Agree, named}
+use Rattle.refinement.proofs.Agree.{Links, Agree}
 use Rattle.refinement.proofs.Fits.{fits}
 use Rattle.refinement.proofs.Steps.{Same, steps, begins}
 use Rattle.refinement.proofs.Opening.{Opened, opens}
@@ -66,31 +67,35 @@ module _ {n v : ℕ} where
 
 -- an opening that is not refused, then any list of actions
 module _ (well : Well) (s : State) (p : List ℕ) (n v b : ℕ) (vs : List ℕ) (ok : refusal (openQuestions (length p) n v b vs) ≡ none) where
-  abbrev pub start : Pool
-  start = let r = opened s p n v b vs in (r .state, r .pool)
-
-  fresh-opening : Agree n v (Opened v) (start .0) (start .1) (opening n v vs)
+  fresh-opening : Agree n v (Opened v) (start s p n v b vs .0) (start s p n v b vs .1) (opening n v vs)
   unfolding opened
   fresh-opening = rw ok (opens p n v b vs ok)
 
-  fresh : Together n v start (opening n v vs)
+  fresh : Together n v (start s p n v b vs) (opening n v vs)
   fresh = record { R = Opened v; agree = fresh-opening; well = well n v vs }
 
-  pub together : (l : List Action) → Together n v (run pool start l) (run figure (opening n v vs) l)
-  together l = after l fresh
+  module _ (l : List Action) where
+    abbrev x : Pool
+    x = run pool (start s p n v b vs) l
 
-  -- Action by action, the pool gives the events of figure 2 with a new block each time: refusals, answers, steps and hardware CAS attempts.
-  pub same-history : (l : List Action) → history pool start l ≡ history figure (opening n v vs) l
-  same-history l = histories l fresh
+    abbrev w : World
+    w = run figure (opening n v vs) l
 
-  -- The record of each task is the figure's but for the numbers of the blocks that it holds and has taken.
-  pub same-records : (l : List Action) (t : ℕ) → t < n → (h k : ℕ) × (recordAt (run pool start l .0 .records) t ≡ named (run figure (opening n v vs) l .records t) h k)
-  same-records l t h = let r = recordAt (run pool start l .0 .records) t in (r .held, r .taken, together l .agree .records t h .same)
+    pub together : Together n v x w
+    together = after l fresh
 
-  -- The state is fit after any actions: question 6 is never answered no.
-  pub always-fit : (l : List Action) → fit (run pool start l .0) (run pool start l .1) ≡ true
-  always-fit l = is-fit (together l)
+    -- Action by action, the pool gives the events of figure 2 with a new block each time: refusals, answers, steps and hardware CAS attempts.
+    pub same-history : history pool (start s p n v b vs) l ≡ history figure (opening n v vs) l
+    same-history = histories l fresh
 
-  -- A look shows, or is refused, what the figure's look is.
-  pub same-look : (l : List Action) (k : ℕ) → looked (run pool start l .0) (run pool start l .1) k ≡ Figure.looked (run figure (opening n v vs) l) k
-  same-look l k = looks (together l) k
+    -- The record of each task is the figure's but for the numbers of the blocks that it holds and has taken.
+    pub same-records : (t : ℕ) → t < n → (h k : ℕ) × (recordAt (x .0 .records) t ≡ named (w .records t) h k)
+    same-records t h = let r = recordAt (x .0 .records) t in (r .held, r .taken, together .agree .records t h .same)
+
+    -- The state is fit after any actions: question 6 is never answered no.
+    pub always-fit : fit (x .0) (x .1) ≡ true
+    always-fit = is-fit together
+
+    -- A look shows, or is refused, what the figure's look is.
+    pub same-look : (k : ℕ) → looked (x .0) (x .1) k ≡ Figure.looked w k
+    same-look k = looks together k

@@ -27,8 +27,9 @@ use Rattle.history.specs.History.{Op, read, swap, Action, begin, step, Event}
 use Rattle.figure.specs.Figure.{Cell, World, withBoth, leaving, recordAfter, outcomeOf, beginEvent, stepEvent, tried, figure}
 use Rattle.figure.specs.Figure
 use Rattle.refinement.specs.Pool.{Pool, pool}
+use Rattle.refinement.specs.Terms.{named}
 use Rattle.refinement.proofs.Assumed.{Busy, WellRecord}
-use Rattle.refinement.proofs.Agree.{Links, Agree, Task, named, holdsAt, installsAt, no-blocks, records-change}
+use Rattle.refinement.proofs.Agree.{Links, Agree, Task, holdsAt, installsAt, no-blocks, records-change}
 use Rattle.refinement.proofs.Memory.{withCell}
 use Rattle.refinement.proofs.Fits.{fits}
 use Rattle.refinement.proofs.Access.{performs, same-hardware}
