@@ -8,3 +8,4 @@ pub mod Lines
 pub mod Steps
 pub mod Opening
 pub mod Refines
+pub mod LoneRead

@@ -55,7 +55,7 @@ module _ {n v : ℕ} where
   pub same-words : {x : Pool} {w : World} → Together n v x w → (k : ℕ) → k < v → (f : Field) → word (x .1) (current (x .0) k) f ≡ wordOf (w .cell k) (w .cell k .current) f
   same-words {x} {w} g k h f = g .agree .blocks .words k (w .cell k .current) (current (x .0) k) f (g .agree .current k h)
 
-  looks : {x : Pool} {w : World} → Together n v x w → (k : ℕ) → looked (x .0) (x .1) k ≡ Figure.looked w k
+  pub looks : {x : Pool} {w : World} → Together n v x w → (k : ℕ) → looked (x .0) (x .1) k ≡ Figure.looked w k
   unfolding looked Figure.looked
   looks {x} {w} g k = rw (is-fit g, g .agree .sizes .same-cells, g .agree .sizes .cells-too) (go (ltb k v) refl)
     where
