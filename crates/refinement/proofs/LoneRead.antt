@@ -4,6 +4,7 @@ use mathlib.Core.Bool.{Bool, true, false, cond, not}
 use mathlib.Core.Option.{Option, none, some}
 use mathlib.Core.List.{List, [], _∷_}
 use Prim.Native.Nat.{ℕ, zero, suc, _<_}
+use native.Mathlib.Omega.{arith}
 use lib.Dec.{eqb, ltb}
 use lib.ListN.{length, replicate}
 use borrow.Author.Tests.{ltb-true, lt-ltb}
@@ -110,3 +111,39 @@ module _ (t : ℕ) where
   decided-read k m e =
       let value : shows m ≡ cond (eqb (m .d (m .current)) noValue) (m .v (m .current)) (m .d (m .current)) = rw e in
       (pending-13 k 3 m e (decides k m .0), ap lastEvent (to-line-13 k 3 m e) ∙ decides k m .1 ∙ ap (λ (x : ℕ). some (answered 0 (Value x) 6 1)) (sym value))
+
+-- IN BOTH
+
+shown-by : (k y : ℕ) (w : World) → Figure.looked w k ≡ Shown y → (k < w .cells) × (shows (w .cell k) ≡ y)
+unfolding Figure.looked
+shown-by k y w = go (ltb k (w .cells)) refl
+  where
+    go : (c : Bool) → ltb k (w .cells) ≡ c → shown (cond c none (some 8)) (shows (w .cell k)) ≡ Shown y → (k < w .cells) × (shows (w .cell k) ≡ y)
+    go true e h = (ltb-true k (w .cells) e, cc)
+    go false e h = let z : _≡_ {A = ℕ} 0 1 = cc in absurd (omega (arith, z))
+
+module _ {n v : ℕ} {x : Pool} {w : World} (g : Together n v x w) (t k y : ℕ) (l : t < n) (idle : isIdle (recordAt (x .0 .records) t) ≡ true) (look : looked (x .0) (x .1) k ≡ Shown y) where
+  by-figure : (c : Bool) → eqb (w .cell k .c (w .cell k .current)) 0 ≡ c → lastEvent (history figure w (loneRead t k (cond c 3 6))) ≡ some (answered 0 (Value y) (cond c 3 6) (cond c 0 1))
+  by-figure c e =
+      let s = shown-by k y w (sym (looks g k) ∙ look) in
+      let task : t < w .tasks = rw (g .agree .sizes .tasks-too) l in
+      let free : isIdle (w .records t) ≡ true = sym (ap isIdle (g .agree .records t l .same)) ∙ idle in
+      go task (s .0) free (s .1) c e
+    where
+      go : t < w .tasks → k < w .cells → isIdle (w .records t) ≡ true → shows (w .cell k) ≡ y → (c : Bool) → eqb (w .cell k .c (w .cell k .current)) 0 ≡ c
+          → lastEvent (history figure w (loneRead t k (cond c 3 6))) ≡ some (answered 0 (Value y) (cond c 3 6) (cond c 0 1))
+      go task cell free value true e = let r = active-read t k (w .cell k) e in ap lastEvent (reads-alone t w task k 3 cell free (r .0)) ∙ r .1 ∙ ap (λ (x : ℕ). some (answered 0 (Value x) 3 0)) value
+      go task cell free value false e = let r = decided-read t k (w .cell k) e in ap lastEvent (reads-alone t w task k 6 cell free (r .0)) ∙ r .1 ∙ ap (λ (x : ℕ). some (answered 0 (Value x) 6 1)) value
+
+  reads-what-it-shows : (c : Bool) → isActive x k ≡ c → lastEvent (history pool x (loneRead t k (cond c 3 6))) ≡ some (answered 0 (Value y) (cond c 3 6) (cond c 0 1))
+  reads-what-it-shows c e =
+      let cell = shown-by k y w (sym (looks g k) ∙ look) .0 in
+      let same = same-words g k (rw (g .agree .sizes .cells-too) at cell) C in
+      ap lastEvent (histories (loneRead t k (cond c 3 6)) g) ∙ by-figure c (ap (λ (x : ℕ). eqb x 0) (sym same) ∙ e)
+
+-- What look shows, a read returns that an idle task begins now and runs alone: with its third step, no hardware CAS attempted, where C of the
+-- cell's current block is false; otherwise with its sixth, having attempted one.
+pub look-is-a-lone-read : Well → (s : State) (p : List ℕ) (n v b : ℕ) (vs : List ℕ) → refusal (openQuestions (length p) n v b vs) ≡ none
+    → (l : List Action) (t k y : ℕ) → let x = run pool (start s p n v b vs) l in t < n → isIdle (recordAt (x .0 .records) t) ≡ true → looked (x .0) (x .1) k ≡ Shown y
+    → let c = isActive x k in lastEvent (history pool x (loneRead t k (cond c 3 6))) ≡ some (answered 0 (Value y) (cond c 3 6) (cond c 0 1))
+look-is-a-lone-read well s p n v b vs ok l t k y h idle look = reads-what-it-shows (together well s p n v b vs ok l) t k y h idle look (isActive (run pool (start s p n v b vs) l) k) refl
