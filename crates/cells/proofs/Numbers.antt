@@ -1,14 +1,14 @@
 -- The number of a line: a record that is at some line has that line's number.
 use mathlib.Core.Path.{_≡_, refl}
 use mathlib.Core.Bool.{Bool, true, false, _||_, not, and-false, or-true, or-false}
-use Prim.Native.Nat.{ℕ, zero, suc, _+_, _≤_, _<_}
+use Prim.Native.Nat.{ℕ, _≤_}
 use native.Mathlib.Omega.{arith}
 use native.Mathlib.Decide.{decLe}
 use lib.Dec.{eqb, leb, lit≤}
 use borrow.Author.Tests.{eqb-true, lt-leb}
 use Rattle.cells.specs.declared.Record.{Record}
 use Rattle.cells.specs.Basics.{allFrom}
-use Rattle.cells.specs.Lines.{Line, Wanted, for13, for25, for28, l1, l2, l3, l10, l11, l12, l15, l16, l17, l18, l19, l20, l21, l22, l23, l24, l26, l27, l29, l30, nowhere, lineAt, lineOf}
+use Rattle.cells.specs.Lines.{Line, l1, l2, l3, l10, l11, l12, l15, l16, l17, l18, l19, l20, l21, l22, l23, l24, l26, l27, l29, l30, nowhere, lineAt, lineOf}
 use Rattle.cells.specs.Questions.{ofKind, lineFit, reads, swaps}
 use Rattle.cells.proofs.Tests.{all-at}
 

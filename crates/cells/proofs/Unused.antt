@@ -29,8 +29,13 @@ module _ (n : ℕ) (r : Record) where
 
   in-parts : count (usesBlock r) n ≤ 1 + count taking n
   in-parts =
-      omega (arith, count-and (not (isIdle r)) (λ b. holding b || taking b) n, count-or holding taking n,
-        count-and (holds r) (λ b. eqb (r .held) b) n, count-one (r .held) n)
+      omega (
+        arith,
+        count-and (not (isIdle r)) (λ b. holding b || taking b) n,
+        count-or holding taking n,
+        count-and (holds r) (λ b. eqb (r .held) b) n,
+        count-one (r .held) n,
+      )
 
   at-most-two : count (usesBlock r) n ≤ 2
   at-most-two = omega (arith, in-parts, count-and (installs r) (λ b. eqb (r .taken) b) n, count-one (r .taken) n)

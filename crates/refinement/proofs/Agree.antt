@@ -1,7 +1,7 @@
 -- When the pool's state and the figure's world agree: a relation says which block of which cell of the figure is which block of the pool.
 -- It may keep links to blocks that nobody refers to any more; only a taken block changes it.
-use mathlib.Core.Path.{_≡_, refl, sym, ap, _∙_, fun-ext}
-use mathlib.Core.Bool.{Bool, true, false, _&&_, _||_, not}
+use mathlib.Core.Path.{_≡_, refl, fun-ext}
+use mathlib.Core.Bool.{Bool, true, _&&_, _||_, not}
 use mathlib.Core.Logic.{_⊎_, inl, inr}
 use mathlib.Core.List.{List}
 use Prim.Native.Nat.{ℕ, _≤_, _<_}
@@ -99,4 +99,5 @@ records-change {n} {v} {R} {s} {p} {w} a t r q h x = record {
   rows = rw (length-set (s .records) t r) (a .rows);
   blocks = a .blocks;
   current = a .current;
-  records = λ j l. set-cases (λ m. Task R) (s .records) (w .records) t r idle q (omega (arith, a .rows)) x j (a .records j l) }
+  records = λ j l. set-cases (λ m. Task R) (s .records) (w .records) t r idle q (omega (arith, a .rows)) x j (a .records j l);
+}

@@ -2,7 +2,7 @@
 use mathlib.Core.Path.{_≡_, refl, sym, _∙_}
 use mathlib.Core.Bool.{false}
 use mathlib.Core.List.{List}
-use Prim.Native.Nat.{ℕ, suc, _<_}
+use Prim.Native.Nat.{ℕ, _<_}
 use native.Mathlib.Omega.{arith}
 use Rattle.cells.specs.declared.State.{State}
 use Rattle.cells.specs.declared.lines.Field.{Field}
@@ -77,11 +77,13 @@ module _ {n v : ℕ} {R : Links} {s : State} {p : List ℕ} {w : World} (a : Agr
           numbers = numbers⁺;
           below = below⁺;
           words = words-change R⁺ p (fill p u x) (w .cell) j (w .cell j .next) u cell
-            (λ k i r. same⁺ k i u j (w .cell j .next) r here) (λ b r. back⁺ j (w .cell j .next) b u r here)
-            (λ k i b f r d. a .blocks .words k i b f (old⁺ k i b r d))
-            (fill-else p u x) (λ i f. old-words (w .cell j) x i f)
-            (λ f. fill-here p u x f (in-pool a u fewer) ∙ sym (new-words (w .cell j) x f));
+              (λ k i r. same⁺ k i u j (w .cell j .next) r here) (λ b r. back⁺ j (w .cell j .next) b u r here)
+              (λ k i b f r d. a .blocks .words k i b f (old⁺ k i b r d))
+              (fill-else p u x) (λ i f. old-words (w .cell j) x i f)
+              (λ f. fill-here p u x f (in-pool a u fewer) ∙ sym (new-words (w .cell j) x f));
           same = same⁺;
-          back = back⁺ };
+          back = back⁺;
+        };
         current = λ k h. rw (keeps (λ c. c .current) (w .cell) j cell refl k) (old (a .current k h) (not-current a u e k h));
-        records = other-blocks a u e R⁺ (λ k i b r d. old r d) }
+        records = other-blocks a u e R⁺ (λ k i b r d. old r d);
+      }

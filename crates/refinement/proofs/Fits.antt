@@ -3,22 +3,22 @@ use mathlib.Core.Path.{_≡_, refl, sym, ap, _∙_}
 use mathlib.Core.Bool.{Bool, true, false, _&&_, _||_, not}
 use mathlib.Core.Logic.{inl, inr}
 use mathlib.Core.List.{List}
-use Prim.Native.Nat.{ℕ, _≤_, _<_}
+use Prim.Native.Nat.{ℕ, _<_}
 use native.Mathlib.Omega.{arith}
 use lib.Dec.{eqb, ltb, T, eqb→eq}
-use borrow.Author.Tests.{eqb-true, eqb-false, lt-ltb, le-leb}
+use borrow.Author.Tests.{eqb-false, lt-ltb, le-leb}
 use Rattle.cells.specs.declared.Record.{Record}
 use Rattle.cells.specs.declared.State.{State}
 use Rattle.cells.specs.Basics.{ands}
 use Rattle.cells.specs.Record.{isIdle, recordAt}
-use Rattle.cells.specs.Questions.{holds, installs, blocksFit, busyTests, recordFit, cellsFit, recordsFit, fit}
+use Rattle.cells.specs.Questions.{holds, installs, busyTests, recordFit, cellsFit, recordsFit, fit}
 use Rattle.cells.specs.Blocks.{isCurrent, isHeld, used, usesBlock}
 use Rattle.cells.specs.Step.{current}
 use Rattle.cells.proofs.Tests.{both, implied, or-left, or-right, all-from, none-of}
 use Rattle.figure.specs.Figure.{World}
 use Rattle.refinement.specs.Terms.{named}
-use Rattle.refinement.proofs.Assumed.{Busy, WellRecord}
-use Rattle.refinement.proofs.Agree.{Links, Agree, Task, holdsAt, installsAt}
+use Rattle.refinement.proofs.Assumed.{WellRecord}
+use Rattle.refinement.proofs.Agree.{Links, Agree, Task}
 
 -- FIT
 
@@ -77,5 +77,6 @@ module _ {n v : ℕ} {R : Links} {s : State} {p : List ℕ} {w : World} (a : Agr
         same = x .same;
         held = λ h. up _ _ _ (x .held h) (eqb-false _ _ (not-held (isIdle q) (holds q) (eqb (r .held) u) (installs q && eqb (r .taken) u) free h));
         taken = λ h.
-          let line : q .line ≡ 30 = eqb→eq _ _ h in
-          up _ _ _ (x .taken h) (eqb-false _ _ (or-right (eqb (r .held) u) (eqb (r .taken) u) (rw line at free))) }
+            let line : q .line ≡ 30 = eqb→eq _ _ h in
+            up _ _ _ (x .taken h) (eqb-false _ _ (or-right (eqb (r .held) u) (eqb (r .taken) u) (rw line at free)));
+      }

@@ -8,7 +8,7 @@ use Rattle.cells.specs.declared.State.{State}
 use Rattle.cells.specs.declared.Finished.{Finished}
 use Rattle.cells.specs.declared.lines.Next.{Next}
 use Rattle.cells.specs.declared.lines.Next.the-variants.{Go, Done}
-use Rattle.cells.specs.Lines.{Line, Wanted, for13, for25, for28, l1, l2, l3, l10, l11, l12, l15, l16, l17, l18, l19, l20, l21, l22, l23, l24, l26, l27, l29, l30, nowhere, at, goto, decide, accessAt, nextAt}
+use Rattle.cells.specs.Lines.{Line, for13, for25, for28, l1, l2, l3, l10, l11, l12, l15, l16, l17, l18, l19, l20, l21, l22, l23, l24, l26, l27, l29, l30, nowhere, at, goto, decide, accessAt, nextAt}
 use Rattle.cells.specs.Lines
 use Rattle.cells.specs.Questions.{ofKind}
 use Rattle.cells.specs.Blocks.{unused}

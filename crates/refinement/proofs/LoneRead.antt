@@ -1,7 +1,7 @@
 -- What look shows is what a read returns that runs now, alone: on the figure by running it, in the pool by the same history.
 use mathlib.Core.Path.{_≡_, refl, sym, ap, _∙_, fun-ext, subst}
-use mathlib.Core.Bool.{Bool, true, false, cond, not}
-use mathlib.Core.Option.{Option, none, some}
+use mathlib.Core.Bool.{Bool, true, false, cond}
+use mathlib.Core.Option.{none, some}
 use mathlib.Core.List.{List, [], _∷_}
 use Prim.Native.Nat.{ℕ, zero, suc, _<_}
 use native.Mathlib.Omega.{arith}
@@ -10,7 +10,7 @@ use lib.ListN.{length, replicate}
 use borrow.Author.Tests.{ltb-true, lt-ltb}
 use Rattle.cells.specs.declared.Record.{Record}
 use Rattle.cells.specs.declared.State.{State}
-use Rattle.cells.specs.declared.Looked.the-variants.{NotShown, Shown}
+use Rattle.cells.specs.declared.Looked.the-variants.{Shown}
 use Rattle.cells.specs.declared.lines.Field.the-variants.{C, D}
 use Rattle.cells.specs.declared.lines.Next.{Next}
 use Rattle.cells.specs.Record.{noValue, isIdle, recordAt}
@@ -19,9 +19,9 @@ use Rattle.cells.specs.Questions.{refusal, openQuestions}
 use Rattle.cells.specs.Begin.{firstRead}
 use Rattle.cells.specs.Look.{looked, shown, shownValue}
 use Rattle.history.specs.Basics.{upd}
-use Rattle.history.specs.History.{Action, begin, step, read, Answer, Value, Event, begun, going, answered, history, run}
+use Rattle.history.specs.History.{Action, begin, step, read, Value, Event, begun, going, answered, history, run}
 use Rattle.history.proofs.Basics.{upd-same, upd-off, upd-cases}
-use Rattle.figure.specs.Figure.{Cell, World, withBoth, store, perform, recordAfter, outcomeOf, stepEvent, tried, figure, opening}
+use Rattle.figure.specs.Figure.{Cell, World, withBoth, store, perform, recordAfter, outcomeOf, stepEvent, tried, figure}
 use Rattle.figure.specs.Figure
 use Rattle.refinement.specs.Pool.{Pool, pool}
 use Rattle.refinement.specs.Terms.{start, isActive, loneRead, lastEvent}
@@ -112,7 +112,10 @@ module _ (t : ℕ) where
       let value : shows m ≡ cond (eqb (m .d (m .current)) noValue) (m .v (m .current)) (m .d (m .current)) = rw e in
       (pending-13 k 3 m e (decides k m .0), ap lastEvent (to-line-13 k 3 m e) ∙ decides k m .1 ∙ ap (λ (x : ℕ). some (answered 0 (Value x) 6 1)) (sym value))
 
--- IN BOTH
+lone-read : (t k : ℕ) (w : World) → t < w .tasks → k < w .cells → isIdle (w .records t) ≡ true → (c : Bool) → eqb (w .cell k .c (w .cell k .current)) 0 ≡ c
+    → lastEvent (history figure w (loneRead t k (cond c 3 6))) ≡ some (answered 0 (Value (shows (w .cell k))) (cond c 3 6) (cond c 0 1))
+lone-read t k w l h idle true e = let r = active-read t k (w .cell k) e in ap lastEvent (reads-alone t w l k 3 h idle (r .0)) ∙ r .1
+lone-read t k w l h idle false e = let r = decided-read t k (w .cell k) e in ap lastEvent (reads-alone t w l k 6 h idle (r .0)) ∙ r .1
 
 shown-by : (k y : ℕ) (w : World) → Figure.looked w k ≡ Shown y → (k < w .cells) × (shows (w .cell k) ≡ y)
 unfolding Figure.looked
@@ -122,24 +125,18 @@ shown-by k y w = go (ltb k (w .cells)) refl
     go true e h = (ltb-true k (w .cells) e, cc)
     go false e h = let z : _≡_ {A = ℕ} 0 1 = cc in absurd (omega (arith, z))
 
-module _ {n v : ℕ} {x : Pool} {w : World} (g : Together n v x w) (t k y : ℕ) (l : t < n) (idle : isIdle (recordAt (x .0 .records) t) ≡ true) (look : looked (x .0) (x .1) k ≡ Shown y) where
-  by-figure : (c : Bool) → eqb (w .cell k .c (w .cell k .current)) 0 ≡ c → lastEvent (history figure w (loneRead t k (cond c 3 6))) ≡ some (answered 0 (Value y) (cond c 3 6) (cond c 0 1))
-  by-figure c e =
-      let s = shown-by k y w (sym (looks g k) ∙ look) in
-      let task : t < w .tasks = rw (g .agree .sizes .tasks-too) l in
-      let free : isIdle (w .records t) ≡ true = sym (ap isIdle (g .agree .records t l .same)) ∙ idle in
-      go task (s .0) free (s .1) c e
-    where
-      go : t < w .tasks → k < w .cells → isIdle (w .records t) ≡ true → shows (w .cell k) ≡ y → (c : Bool) → eqb (w .cell k .c (w .cell k .current)) 0 ≡ c
-          → lastEvent (history figure w (loneRead t k (cond c 3 6))) ≡ some (answered 0 (Value y) (cond c 3 6) (cond c 0 1))
-      go task cell free value true e = let r = active-read t k (w .cell k) e in ap lastEvent (reads-alone t w task k 3 cell free (r .0)) ∙ r .1 ∙ ap (λ (x : ℕ). some (answered 0 (Value x) 3 0)) value
-      go task cell free value false e = let r = decided-read t k (w .cell k) e in ap lastEvent (reads-alone t w task k 6 cell free (r .0)) ∙ r .1 ∙ ap (λ (x : ℕ). some (answered 0 (Value x) 6 1)) value
+-- IN THE POOL
 
-  reads-what-it-shows : (c : Bool) → isActive x k ≡ c → lastEvent (history pool x (loneRead t k (cond c 3 6))) ≡ some (answered 0 (Value y) (cond c 3 6) (cond c 0 1))
-  reads-what-it-shows c e =
-      let cell = shown-by k y w (sym (looks g k) ∙ look) .0 in
-      let same = same-words g k (rw (g .agree .sizes .cells-too) at cell) C in
-      ap lastEvent (histories (loneRead t k (cond c 3 6)) g) ∙ by-figure c (ap (λ (x : ℕ). eqb x 0) (sym same) ∙ e)
+reads-what-it-shows : {n v : ℕ} {x : Pool} {w : World} → Together n v x w → (t k y : ℕ) → t < n → isIdle (recordAt (x .0 .records) t) ≡ true → looked (x .0) (x .1) k ≡ Shown y
+    → (c : Bool) → isActive x k ≡ c → lastEvent (history pool x (loneRead t k (cond c 3 6))) ≡ some (answered 0 (Value y) (cond c 3 6) (cond c 0 1))
+reads-what-it-shows {n} {v} {x} {w} g t k y l idle look c e =
+    let sizes = g .agree .sizes in
+    let by = shown-by k y w (sym (looks g k) ∙ look) in
+    let same = same-words g k (rw (sizes .cells-too) at (by .0)) C in
+    let free : isIdle (w .records t) ≡ true = sym (ap isIdle (g .agree .records t l .same)) ∙ idle in
+    ap lastEvent (histories (loneRead t k (cond c 3 6)) g)
+    ∙ lone-read t k w (rw (sizes .tasks-too) l) (by .0) free c (ap (λ (x : ℕ). eqb x 0) (sym same) ∙ e)
+    ∙ ap (λ (y : ℕ). some (answered 0 (Value y) (cond c 3 6) (cond c 0 1))) (by .1)
 
 -- What look shows, a read returns that an idle task begins now and runs alone: with its third step, no hardware CAS attempted, where C of the
 -- cell's current block is false; otherwise with its sixth, having attempted one.

@@ -1,12 +1,12 @@
 -- Loads, stores and hardware CAS: what they do to a block or a cell of the pool they do to the linked one of the figure.
-use mathlib.Core.Path.{_≡_, refl, sym, ap, _∙_}
+use mathlib.Core.Path.{_≡_, refl, sym, _∙_}
 use mathlib.Core.Bool.{Bool, true, false, cond}
 use mathlib.Core.Logic.{_⊎_, inl, inr}
 use mathlib.Core.List.{List}
-use Prim.Native.Nat.{ℕ, _+_, _*_, _≤_, _<_}
+use Prim.Native.Nat.{ℕ, _+_, _*_, _<_}
 use native.Mathlib.Omega.{arith}
 use lib.Dec.{eqb}
-use lib.ListN.{getD, set, length, length-set}
+use lib.ListN.{length, length-set}
 use borrow.Author.Tests.{eqb-true, eqb-false, eq-eqb, ne-eqb}
 use Rattle.cells.specs.declared.State.{State}
 use Rattle.cells.specs.declared.lines.Field.{Field}
@@ -18,7 +18,7 @@ use Rattle.cells.proofs.Words.{fields, set-here, set-else}
 use Rattle.history.specs.Basics.{upd}
 use Rattle.history.proofs.Basics.{either, upd-same, upd-at, upd-off, upd-cases}
 use Rattle.figure.specs.Figure.{Cell, World, wordOf, store, install}
-use Rattle.refinement.proofs.Agree.{Links, Agree, Blocks, set-cases, keeps, upd-own}
+use Rattle.refinement.proofs.Agree.{Links, Agree, set-cases, keeps, upd-own}
 
 -- A STORE IN THE FIGURE
 
@@ -87,13 +87,15 @@ module _ {n v : ℕ} {R : Links} {s : State} {p : List ℕ} {w : World} (a : Agr
           numbers = λ j i′ b′ y. rw (keeps (λ c. c .next) (w .cell) k m next j) (old .numbers j i′ b′ y);
           below = old .below;
           words = words-change R p (setWord p b f x) (w .cell) k i b m
-            (λ k′ i′ y. old .same k′ i′ b k i y r) (λ b′ y. old .back k i b′ b y r) (λ k′ i′ b′ g y _. old .words k′ i′ b′ g y)
-            (λ b′ g d. set-else p b f x b′ g d) (λ i′ g d. store-else (w .cell k) i x i′ f g d)
-            (λ g. set-here p b f x g (in-pool b (old .below k i b r)) ∙ rw (old .words k i b g r) (sym (store-here (w .cell k) i x f g)));
+              (λ k′ i′ y. old .same k′ i′ b k i y r) (λ b′ y. old .back k i b′ b y r) (λ k′ i′ b′ g y _. old .words k′ i′ b′ g y)
+              (λ b′ g d. set-else p b f x b′ g d) (λ i′ g d. store-else (w .cell k) i x i′ f g d)
+              (λ g. set-here p b f x g (in-pool b (old .below k i b r)) ∙ rw (old .words k i b g r) (sym (store-here (w .cell k) i x f g)));
           same = old .same;
-          back = old .back };
+          back = old .back;
+        };
         current = λ j h. rw (keeps (λ c. c .current) (w .cell) k m current j) (a .current j h);
-        records = a .records }
+        records = a .records;
+      }
 
   -- a cell gets another current block
   pub installs : (k i b : ℕ) → k < v → R k i b → Agree n v R (withCurrent s k b) p (withCell w k (install (w .cell k) i))
@@ -110,9 +112,11 @@ module _ {n v : ℕ} {R : Links} {s : State} {p : List ℕ} {w : World} (a : Agr
           below = old .below;
           words = λ j i′ b′ f y. rw (keeps (λ c. wordOf c i′ f) (w .cell) k m (fields (λ f. wordOf m i′ f ≡ wordOf (w .cell k) i′ f) refl refl refl refl refl f) j) (old .words j i′ b′ f y);
           same = old .same;
-          back = old .back };
+          back = old .back;
+        };
         current = λ j l. set-cases (λ j b c. R j (c .current) b) (s .current) (w .cell) k b 0 m (omega (arith, a .places)) r j (a .current j l);
-        records = a .records }
+        records = a .records;
+      }
 
   -- both cells name the block that the CAS expects, or neither
   pub names : (k i b : ℕ) → k < v → R k i b → eqb (current s k) b ≡ eqb (w .cell k .current) i

@@ -61,6 +61,7 @@ module _ {n v : ℕ} where
     where
       value : (Field → ℕ) → ℕ
       value f = shownValue (f C) (f Field.V) (f D)
+
       go : (c : Bool) → ltb k v ≡ c → shown (cond c none (some 8)) (value (word (x .1) (current (x .0) k))) ≡ shown (cond c none (some 8)) (value (wordOf (w .cell k) (w .cell k .current)))
       go false e = refl
       go true e = let same = same-words g k (ltb-true k v e) in rw (same C, same Field.V, same D)

@@ -12,18 +12,17 @@ use Rattle.cells.specs.declared.State.{State}
 use Rattle.cells.specs.declared.Outcome.{Outcome}
 use Rattle.cells.specs.declared.Outcome.the-variants.{Refused, Acted}
 use Rattle.cells.specs.declared.lines.Next.{Next}
-use Rattle.cells.specs.declared.lines.Next.the-variants.{Go, Done}
 use Rattle.cells.specs.Basics.{ands}
 use Rattle.cells.specs.Record.{noValue, idle, isIdle, recordAt}
 use Rattle.cells.specs.Lines.{Line, lineOf, accessAt, nextAt, counted, hardware}
 use Rattle.cells.specs.Questions.{Question, refusal, ofKind, reads, swaps, fit}
 use Rattle.cells.specs.Open.{After, unless}
-use Rattle.cells.specs.Begin.{readBegun, swapBegun, first, firstRead, firstSwap, started}
+use Rattle.cells.specs.Begin.{readBegun, swapBegun, firstRead, firstSwap, started}
 use Rattle.cells.specs.Step.{Memory, perform, followed, ran, stepped}
 use Rattle.cells.proofs.Tests.{nth, answers, all-yes}
 use Rattle.cells.proofs.Numbers.{number, at-number}
 use Rattle.cells.proofs.Unused.{one-is-unused}
-use Rattle.history.specs.History.{Op, read, swap, Action, begin, step, Event}
+use Rattle.history.specs.History.{Op, read, swap, begin, step, Event}
 use Rattle.figure.specs.Figure.{Cell, World, withBoth, leaving, recordAfter, outcomeOf, beginEvent, stepEvent, tried, figure}
 use Rattle.figure.specs.Figure
 use Rattle.refinement.specs.Pool.{Pool, pool}
@@ -73,7 +72,7 @@ module _ {n v : ℕ} {R : Links} {s : State} {p : List ℕ} {w : World} (a : Agr
     asked : (e e′ : Outcome → Event) (X : After) (Y : Figure.After) → ((r : ℕ) → e (Refused r) ≡ e′ (Refused r))
         → (t < n → ands (answers questions) ≡ true → Same n v (gives e X) (figureGives e′ Y))
         → Same n v (gives e (unless (refusal ((6, fit s p) ∷ (7, ltb t (s .tasks)) ∷ rest (s .cells) (isIdle (recordAt (s .records) t)))) s p X))
-            (figureGives e′ (Figure.unless (refusal ((7, ltb t (w .tasks)) ∷ rest (w .cells) (isIdle q))) w Y))
+        (figureGives e′ (Figure.unless (refusal ((7, ltb t (w .tasks)) ∷ rest (w .cells) (isIdle q))) w Y))
     asked e e′ X Y same f =
         let figures : refusal ((7, ltb t (w .tasks)) ∷ rest (w .cells) (isIdle q)) ≡ refusal questions = rw (a .sizes .tasks-too, a .sizes .cells-too) in
         rw (same-refusal, figures) (go (refusal questions) refl)
@@ -87,13 +86,14 @@ module _ {n v : ℕ} {R : Links} {s : State} {p : List ℕ} {w : World} (a : Agr
   module _ (l : t < n) (h k : ℕ) (e : recordAt (s .records) t ≡ named q h k) (y : Busy v q) where
     at-line : (i : Line) → ofKind i (reads q) (swaps q) ≡ true → q .line ≡ number i
         → Same n v (gives (stepEvent (hardware (accessAt i t (named q h k)))) (let m = perform s p (accessAt i t (named q h k)) in followed m t (nextAt i t (counted (named q h k) (accessAt i t (named q h k))) (m .value))))
-            (figureGives (stepEvent (hardware (accessAt i t q))) (let m = Figure.perform (w .cell (q .cell)) (accessAt i t q) in let x = nextAt i t (counted q (accessAt i t q)) (m .value) in leaving (withBoth w (q .cell) (m .cell) t (recordAfter x)) (outcomeOf x)))
+        (figureGives (stepEvent (hardware (accessAt i t q))) (let m = Figure.perform (w .cell (q .cell)) (accessAt i t q) in let x = nextAt i t (counted q (accessAt i t q)) (m .value) in leaving (withBoth w (q .cell) (m .cell) t (recordAfter x)) (outcomeOf x)))
     at-line i f at =
         let task : Task R (named q h k) q = subst (λ (r : Record). Task R r q) e (a .records t l) in
         let has : Has R s q h k i = record {
           held = subst (λ (n : ℕ). T (holdsAt n) → R (q .cell) (q .held) h) at (task .held);
           taken = subst (λ (n : ℕ). T (installsAt n) → R (q .cell) (q .taken) k) at (task .taken);
-          found = λ g. one-is-unused s p t (fits a well) (rw (a .sizes .same-tasks) l) (ap (λ (r : Record). r .line) e ∙ at ∙ g) } in
+          found = λ g. one-is-unused s p t (fits a well) (rw (a .sizes .same-tasks) l) (ap (λ (r : Record). r .line) e ∙ at ∙ g);
+        } in
         let accesses = linked R s q h k t (reads q) (swaps q) i f has in
         let m = perform s p (accessAt i t (named q h k)) in
         let m′ = Figure.perform (w .cell (q .cell)) (accessAt i t q) in
@@ -118,9 +118,9 @@ module _ {n v : ℕ} {R : Links} {s : State} {p : List ℕ} {w : World} (a : Agr
       let r = recordAt (s .records) t in
       asked (λ v i. (11, not i) ∷ []) (stepEvent (tried t r)) (stepEvent (tried t q)) (ran s p t r) (Figure.ran w t q) (λ r. refl)
       (λ l g.
-        let e = a .records t l .same in
-        subst (λ (r : Record). Same n v (gives (stepEvent (tried t r)) (ran s p t r)) (figureGives (stepEvent (tried t q)) (Figure.ran w t q))) (sym e)
-        (busy-step l (r .held) (r .taken) e (busy (well t) (nth (ltb t n ∷ not (isIdle q) ∷ []) g 1))))
+      let e = a .records t l .same in
+      subst (λ (r : Record). Same n v (gives (stepEvent (tried t r)) (ran s p t r)) (figureGives (stepEvent (tried t q)) (Figure.ran w t q))) (sym e)
+      (busy-step l (r .held) (r .taken) e (busy (well t) (nth (ltb t n ∷ not (isIdle q) ∷ []) g 1))))
 
   -- A BEGIN
 
