@@ -87,30 +87,30 @@ module _ (t : ℕ) where
   active-read k m e = rw e ((refl, refl, (refl, refl, (refl, refl, tt))), refl)
 
   -- else three to line 13, and three that decide
-  abbrev at13 : ℕ → Cell → Record
-  at13 k m = record { line = 1; wanted = 13; kind = 1; cell = k; expected = 0; new = 0; held = m .current; taken = 0; loaded = m .v (m .current); steps = 3; hard = 0 }
+  abbrev wanting13 : ℕ → Cell → Record
+  wanting13 k m = record { line = 1; wanted = 13; kind = 1; cell = k; expected = 0; new = 0; held = m .current; taken = 0; loaded = m .v (m .current); steps = 3; hard = 0 }
 
   decided : (m : Cell) (b x : ℕ) (c : Bool) → cond c (Figure.memory (store m b D x) 1) (Figure.memory m 0) .cell .d b ≡ cond c x (m .d b)
   decided m b x true = upd-same (m .d) b x
   decided m b x false = refl
 
   decides : (k : ℕ) (m : Cell) → let b = m .current in
-      Pending k 3 m (at13 k m) × (lastEvent (alone 3 m (at13 k m)) ≡ some (answered 0 (Value (cond (eqb (m .d b) noValue) (m .v b) (m .d b))) 6 1))
+      Pending k 3 m (wanting13 k m) × (lastEvent (alone 3 m (wanting13 k m)) ≡ some (answered 0 (Value (cond (eqb (m .d b) noValue) (m .v b) (m .d b))) 6 1))
   decides k m =
       let b = m .current in
       ((refl, refl, (refl, refl, (refl, refl, tt))), ap (λ (x : ℕ). some (answered 0 (Value x) 6 1)) (decided m b (m .v b) (eqb (m .d b) noValue)))
 
   module _ (k i : ℕ) (m : Cell) (e : eqb (m .c (m .current)) 0 ≡ false) where
-    to-line-13 : alone (suc (suc (suc i))) m (firstRead k) ≡ (step t, going 0) ∷ (step t, going 0) ∷ (step t, going 0) ∷ alone i m (at13 k m)
+    to-line-13 : alone (suc (suc (suc i))) m (firstRead k) ≡ (step t, going 0) ∷ (step t, going 0) ∷ (step t, going 0) ∷ alone i m (wanting13 k m)
     to-line-13 = rw e
 
-    pending-13 : Pending k i m (at13 k m) → Pending k (suc (suc (suc i))) m (firstRead k)
-    pending-13 h = rw e (refl, refl, (refl, refl, (refl, refl, h)))
+    pending-to-13 : Pending k i m (wanting13 k m) → Pending k (suc (suc (suc i))) m (firstRead k)
+    pending-to-13 h = rw e (refl, refl, (refl, refl, (refl, refl, h)))
 
   decided-read : (k : ℕ) (m : Cell) → eqb (m .c (m .current)) 0 ≡ false → Answers k 6 1 (shows m) m (firstRead k)
   decided-read k m e =
       let value : shows m ≡ cond (eqb (m .d (m .current)) noValue) (m .v (m .current)) (m .d (m .current)) = rw e in
-      (pending-13 k 3 m e (decides k m .0), ap lastEvent (to-line-13 k 3 m e) ∙ decides k m .1 ∙ ap (λ (x : ℕ). some (answered 0 (Value x) 6 1)) (sym value))
+      (pending-to-13 k 3 m e (decides k m .0), ap lastEvent (to-line-13 k 3 m e) ∙ decides k m .1 ∙ ap (λ (x : ℕ). some (answered 0 (Value x) 6 1)) (sym value))
 
 lone-read : (t k : ℕ) (w : World) → t < w .tasks → k < w .cells → isIdle (w .records t) ≡ true → (c : Bool) → eqb (w .cell k .c (w .cell k .current)) 0 ≡ c
     → lastEvent (history figure w (loneRead t k (cond c 3 6))) ≡ some (answered 0 (Value (shows (w .cell k))) (cond c 3 6) (cond c 0 1))

@@ -34,8 +34,7 @@ opens p n v b vs ok =
     let values : length vs ≡ v = eqb-true _ _ (test 3) in
     let zeros = length-replicate {A = ℕ} (length p) 0 in
     let words : length (openPool p vs) ≡ length p = length-filled vs (replicate (length p) 0) 0 ∙ zeros in
-    let first : (k : ℕ) (f : Field) → k < v → word (openPool p vs) k f ≡ fresh (getD vs k 0) f =
-    λ k f h. rw (zero-add k) at (filled-word vs (replicate (length p) 0) 0 k f (omega arith) (omega (arith, zeros, blocks .0, blocks .1))) in
+    let first : (k : ℕ) (f : Field) → k < v → word (openPool p vs) k f ≡ fresh (getD vs k 0) f = λ k f h. rw (zero-add k) at (filled-word vs (replicate (length p) 0) 0 k f (omega arith) (omega (arith, zeros, blocks .0, blocks .1))) in
     record {
       sizes = record { same-tasks = refl; same-cells = refl; tasks-too = refl; cells-too = refl; tasks-ok = test 0; cells-ok = test 1; blocks-ok = rw words (test 2) };
       last = omega (arith, blocks .0, cells .0, tasks .0);
