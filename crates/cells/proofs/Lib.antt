@@ -1,1 +1,5 @@
-
+pub mod Tests
+pub mod Counting
+pub mod Unused
+pub mod Numbers
+pub mod Words

@@ -1,0 +1,72 @@
+-- Linked accesses: the pool performs its own as the figure performs its own, and memory answers alike.
+use mathlib.Core.Path.{_≡_, refl}
+use mathlib.Core.Bool.{Bool, true, false, cond}
+use mathlib.Core.List.{List}
+use Prim.Native.Nat.{ℕ, _<_}
+use lib.Dec.{eqb}
+use Rattle.cells.specs.declared.State.{State}
+use Rattle.cells.specs.declared.lines.Field.{Field}
+use Rattle.cells.specs.declared.lines.Field.the-variants.{D}
+use Rattle.cells.specs.declared.lines.Access.{Access}
+use Rattle.cells.specs.declared.lines.Access.the-variants.{LoadCell, Load, Store, DecideCas, InstallCas, Allocate, Nothing}
+use Rattle.cells.specs.Record.{noValue}
+use Rattle.cells.specs.Lines.{hardware}
+use Rattle.cells.specs.Pool.{setWord}
+use Rattle.cells.specs.Blocks.{unused}
+use Rattle.cells.specs.Step.{Memory, memory, perform, current, withCurrent}
+use Rattle.cells.proofs.Unused.{Found}
+use Rattle.figure.specs.Figure.{World, install}
+use Rattle.figure.specs.Figure
+use Rattle.refinement.proofs.Agree.{Links, Agree}
+use Rattle.refinement.proofs.Memory.{withCell, stays, stores, installs, names}
+use Rattle.refinement.proofs.Allocation.{Link, new, allocates}
+
+-- the pool's access and the figure's, of a task whose cell is k; an allocation finds a block
+pub data Linked (R : Links) (s : State) (k : ℕ) : Access → Access → Type 0 where
+  loadCell : Linked R s k (LoadCell k) (LoadCell k)
+  load : {i b : ℕ} {f : Field} → R k i b → Linked R s k (Load b f) (Load i f)
+  store : {i b : ℕ} {f : Field} {x : ℕ} → R k i b → Linked R s k (Store b f x) (Store i f x)
+  decideCas : {i b x : ℕ} → R k i b → Linked R s k (DecideCas b x) (DecideCas i x)
+  installCas : {i b i′ b′ : ℕ} → R k i b → R k i′ b′ → Linked R s k (InstallCas k b b′) (InstallCas k i i′)
+  allocate : {x : ℕ} → Found s (unused s) → Linked R s k (Allocate x) (Allocate x)
+
+pub same-hardware : {R : Links} {s : State} {k : ℕ} {x y : Access} → Linked R s k x y → hardware x ≡ hardware y
+same-hardware loadCell = refl
+same-hardware (load r) = refl
+same-hardware (store r) = refl
+same-hardware (decideCas r) = refl
+same-hardware (installCas r r′) = refl
+same-hardware (allocate f) = refl
+
+-- what memory answers the pool and the figure: linked blocks, or the same value
+abbrev pub Answers : Links → ℕ → Access → ℕ → ℕ → Type 0
+Answers R k (LoadCell c) b i = R k i b
+Answers R k (Load c f) b i = b ≡ i
+Answers R k (Store c f x) b i = b ≡ i
+Answers R k (DecideCas c x) b i = b ≡ i
+Answers R k (InstallCas c d e) b i = b ≡ i
+Answers R k (Allocate x) b i = R k i b
+Answers R k Nothing b i = b ≡ i
+
+pub record Performed (n v : ℕ) (s : State) (w : World) (k : ℕ) (y : Access) (m : Memory) (m′ : Figure.Memory) : Type 1 where
+  pub R : Links
+  pub agree : Agree n v R (m .state) (m .pool) (withCell w k (m′ .cell))
+  pub answer : Answers R k y (m .value) (m′ .value)
+  pub records : m .state .records ≡ s .records
+
+module _ {n v : ℕ} {R : Links} {s : State} {p : List ℕ} {w : World} (a : Agree n v R s p w) (k : ℕ) (h : k < v) where
+  pub performs : {x y : Access} → Linked R s k x y → Performed n v s w k y (perform s p x) (Figure.perform (w .cell k) y)
+  performs loadCell = record { R = R; agree = stays a k; answer = a .current k h; records = refl }
+  performs (load {i} {b} {f} r) = record { R = R; agree = stays a k; answer = a .blocks .words k i b f r; records = refl }
+  performs (store {i} {b} {f} {x} r) = record { R = R; agree = stores a k i b f x r; answer = refl; records = refl }
+  performs (decideCas {i} {b} {x} r) = rw (a .blocks .words k i b D r) (go (eqb (w .cell k .d i) noValue))
+    where
+      go : (c : Bool) → Performed n v s w k (DecideCas i x) (cond c (memory s (setWord p b D x) 1) (memory s p 0)) (cond c (Figure.memory (Figure.store (w .cell k) i D x) 1) (Figure.memory (w .cell k) 0))
+      go true = record { R = R; agree = stores a k i b D x r; answer = refl; records = refl }
+      go false = record { R = R; agree = stays a k; answer = refl; records = refl }
+  performs (installCas {i} {b} {i′} {b′} r r′) = rw (names a k i b h r) (go (eqb (w .cell k .current) i))
+    where
+      go : (c : Bool) → Performed n v s w k (InstallCas k i i′) (cond c (memory (withCurrent s k b′) p 1) (memory s p 0)) (cond c (Figure.memory (install (w .cell k) i′) 1) (Figure.memory (w .cell k) 0))
+      go true = record { R = R; agree = installs a k i′ b′ h r′; answer = refl; records = refl }
+      go false = record { R = R; agree = stays a k; answer = refl; records = refl }
+  performs (allocate {x} f) = rw (f .1) (record { R = Link R k (w .cell k .next) (f .0); agree = allocates a (f .0) (f .2) (f .3) k x; answer = new refl refl refl; records = refl })

@@ -1,0 +1,82 @@
+-- A state that agrees with the figure is fit; and nothing refers to an unused block.
+use mathlib.Core.Path.{_≡_, refl, sym, ap, _∙_}
+use mathlib.Core.Bool.{Bool, true, false, _&&_, _||_, not}
+use mathlib.Core.Logic.{inl, inr}
+use mathlib.Core.List.{List}
+use Prim.Native.Nat.{ℕ, _<_}
+use native.Mathlib.Omega.{arith}
+use lib.Dec.{eqb, ltb, T, eqb→eq}
+use borrow.Author.Tests.{eqb-false, lt-ltb, le-leb}
+use Rattle.cells.specs.declared.Record.{Record}
+use Rattle.cells.specs.declared.State.{State}
+use Rattle.cells.specs.Basics.{ands}
+use Rattle.cells.specs.Record.{isIdle, recordAt}
+use Rattle.cells.specs.Questions.{holds, installs, busyTests, recordFit, cellsFit, recordsFit, fit}
+use Rattle.cells.specs.Blocks.{isCurrent, isHeld, used, usesBlock}
+use Rattle.cells.specs.Step.{current}
+use Rattle.cells.proofs.Tests.{both, implied, or-left, or-right, all-from, none-of}
+use Rattle.figure.specs.Figure.{World}
+use Rattle.refinement.specs.Terms.{named}
+use Rattle.refinement.proofs.Assumed.{WellRecord}
+use Rattle.refinement.proofs.Agree.{Links, Agree, Task}
+
+-- FIT
+
+record-fits : (R : Links) (v b : ℕ) (r q : Record) → Task R r q → ((k i c : ℕ) → R k i c → c < b) → WellRecord v q → recordFit r v b ≡ true
+unfolding recordFit
+record-fits R v b r q x below (inl e) = rw (x .same, e)
+record-fits R v b r q x below (inr y) = rw (x .same) (go (isIdle q) refl)
+  where
+    go : (i : Bool) → isIdle q ≡ i → (i || ands (busyTests (named q (r .held) (r .taken)) v b)) ≡ true
+    go true e = refl
+    go false e =
+        let held : holds q ≡ true → ltb (r .held) b ≡ true = λ h. lt-ltb _ _ (below _ _ _ (x .held (rw (e, h) tt))) in
+        let taken : installs q ≡ true → ltb (r .taken) b ≡ true = λ h. lt-ltb _ _ (below _ _ _ (x .taken (rw h tt))) in
+        let blocks = both (implied (holds q) (ltb (r .held) b) held) (implied (installs q) (ltb (r .taken) b) taken) in
+        both (lt-ltb _ _ (y .cell)) (both (y .line) (both blocks (both (y .values) (both (le-leb _ _ (y .steps)) (both (le-leb _ _ (y .hard)) refl)))))
+
+-- question 6 is answered yes
+pub fits : {n v : ℕ} {R : Links} {s : State} {p : List ℕ} {w : World} → Agree n v R s p w → ((t : ℕ) → WellRecord v (w .records t)) → fit s p ≡ true
+unfolding fit cellsFit recordsFit
+fits {n} {v} {R} {s} {p} {w} a well =
+    let z = a .sizes in
+    let below = a .blocks .below in
+    rw (z .same-tasks, z .same-cells)
+    (both (z .tasks-ok)
+    (both (z .cells-ok)
+    (both (z .blocks-ok)
+    (both (all-from _ 0 v (λ k l h. lt-ltb _ _ (below k (w .cell k .current) (current s k) (a .current k (omega arith)))))
+    (both (lt-ltb _ _ (a .last))
+    (both (all-from _ 0 n (λ t l h. record-fits R v (s .blocks) (recordAt (s .records) t) (w .records t) (a .records t (omega arith)) below (well t)))
+    refl))))))
+
+-- UNUSED
+
+not-held : (idle holding at other : Bool) → (not idle && ((holding && at) || other)) ≡ false → T (not idle && holding) → at ≡ false
+not-held true holding at other e h = absurd h
+not-held false true at other e h = or-left at other e
+not-held false false at other e h = absurd h
+
+module _ {n v : ℕ} {R : Links} {s : State} {p : List ℕ} {w : World} (a : Agree n v R s p w) (u : ℕ) (e : used s u ≡ false) where
+  pub not-current : (k : ℕ) → k < v → current s k ≡ u → ⊥
+  unfolding used isCurrent
+  not-current k l = eqb-false _ _ (none-of _ 0 (s .cells) (or-left (isCurrent s u) (isHeld s u) e) k (omega arith) (omega (arith, a .sizes .same-cells)))
+
+  not-used : (t : ℕ) → t < n → usesBlock (recordAt (s .records) t) u ≡ false
+  unfolding used isHeld
+  not-used t l = none-of (λ t. usesBlock (recordAt (s .records) t) u) 0 (s .tasks) (or-right (isCurrent s u) (isHeld s u) e) t (omega arith) (omega (arith, a .sizes .same-tasks))
+
+  -- each task's links are to other blocks
+  pub other-blocks : (S : Links) → ((k i b : ℕ) → R k i b → (b ≡ u → ⊥) → S k i b) → (t : ℕ) → t < n → Task S (recordAt (s .records) t) (w .records t)
+  other-blocks S up t l =
+      let r = recordAt (s .records) t in
+      let q = w .records t in
+      let x = a .records t l in
+      let free : usesBlock (named q (r .held) (r .taken)) u ≡ false = sym (ap (λ (r : Record). usesBlock r u) (x .same)) ∙ not-used t l in
+      record {
+        same = x .same;
+        held = λ h. up _ _ _ (x .held h) (eqb-false _ _ (not-held (isIdle q) (holds q) (eqb (r .held) u) (installs q && eqb (r .taken) u) free h));
+        taken = λ h.
+            let line : q .line ≡ 30 = eqb→eq _ _ h in
+            up _ _ _ (x .taken h) (eqb-false _ _ (or-right (eqb (r .held) u) (eqb (r .taken) u) (rw line at free)));
+      }

@@ -1,0 +1,146 @@
+-- What look shows is what a read returns that runs now, alone: on the figure by running it, in the pool by the same history.
+use mathlib.Core.Path.{_≡_, refl, sym, ap, _∙_, fun-ext, subst}
+use mathlib.Core.Bool.{Bool, true, false, cond}
+use mathlib.Core.Option.{none, some}
+use mathlib.Core.List.{List, [], _∷_}
+use Prim.Native.Nat.{ℕ, zero, suc, _<_}
+use native.Mathlib.Omega.{arith}
+use lib.Dec.{eqb, ltb}
+use lib.ListN.{length, replicate}
+use borrow.Author.Tests.{ltb-true, lt-ltb}
+use Rattle.cells.specs.declared.Record.{Record}
+use Rattle.cells.specs.declared.State.{State}
+use Rattle.cells.specs.declared.Looked.the-variants.{Shown}
+use Rattle.cells.specs.declared.lines.Field.the-variants.{C, D}
+use Rattle.cells.specs.declared.lines.Next.{Next}
+use Rattle.cells.specs.Record.{noValue, isIdle, recordAt}
+use Rattle.cells.specs.Lines.{accessOf, nextOf}
+use Rattle.cells.specs.Questions.{refusal, openQuestions}
+use Rattle.cells.specs.Begin.{firstRead}
+use Rattle.cells.specs.Look.{looked, shown, shownValue}
+use Rattle.history.specs.Basics.{upd}
+use Rattle.history.specs.History.{Action, begin, step, read, Value, Event, begun, going, answered, history, run}
+use Rattle.history.proofs.Basics.{upd-same, upd-off, upd-cases}
+use Rattle.figure.specs.Figure.{Cell, World, withBoth, store, perform, recordAfter, outcomeOf, stepEvent, tried, figure}
+use Rattle.figure.specs.Figure
+use Rattle.refinement.specs.Pool.{Pool, pool}
+use Rattle.refinement.specs.Terms.{start, isActive, loneRead, lastEvent}
+use Rattle.refinement.proofs.Assumed.{Well}
+use Rattle.refinement.proofs.Agree.{upd-own}
+use Rattle.refinement.proofs.Refines.{Together, together, histories, looks, same-words}
+
+-- A TASK ALONE, on the figure: only its cell and its record change
+
+upd-twice : {A : Type 0} (f : ℕ → A) (k : ℕ) (a b : A) → upd (upd f k a) k b ≡ upd f k b
+upd-twice f k a b = fun-ext (λ j. upd-cases (λ x. x ≡ upd f k b j) (upd f k a) k b j (λ e. rw e (sym (upd-same f k b))) (λ d. upd-off f k a j d ∙ sym (upd-off f k b j d)))
+
+abbrev shows : Cell → ℕ
+shows m = let b = m .current in shownValue (m .c b) (m .v b) (m .d b)
+
+module _ (t : ℕ) where
+  abbrev next : Cell → Record → Next
+  next m q = nextOf t q (perform m (accessOf t q) .value)
+
+  abbrev nextCell : Cell → Record → Cell
+  nextCell m q = perform m (accessOf t q) .cell
+
+  abbrev event : Cell → Record → Event
+  event m q = stepEvent (tried t q) (outcomeOf (next m q))
+
+  abbrev alone : ℕ → Cell → Record → List (Action × Event)
+  alone zero m q = []
+  alone (suc i) m q = (step t, event m q) ∷ alone i (nextCell m q) (recordAfter (next m q))
+
+  -- at each of the steps its call is pending, on cell k
+  abbrev Pending : ℕ → ℕ → Cell → Record → Type 0
+  Pending k zero m q = Unit {0}
+  Pending k (suc i) m q = (isIdle q ≡ false) × (q .cell ≡ k) × Pending k i (nextCell m q) (recordAfter (next m q))
+
+  module _ (w : World) (l : t < w .tasks) where
+    steps-alone : (m : Cell) (q : Record) → isIdle q ≡ false → figure (withBoth w (q .cell) m t q) (step t) ≡ (withBoth w (q .cell) (nextCell m q) t (recordAfter (next m q)), event m q)
+    unfolding Figure.stepped Figure.ran
+    steps-alone m q busy =
+        rw (upd-same (w .records) t q, lt-ltb t (w .tasks) l, busy, upd-same (w .cell) (q .cell) m, upd-twice (w .cell) (q .cell) m (nextCell m q), upd-twice (w .records) t q (recordAfter (next m q)))
+
+    runs-alone : (k i : ℕ) (m : Cell) (q : Record) → Pending k i m q → history figure (withBoth w k m t q) (replicate i (step t)) ≡ alone i m q
+    runs-alone k zero m q h = refl
+    runs-alone k (suc i) m q h =
+        let one = subst (λ (k : ℕ). figure (withBoth w k m t q) (step t) ≡ (withBoth w k (nextCell m q) t (recordAfter (next m q)), event m q)) (h .1) (steps-alone m q (h .0)) in
+        ap (λ (r : World × Event). (step t, r .1) ∷ history figure (r .0) (replicate i (step t))) one
+        ∙ ap (λ (x : List (Action × Event)). (step t, event m q) ∷ x) (runs-alone k i (nextCell m q) (recordAfter (next m q)) (h .2))
+
+    -- A READ ALONE
+
+    reads-alone : (k i : ℕ) → k < w .cells → isIdle (w .records t) ≡ true → Pending k i (w .cell k) (firstRead k)
+        → history figure w (loneRead t k i) ≡ (begin t (read k), begun) ∷ alone i (w .cell k) (firstRead k)
+    unfolding Figure.begins
+    reads-alone k i h idle pending =
+        rw (lt-ltb t (w .tasks) l, lt-ltb k (w .cells) h, idle)
+        (ap (λ (x : List (Action × Event)). (begin t (read k), begun) ∷ x) (rw (upd-own (w .cell) k) at (runs-alone k i (w .cell k) (firstRead k) pending)))
+
+  -- of a call at q, the last of i steps answers x, after h hardware CAS
+  abbrev Answers : (k i h x : ℕ) → Cell → Record → Type 0
+  Answers k i h x m q = Pending k i m q × (lastEvent (alone i m q) ≡ some (answered 0 (Value x) i h))
+
+  -- where C is false, three steps
+  active-read : (k : ℕ) (m : Cell) → eqb (m .c (m .current)) 0 ≡ true → Answers k 3 0 (shows m) m (firstRead k)
+  active-read k m e = rw e ((refl, refl, (refl, refl, (refl, refl, tt))), refl)
+
+  -- else three to line 13, and three that decide
+  abbrev wanting13 : ℕ → Cell → Record
+  wanting13 k m = record { line = 1; wanted = 13; kind = 1; cell = k; expected = 0; new = 0; held = m .current; taken = 0; loaded = m .v (m .current); steps = 3; hard = 0 }
+
+  decided : (m : Cell) (b x : ℕ) (c : Bool) → cond c (Figure.memory (store m b D x) 1) (Figure.memory m 0) .cell .d b ≡ cond c x (m .d b)
+  decided m b x true = upd-same (m .d) b x
+  decided m b x false = refl
+
+  decides : (k : ℕ) (m : Cell) → let b = m .current in
+      Pending k 3 m (wanting13 k m) × (lastEvent (alone 3 m (wanting13 k m)) ≡ some (answered 0 (Value (cond (eqb (m .d b) noValue) (m .v b) (m .d b))) 6 1))
+  decides k m =
+      let b = m .current in
+      ((refl, refl, (refl, refl, (refl, refl, tt))), ap (λ (x : ℕ). some (answered 0 (Value x) 6 1)) (decided m b (m .v b) (eqb (m .d b) noValue)))
+
+  module _ (k i : ℕ) (m : Cell) (e : eqb (m .c (m .current)) 0 ≡ false) where
+    to-line-13 : alone (suc (suc (suc i))) m (firstRead k) ≡ (step t, going 0) ∷ (step t, going 0) ∷ (step t, going 0) ∷ alone i m (wanting13 k m)
+    to-line-13 = rw e
+
+    pending-to-13 : Pending k i m (wanting13 k m) → Pending k (suc (suc (suc i))) m (firstRead k)
+    pending-to-13 h = rw e (refl, refl, (refl, refl, (refl, refl, h)))
+
+  decided-read : (k : ℕ) (m : Cell) → eqb (m .c (m .current)) 0 ≡ false → Answers k 6 1 (shows m) m (firstRead k)
+  decided-read k m e =
+      let value : shows m ≡ cond (eqb (m .d (m .current)) noValue) (m .v (m .current)) (m .d (m .current)) = rw e in
+      (pending-to-13 k 3 m e (decides k m .0), ap lastEvent (to-line-13 k 3 m e) ∙ decides k m .1 ∙ ap (λ (x : ℕ). some (answered 0 (Value x) 6 1)) (sym value))
+
+lone-read : (t k : ℕ) (w : World) → t < w .tasks → k < w .cells → isIdle (w .records t) ≡ true → (c : Bool) → eqb (w .cell k .c (w .cell k .current)) 0 ≡ c
+    → lastEvent (history figure w (loneRead t k (cond c 3 6))) ≡ some (answered 0 (Value (shows (w .cell k))) (cond c 3 6) (cond c 0 1))
+lone-read t k w l h idle true e = let r = active-read t k (w .cell k) e in ap lastEvent (reads-alone t w l k 3 h idle (r .0)) ∙ r .1
+lone-read t k w l h idle false e = let r = decided-read t k (w .cell k) e in ap lastEvent (reads-alone t w l k 6 h idle (r .0)) ∙ r .1
+
+shown-by : (k y : ℕ) (w : World) → Figure.looked w k ≡ Shown y → (k < w .cells) × (shows (w .cell k) ≡ y)
+unfolding Figure.looked
+shown-by k y w = go (ltb k (w .cells)) refl
+  where
+    go : (c : Bool) → ltb k (w .cells) ≡ c → shown (cond c none (some 8)) (shows (w .cell k)) ≡ Shown y → (k < w .cells) × (shows (w .cell k) ≡ y)
+    go true e h = (ltb-true k (w .cells) e, cc)
+    go false e h = let z : _≡_ {A = ℕ} 0 1 = cc in absurd (omega (arith, z))
+
+-- IN THE POOL
+
+reads-what-it-shows : {n v : ℕ} {x : Pool} {w : World} → Together n v x w → (t k y : ℕ) → t < n → isIdle (recordAt (x .0 .records) t) ≡ true → looked (x .0) (x .1) k ≡ Shown y
+    → (c : Bool) → isActive x k ≡ c → lastEvent (history pool x (loneRead t k (cond c 3 6))) ≡ some (answered 0 (Value y) (cond c 3 6) (cond c 0 1))
+reads-what-it-shows {n} {v} {x} {w} g t k y l idle look c e =
+    let sizes = g .agree .sizes in
+    let by = shown-by k y w (sym (looks g k) ∙ look) in
+    let same = same-words g k (rw (sizes .cells-too) at (by .0)) C in
+    let free : isIdle (w .records t) ≡ true = sym (ap isIdle (g .agree .records t l .same)) ∙ idle in
+    ap lastEvent (histories (loneRead t k (cond c 3 6)) g)
+    ∙ lone-read t k w (rw (sizes .tasks-too) l) (by .0) free c (ap (λ (x : ℕ). eqb x 0) (sym same) ∙ e)
+    ∙ ap (λ (y : ℕ). some (answered 0 (Value y) (cond c 3 6) (cond c 0 1))) (by .1)
+
+-- What look shows, a read returns that an idle task begins now and runs alone: with its third step, no hardware CAS attempted, where C of the
+-- cell's current block is false; otherwise with its sixth, having attempted one.
+pub look-is-a-lone-read : Well → (s : State) (p : List ℕ) (n v b : ℕ) (vs : List ℕ) → refusal (openQuestions (length p) n v b vs) ≡ none
+    → (l : List Action) (t k y : ℕ) → let x = run pool (start s p n v b vs) l in t < n → isIdle (recordAt (x .0 .records) t) ≡ true → looked (x .0) (x .1) k ≡ Shown y
+    → let c = isActive x k in lastEvent (history pool x (loneRead t k (cond c 3 6))) ≡ some (answered 0 (Value y) (cond c 3 6) (cond c 0 1))
+look-is-a-lone-read well s p n v b vs ok l t k y h idle look = reads-what-it-shows (together well s p n v b vs ok l) t k y h idle look (isActive (run pool (start s p n v b vs) l) k) refl

@@ -1,0 +1,102 @@
+-- From a fresh opening, action by action: pool and figure stay in agreement, so their histories, records and looks are the same.
+use mathlib.Core.Path.{_≡_, refl, ap₂}
+use mathlib.Core.Bool.{Bool, true, false, cond}
+use mathlib.Core.Option.{none, some}
+use mathlib.Core.List.{List, [], _∷_}
+use Prim.Native.Nat.{ℕ, _<_}
+use lib.Dec.{ltb}
+use lib.ListN.{length}
+use borrow.Author.Tests.{ltb-true}
+use Rattle.cells.specs.declared.State.{State}
+use Rattle.cells.specs.declared.lines.Field.{Field}
+use Rattle.cells.specs.declared.lines.Field.the-variants.{C, D}
+use Rattle.cells.specs.Record.{recordAt}
+use Rattle.cells.specs.Pool.{word}
+use Rattle.cells.specs.Questions.{refusal, fit, openQuestions}
+use Rattle.cells.specs.Open.{opened}
+use Rattle.cells.specs.Step.{current}
+use Rattle.cells.specs.Look.{looked, shown, shownValue}
+use Rattle.history.specs.History.{Action, begin, step, Event, history, run}
+use Rattle.figure.specs.Figure.{World, figure, opening, wordOf}
+use Rattle.figure.specs.Figure
+use Rattle.refinement.specs.Pool.{Pool, pool}
+use Rattle.refinement.specs.Terms.{start, named}
+use Rattle.refinement.proofs.Assumed.{WellRecord, Well}
+use Rattle.refinement.proofs.Agree.{Links, Agree}
+use Rattle.refinement.proofs.Fits.{fits}
+use Rattle.refinement.proofs.Steps.{Same, steps, begins}
+use Rattle.refinement.proofs.Opening.{Opened, opens}
+
+-- agreement, with the figure's records well for as long as it runs on
+pub record Together (n v : ℕ) (x : Pool) (w : World) : Type 1 where
+  pub R : Links
+  pub agree : Agree n v R (x .0) (x .1) w
+  pub well : (l : List Action) (t : ℕ) → WellRecord v (run figure w l .records t)
+
+module _ {n v : ℕ} where
+  acts : {x : Pool} {w : World} → Together n v x w → (a : Action) → Same n v (pool x a) (figure w a)
+  acts g (begin t op) = begins (g .agree) (g .well []) t op
+  acts g (step t) = steps (g .agree) (g .well []) t
+
+  further : {x : Pool} {w : World} → Together n v x w → (a : Action) → Together n v (pool x a .0) (figure w a .0)
+  further g a = let b = acts g a in record { R = b .R; agree = b .agree; well = λ l. g .well (a ∷ l) }
+
+  after : (l : List Action) {x : Pool} {w : World} → Together n v x w → Together n v (run pool x l) (run figure w l)
+  after [] g = g
+  after (a ∷ l) g = after l (further g a)
+
+  pub histories : (l : List Action) {x : Pool} {w : World} → Together n v x w → history pool x l ≡ history figure w l
+  histories [] g = refl
+  histories (a ∷ l) g = ap₂ (λ (e : Event) (h : List (Action × Event)). (a, e) ∷ h) (acts g a .event) (histories l (further g a))
+
+  is-fit : {x : Pool} {w : World} → Together n v x w → fit (x .0) (x .1) ≡ true
+  is-fit g = fits (g .agree) (g .well [])
+
+  pub same-words : {x : Pool} {w : World} → Together n v x w → (k : ℕ) → k < v → (f : Field) → word (x .1) (current (x .0) k) f ≡ wordOf (w .cell k) (w .cell k .current) f
+  same-words {x} {w} g k h f = g .agree .blocks .words k (w .cell k .current) (current (x .0) k) f (g .agree .current k h)
+
+  pub looks : {x : Pool} {w : World} → Together n v x w → (k : ℕ) → looked (x .0) (x .1) k ≡ Figure.looked w k
+  unfolding looked Figure.looked
+  looks {x} {w} g k = rw (is-fit g, g .agree .sizes .same-cells, g .agree .sizes .cells-too) (go (ltb k v) refl)
+    where
+      value : (Field → ℕ) → ℕ
+      value f = shownValue (f C) (f Field.V) (f D)
+
+      go : (c : Bool) → ltb k v ≡ c → shown (cond c none (some 8)) (value (word (x .1) (current (x .0) k))) ≡ shown (cond c none (some 8)) (value (wordOf (w .cell k) (w .cell k .current)))
+      go false e = refl
+      go true e = let same = same-words g k (ltb-true k v e) in rw (same C, same Field.V, same D)
+
+-- an opening that is not refused, then any list of actions
+module _ (well : Well) (s : State) (p : List ℕ) (n v b : ℕ) (vs : List ℕ) (ok : refusal (openQuestions (length p) n v b vs) ≡ none) where
+  fresh-opening : Agree n v (Opened v) (start s p n v b vs .0) (start s p n v b vs .1) (opening n v vs)
+  unfolding opened
+  fresh-opening = rw ok (opens p n v b vs ok)
+
+  fresh : Together n v (start s p n v b vs) (opening n v vs)
+  fresh = record { R = Opened v; agree = fresh-opening; well = well n v vs }
+
+  module _ (l : List Action) where
+    abbrev x : Pool
+    x = run pool (start s p n v b vs) l
+
+    abbrev w : World
+    w = run figure (opening n v vs) l
+
+    pub together : Together n v x w
+    together = after l fresh
+
+    -- Action by action, the pool gives the events of figure 2 with a new block each time: refusals, answers, steps and hardware CAS attempts.
+    pub same-history : history pool (start s p n v b vs) l ≡ history figure (opening n v vs) l
+    same-history = histories l fresh
+
+    -- The record of each task is the figure's but for the numbers of the blocks that it holds and has taken.
+    pub same-records : (t : ℕ) → t < n → (h k : ℕ) × (recordAt (x .0 .records) t ≡ named (w .records t) h k)
+    same-records t h = let r = recordAt (x .0 .records) t in (r .held, r .taken, together .agree .records t h .same)
+
+    -- The state is fit after any actions: question 6 is never answered no.
+    pub always-fit : fit (x .0) (x .1) ≡ true
+    always-fit = is-fit together
+
+    -- A look shows, or is refused, what the figure's look is.
+    pub same-look : (k : ℕ) → looked (x .0) (x .1) k ≡ Figure.looked w k
+    same-look k = looks together k

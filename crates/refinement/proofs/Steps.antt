@@ -1,0 +1,142 @@
+-- Each action keeps the agreement, and pool and figure give the same event.
+use mathlib.Core.Path.{_≡_, refl, sym, ap, _∙_, subst}
+use mathlib.Core.Bool.{Bool, true, false, _&&_, cond, not, false≢true}
+use mathlib.Core.Logic.{inl, inr}
+use mathlib.Core.Option.{Option, none, some}
+use mathlib.Core.List.{List, [], _∷_}
+use Prim.Native.Nat.{ℕ, _<_}
+use lib.Dec.{eqb, ltb, T}
+use borrow.Author.Tests.{ltb-true}
+use Rattle.cells.specs.declared.Record.{Record}
+use Rattle.cells.specs.declared.State.{State}
+use Rattle.cells.specs.declared.Outcome.{Outcome}
+use Rattle.cells.specs.declared.Outcome.the-variants.{Refused, Acted}
+use Rattle.cells.specs.declared.lines.Next.{Next}
+use Rattle.cells.specs.Basics.{ands}
+use Rattle.cells.specs.Record.{noValue, idle, isIdle, recordAt}
+use Rattle.cells.specs.Lines.{lineOf, accessOf, counted, hardware}
+use Rattle.cells.specs.Questions.{Question, refusal, reads, swaps, fit}
+use Rattle.cells.specs.Open.{After, unless}
+use Rattle.cells.specs.Begin.{readBegun, swapBegun, firstRead, firstSwap, started}
+use Rattle.cells.specs.Step.{Memory, perform, followed, ran, stepped}
+use Rattle.cells.proofs.Tests.{nth, answers, all-yes}
+use Rattle.cells.proofs.Numbers.{number, at-number}
+use Rattle.cells.proofs.Unused.{one-is-unused}
+use Rattle.history.specs.History.{Op, read, swap, begin, step, Event}
+use Rattle.figure.specs.Figure.{Cell, World, withBoth, leaving, recordAfter, outcomeOf, beginEvent, stepEvent, tried, figure}
+use Rattle.figure.specs.Figure
+use Rattle.refinement.specs.Pool.{Pool, pool}
+use Rattle.refinement.specs.Terms.{named}
+use Rattle.refinement.proofs.Assumed.{Busy, WellRecord}
+use Rattle.refinement.proofs.Agree.{Links, Agree, Task, holdsAt, installsAt, no-blocks, records-change}
+use Rattle.refinement.proofs.Memory.{withCell}
+use Rattle.refinement.proofs.Fits.{fits}
+use Rattle.refinement.proofs.Access.{performs, same-hardware}
+use Rattle.refinement.proofs.Lines.{Has, linked, Nexts, going, ended, nexts}
+
+pub record Same (n v : ℕ) (x : Pool × Event) (y : World × Event) : Type 1 where
+  pub R : Links
+  pub agree : Agree n v R (x .0 .0) (x .0 .1) (y .0)
+  pub event : x .1 ≡ y .1
+
+abbrev gives : (Outcome → Event) → After → Pool × Event
+gives e r = ((r .state, r .pool), e (r .outcome))
+
+abbrev figureGives : (Outcome → Event) → Figure.After → World × Event
+figureGives e r = (r .world, e (r .outcome))
+
+-- what follows a line, in the pool and in the figure
+finishes : {n v : ℕ} {R : Links} (m : Memory) (w : World) (k t x : ℕ) (c : Cell) {X Y : Next} → Agree n v R (m .state) (m .pool) (withCell w k c) → t < n → Nexts R X Y
+    → Same n v (gives (stepEvent x) (followed m t X)) (figureGives (stepEvent x) (leaving (withBoth w k c t (recordAfter Y)) (outcomeOf Y)))
+finishes {R = R} m w k t x c a l (going {r} {q} e) = record { R = R; agree = records-change a t r q l e; event = refl }
+finishes {R = R} m w k t x c a l ended = record { R = R; agree = records-change a t idle idle l (no-blocks idle tt); event = refl }
+
+module _ {n v : ℕ} {R : Links} {s : State} {p : List ℕ} {w : World} (a : Agree n v R s p w) (well : (t : ℕ) → WellRecord v (w .records t)) (t : ℕ) where
+  -- THE QUESTIONS
+
+  -- the task's records
+  abbrev r : Record
+  r = recordAt (s .records) t
+
+  abbrev q : Record
+  q = w .records t
+
+  -- after 6 and 7, which every action asks, those of the action: by the number of cells and whether the task is idle
+  module _ (rest : ℕ → Bool → List Question) where
+    abbrev questions : List Question
+    questions = (7, ltb t n) ∷ rest v (isIdle q)
+
+    abbrev answered : Option ℕ
+    answered = refusal ((6, fit s p) ∷ (7, ltb t (s .tasks)) ∷ rest (s .cells) (isIdle r))
+
+    abbrev figureAnswered : Option ℕ
+    figureAnswered = refusal ((7, ltb t (w .tasks)) ∷ rest (w .cells) (isIdle q))
+
+    same-refusal : answered ≡ refusal questions
+    same-refusal = rw (fits a well, a .sizes .same-tasks, a .sizes .same-cells) (go (ltb t n) refl)
+      where
+        go : (x : Bool) → ltb t n ≡ x → cond x (refusal (rest v (isIdle r))) (some 7) ≡ cond x (refusal (rest v (isIdle q))) (some 7)
+        go true e = ap (λ (r : Record). refusal (rest v (isIdle r))) (a .records t (ltb-true t n e) .same)
+        go false e = refl
+
+    figures-refusal : figureAnswered ≡ refusal questions
+    figures-refusal = rw (a .sizes .tasks-too, a .sizes .cells-too)
+
+    -- both refuse, with the same number, or both act
+    asked : (e e′ : Outcome → Event) (X : After) (Y : Figure.After) → ((r : ℕ) → e (Refused r) ≡ e′ (Refused r)) → (t < n → ands (answers questions) ≡ true → Same n v (gives e X) (figureGives e′ Y))
+        → Same n v (gives e (unless answered s p X)) (figureGives e′ (Figure.unless figureAnswered w Y))
+    asked e e′ X Y same f = rw (same-refusal, figures-refusal) (go (refusal questions) refl)
+      where
+        go : (o : Option ℕ) → refusal questions ≡ o → Same n v (gives e (unless o s p X)) (figureGives e′ (Figure.unless o w Y))
+        go none g = let yes = all-yes questions g in f (ltb-true t n (nth (answers questions) yes 0)) yes
+        go (some r) g = record { R = R; agree = a; event = same r }
+
+  -- A STEP
+
+  module _ (l : t < n) (h k : ℕ) (e : r ≡ named q h k) (y : Busy v q) where
+    busy-step : Same n v (gives (stepEvent (tried t (named q h k))) (ran s p t (named q h k))) (figureGives (stepEvent (tried t q)) (Figure.ran w t q))
+    unfolding ran Figure.ran
+    busy-step =
+        let at = at-number q (y .line) in
+        let task : Task R (named q h k) q = subst (λ (r : Record). Task R r q) e (a .records t l) in
+        let has : Has R s q h k (lineOf q) = record {
+          held = subst (λ (n : ℕ). T (holdsAt n) → R (q .cell) (q .held) h) at (task .held);
+          taken = subst (λ (n : ℕ). T (installsAt n) → R (q .cell) (q .taken) k) at (task .taken);
+          found = λ g. one-is-unused s p t (fits a well) (rw (a .sizes .same-tasks) l) (ap (λ (r : Record). r .line) e ∙ at ∙ g);
+        } in
+        let accesses = linked R s q h k t (reads q) (swaps q) (lineOf q) (y .line) has in
+        let m = perform s p (accessOf t (named q h k)) in
+        let m′ = Figure.perform (w .cell (q .cell)) (accessOf t q) in
+        let done = performs a (q .cell) (y .cell) accesses in
+        let R⁺ = done .R in
+        let task⁺ : Task R⁺ (named q h k) q = subst (λ (r : Record). Task R⁺ r q) (ap (λ (l : List Record). recordAt l t) (done .records) ∙ e) (done .agree .records t l) in
+        let held : T (holdsAt (number (lineOf q))) → R⁺ (q .cell) (q .held) h = subst (λ (n : ℕ). T (holdsAt n) → R⁺ (q .cell) (q .held) h) at (task⁺ .held) in
+        rw (same-hardware accesses)
+        (finishes m w (q .cell) t (hardware (accessOf t q)) (m′ .cell) (done .agree) l (nexts R⁺ (counted q (accessOf t q)) h k q t (m .value) (m′ .value) (reads q) (swaps q) (lineOf q) (y .line) held (done .answer)))
+
+  busy : WellRecord v q → not (isIdle q) ≡ true → Busy v q
+  busy (inl e) g = absurd (false≢true (rw e at g))
+  busy (inr y) g = y
+
+  step-acts : t < n → not (isIdle q) ≡ true → Same n v (gives (stepEvent (tried t r)) (ran s p t r)) (figureGives (stepEvent (tried t q)) (Figure.ran w t q))
+  step-acts l g =
+      let e = a .records t l .same in
+      subst (λ (r : Record). Same n v (gives (stepEvent (tried t r)) (ran s p t r)) (figureGives (stepEvent (tried t q)) (Figure.ran w t q))) (sym e) (busy-step l (r .held) (r .taken) e (busy (well t) g))
+
+  pub steps : Same n v (pool (s, p) (step t)) (figure w (step t))
+  unfolding stepped Figure.stepped
+  steps = asked (λ v i. (11, not i) ∷ []) (stepEvent (tried t r)) (stepEvent (tried t q)) (ran s p t r) (Figure.ran w t q) (λ _. refl) (λ l g. step-acts l (nth (ltb t n ∷ not (isIdle q) ∷ []) g 1))
+
+  -- A BEGIN
+
+  begun : (r : Record) → T (not (holdsAt (r .line))) → t < n → Same n v (gives beginEvent (started s p t r)) (figureGives beginEvent (leaving (Figure.withRecord w t r) Acted))
+  begun r x l = record { R = R; agree = records-change a t r r l (no-blocks r x); event = refl }
+
+  at-first : (c : Bool) → T (not (holdsAt (cond c 10 15)))
+  at-first true = tt
+  at-first false = tt
+
+  pub begins : (op : Op) → Same n v (pool (s, p) (begin t op)) (figure w (begin t op))
+  unfolding readBegun swapBegun Figure.begins
+  begins (read k) = asked (λ v i. (8, ltb k v) ∷ (9, i) ∷ []) beginEvent beginEvent _ _ (λ _. refl) (λ l _. begun (firstRead k) tt l)
+  begins (swap k e x) = asked (λ v i. (8, ltb k v) ∷ (9, i) ∷ (10, not (eqb e noValue) && not (eqb x noValue)) ∷ []) beginEvent beginEvent _ _ (λ _. refl) (λ l _. begun (firstSwap k e x) (at-first (eqb e x)) l)

@@ -1,0 +1,35 @@
+-- The terms of the theorems: a fresh opening, records but for block numbers, and a read that runs alone.
+use mathlib.Core.Bool.{Bool}
+use mathlib.Core.Option.{Option, none, some}
+use mathlib.Core.List.{List, [], _∷_}
+use Prim.Native.Nat.{ℕ}
+use lib.Dec.{eqb}
+use lib.ListN.{replicate}
+use Rattle.cells.specs.declared.Record.{Record}
+use Rattle.cells.specs.declared.State.{State}
+use Rattle.cells.specs.declared.lines.Field.the-variants.{C}
+use Rattle.cells.specs.Pool.{word}
+use Rattle.cells.specs.Open.{opened}
+use Rattle.cells.specs.Step.{current}
+use Rattle.history.specs.History.{Action, begin, step, read, Event}
+use Rattle.refinement.specs.Pool.{Pool}
+
+abbrev pub start : State → List ℕ → (tasks cells blocks : ℕ) → List ℕ → Pool
+start s p n v b vs = let r = opened s p n v b vs in (r .state, r .pool)
+
+-- the record with other block numbers
+abbrev pub named : Record → (held taken : ℕ) → Record
+named q h k = record { line = q .line; wanted = q .wanted; kind = q .kind; cell = q .cell; expected = q .expected; new = q .new; held = h; taken = k; loaded = q .loaded; steps = q .steps; hard = q .hard }
+
+-- C of the cell's current block is false
+abbrev pub isActive : Pool → (cell : ℕ) → Bool
+isActive x k = eqb (word (x .1) (current (x .0) k) C) 0
+
+-- a read of the cell, and so many steps of it
+abbrev pub loneRead : (task cell steps : ℕ) → List Action
+loneRead t k i = begin t (read k) ∷ replicate i (step t)
+
+abbrev pub lastEvent : List (Action × Event) → Option Event
+lastEvent [] = none
+lastEvent (x ∷ []) = some (x .1)
+lastEvent (x ∷ y ∷ h) = lastEvent (y ∷ h)
