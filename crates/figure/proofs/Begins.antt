@@ -59,14 +59,14 @@ module _ (w : World) (g : Ghost) (κ : Knowledge) (G : Good w g κ) (t : ℕ) (o
   abbrev g′ : Ghost
   g′ = untold g t
 
-  was-idle : w .records t ≡ idle
+  pub was-idle : w .records t ≡ idle
   was-idle = go (G .on-path t .1)
     where
       go : OnPath (w .tasks) (w .cells) t (G .on-path t .0) (w .records t) → w .records t ≡ idle
       go (inl i) = i .0
       go (inr o) = absurd (false≢true (sym (not-idle (w .records t) (o .1 .line)) ∙ a .free))
 
-  idle-to : (j : ℕ) → on (w .records) j t ≡ idle
+  pub idle-to : (j : ℕ) → on (w .records) j t ≡ idle
   idle-to j = on-idle (w .records) j t was-idle
 
   -- the others know what they knew, and t nothing
@@ -88,7 +88,7 @@ module _ (w : World) (g : Ghost) (κ : Knowledge) (G : Good w g κ) (t : ℕ) (o
   not-late : (j : ℕ) → g .phase j ≢ late t
   not-late j z = rw (idle-to j) at (G .cells j .tasks t .owner z .has-stored)
 
-  its-cell : firstOf op .cell ≡ cellOf op
+  pub its-cell : firstOf op .cell ≡ cellOf op
   its-cell = go op
     where
       go : (op : Op) → firstOf op .cell ≡ cellOf op

@@ -17,3 +17,5 @@ pub mod Worlds
 pub mod Begins
 pub mod Marks
 pub mod Quiet
+pub mod Quietly
+pub mod Simulation

@@ -1,0 +1,231 @@
+-- Quiet tasks in the whole figure: steps and begins of others leave them quiet, and marks stay where they are.
+use mathlib.Core.Path.{_≡_, refl, sym, ap, subst, _∙_}
+use mathlib.Core.Logic.{_≢_, _⊎_, inl, inr}
+use mathlib.Core.Bool.{Bool, true, false, not, cond, false≢true}
+use mathlib.Core.Option.{Option, some}
+use mathlib.Core.Option as Opt
+use mathlib.Core.List.{List}
+use Prim.Native.Nat.{ℕ}
+use native.Mathlib.Omega.{arith}
+use lib.Dec.{eqb, T}
+use lib.ListN.{getD}
+use borrow.Author.Tests.{eqb-true, eqb-false}
+use Rattle.cells.specs.declared.Record.{Record}
+use Rattle.cells.specs.declared.Finished.{Finished}
+use Rattle.cells.specs.declared.lines.Next.{Next}
+use Rattle.cells.specs.declared.lines.Next.the-variants.{Go, Done}
+use Rattle.cells.specs.Record.{idle}
+use Rattle.cells.specs.Begin.{firstRead, firstSwap}
+use Rattle.cells.specs.Lines.{Line, l10, l15, lineAt, lineOf, accessOf, accessAt, nextOf, nextAt, counted, hardware}
+use Rattle.cells.specs.Questions.{ofKind}
+use Rattle.history.specs.Basics.{upd}
+use Rattle.history.specs.History.{Op, read, swap, cellOf, Action, begin, step, Event}
+use Rattle.history.specs.Demand3.{Unequal, Meets}
+use Rattle.history.proofs.Basics.{either, upd-at, upd-same, upd-off}
+use Rattle.history.proofs.Simulation.{Ghost, Knowledge, Tally, Forward, Quietly, QuietStarts, QuietSteps, Free, activeAfter}
+use Rattle.history.proofs.Simulation as Sim
+use Rattle.history.proofs.Meets.{meets}
+use Rattle.figure.specs.Figure.{Cell, World, withBoth, withRecord, After, leaving, recordAfter, outcomeOf, ran, opening, perform, beginEvent, stepEvent, tried, figure, active, answerOf}
+use Rattle.figure.proofs.LineLaws.{Leads, goes, done}
+use Rattle.figure.proofs.Records.{Pending, OnPath, AllOnPath, Accepted, firstOf, Begun, starts, begin-cases, Stepped, runs, step-cases, act-on-path, led}
+use Rattle.figure.proofs.Tallies.{opOf, tally, tallyOf, doing, follows, within}
+use Rattle.figure.proofs.Classes.{busy, swapping, marking, lies-in}
+use Rattle.figure.proofs.Invariant.{none, line}
+use Rattle.figure.proofs.Steps.{Step, Reason, Out}
+use Rattle.figure.proofs.Views.{on, on-in, on-it, on-idle, on-changed, on-elsewhere, view}
+use Rattle.figure.proofs.Operations.{cell-of, busy-line, busy-doing, is-unequal}
+use Rattle.figure.proofs.Worlds.{Good, pending-at, out, moveOf, may, kept-all, why}
+use Rattle.figure.proofs.Begins.{begun-good, opening-good, good-grown, was-idle, idle-to, its-cell}
+use Rattle.figure.proofs.Marks.{Marks, Marked, marks-kept}
+use Rattle.figure.proofs.Quiet.{Quiet, quiet-step, untried, others-step, others-begin}
+
+-- a task is quiet on its own cell
+abbrev pub QuietIn : World → ℕ → Type 0
+QuietIn w u = Quiet (w .cell (w .records u .cell)) (on (w .records) (w .records u .cell)) u
+
+some-is : (o : Option Tally) (a b : Tally) → o ≡ some a → o ≡ some b → b ≡ a
+some-is o a b p q = cc
+
+-- who is doing something is at a line
+is-busy : (w : World) → AllOnPath w → (u : ℕ) (n : Tally) → doing w u ≡ some n → T (busy (lineOf (w .records u)))
+is-busy w p u n d = go (p u .1)
+  where
+    go : OnPath (w .tasks) (w .cells) u (p u .0) (w .records u) → T (busy (lineOf (w .records u)))
+    go (inl i) = absurd (let x : Opt.none ≡ some n = sym (ap tallyOf (i .0)) ∙ d in let y : _≡_ {A = ℕ} 0 1 = cc in omega arith)
+    go (inr o) = busy-line (w .records u) (o .1 .line)
+
+-- A STEP OF TASK t
+
+module _ (w : World) (g : Ghost) (κ : Knowledge) (G : Good w g κ) (marks : (k : ℕ) → Marks (w .cell k) (on (w .records) k)) (t : ℕ) (did : List Line) (o : Pending (w .cells) did (w .records t)) where
+  abbrev q : Record
+  q = w .records t
+
+  abbrev k : ℕ
+  k = q .cell
+
+  abbrev m : Cell
+  m = perform (w .cell k) (accessOf t q) .cell
+
+  abbrev n : Next
+  n = nextOf t q (perform (w .cell k) (accessOf t q) .value)
+
+  abbrev w′ : World
+  w′ = withBoth w k m t (recordAfter n)
+
+  here : on (w .records) k t ≡ q
+  here = on-in (w .records) k t refl
+
+  -- the next record is on the same cell and of the same kind, or idle
+  pub stays : ((recordAfter n .cell ≡ k) ⊎ (recordAfter n ≡ idle)) × (T (swapping (lineOf (recordAfter n))) → T (swapping (lineOf q)))
+  stays = go (led (w .cells) did q o t _)
+    where
+      go : {x : Next} → Leads (lineOf q) (counted q (accessOf t q)) x → ((recordAfter x .cell ≡ k) ⊎ (recordAfter x ≡ idle)) × (T (swapping (lineOf (recordAfter x))) → T (swapping (lineOf q)))
+      go (goes f) = (inl refl, λ b. subst T (sym (f .1 false true)) b)
+      go (done f) = (inr refl, λ b. absurd b)
+
+  pub marks-after : (j : ℕ) → Marks (w′ .cell j) (on (w′ .records) j)
+  marks-after j = go (either j k)
+    where
+      go : (j ≡ k) ⊎ (j ≢ k) → Marks (w′ .cell j) (on (w′ .records) j)
+      go (inl e) = subst (λ j. Marks (upd (w .cell) k m j) (on (upd (w .records) t (recordAfter n)) j)) (sym e) (rw (upd-same (w .cell) k m, on-changed (w .records) t (recordAfter n) k (stays .0))
+        (subst (λ (r : Record). let x = perform (w .cell k) (accessOf t r) in Marks (x .cell) (upd (on (w .records) k) t (recordAfter (nextOf t r (x .value))))) here
+          (marks-kept (view w g k) κ t (G .cells k) (marks k) (lineOf (on (w .records) k t)) refl (rw here (busy-line q (o .line))))))
+      go (inr e) = rw (upd-off (w .cell) k m j e, on-elsewhere (w .records) t (recordAfter n) j (inl (λ z. e (sym z))) (elsewhere (stays .0))) (marks j)
+        where
+          elsewhere : (recordAfter n .cell ≡ k) ⊎ (recordAfter n ≡ idle) → (recordAfter n .cell ≢ j) ⊎ (recordAfter n ≡ idle)
+          elsewhere (inl z) = inl (λ y. e (sym y ∙ z))
+          elsewhere (inr z) = inr z
+
+  own-kept : (x : Next) → n ≡ x → (a : Tally) → tallyOf (recordAfter x) ≡ some a → QuietIn w t → Quiet (upd (w .cell) k m (recordAfter n .cell)) (on (w′ .records) (recordAfter n .cell)) t
+  own-kept (Go r) e a d z =
+      let c : recordAfter n .cell ≡ k = same-cell (stays .0) in
+      rw c (rw (upd-same (w .cell) k m, on-changed (w .records) t (recordAfter n) k (stays .0)) (subst (λ (y : Next). Quiet m (upd (on (w .records) k) t (recordAfter y)) t) (sym e) (stepped r e)))
+    where
+      same-cell : (recordAfter n .cell ≡ k) ⊎ (recordAfter n ≡ idle) → recordAfter n .cell ≡ k
+      same-cell (inl z) = z
+      same-cell (inr z) = absurd (let y : recordAfter (Go r) ≡ idle = subst (λ (y : Next). recordAfter y ≡ idle) e z in let x : Opt.none ≡ some a = rw y at d in let u : _≡_ {A = ℕ} 0 1 = cc in omega arith)
+      stepped : (r : Record) → n ≡ Go r → Quiet m (upd (on (w .records) k) t r) t
+      stepped r e = subst (λ (y : Next). Goes y) e
+          (subst (λ (p : Record). let x = perform (w .cell k) (accessOf t p) in Goes′ (x .cell) (nextOf t p (x .value))) here
+            (quiet-step (w .cell k) (on (w .records) k) t z (lineOf (on (w .records) k t)) refl (z .line)))
+        where
+          Goes′ : Cell → Next → Type 0
+          Goes′ c (Go r) = Quiet c (upd (on (w .records) k) t r) t
+          Goes′ c (Done f) = Unit {0}
+          Goes : Next → Type 0
+          Goes y = Goes′ m y
+  own-kept (Done f) e a d z = absurd (let u : _≡_ {A = ℕ} 0 1 = cc in omega arith)
+
+  others-kept : (u : ℕ) → u ≢ t → QuietIn w u → QuietIn w′ u
+  others-kept u ne z = rw (upd-off (w .records) t (recordAfter n) u ne) (go (either (w .records u .cell) k))
+    where
+      j : ℕ
+      j = w .records u .cell
+      go : (j ≡ k) ⊎ (j ≢ k) → Quiet (upd (w .cell) k m j) (on (upd (w .records) t (recordAfter n)) j) u
+      go (inl e) =
+          let y : Quiet (w .cell k) (on (w .records) k) u = subst (λ (j : ℕ). Quiet (w .cell j) (on (w .records) j) u) e z in
+          let no-swap : T (swapping (lineOf (on (w .records) k t))) → ⊥ = y .lonely t (λ x. ne (sym x)) in
+          subst (λ j. Quiet (upd (w .cell) k m j) (on (upd (w .records) t (recordAfter n)) j) u) (sym e)
+            (rw (upd-same (w .cell) k m, on-changed (w .records) t (recordAfter n) k (stays .0))
+              (subst (λ (p : Record). Quiet (perform (w .cell k) (accessOf t p) .cell) (upd (on (w .records) k) t (recordAfter n)) u) here
+                (others-step (w .cell k) (on (w .records) k) u t (recordAfter n) y ne (λ b. no-swap (rw here (stays .1 b))) no-swap)))
+      go (inr e) = rw (upd-off (w .cell) k m j e, on-elsewhere (w .records) t (recordAfter n) j (inl (λ x. e (sym x))) (elsewhere (stays .0))) z
+        where
+          elsewhere : (recordAfter n .cell ≡ k) ⊎ (recordAfter n ≡ idle) → (recordAfter n .cell ≢ j) ⊎ (recordAfter n ≡ idle)
+          elsewhere (inl x) = inl (λ y. e (sym y ∙ x))
+          elsewhere (inr x) = inr x
+
+  pub step-quietly : QuietSteps doing active QuietIn w w′ t (tried t q)
+  step-quietly = record
+    { untried = λ z. subst (λ (p : Record). hardware (accessAt (lineOf p) t p) ≡ 0) here (untried (w .cell k) (on (w .records) k) t z)
+    ; kept = λ u a d z. go u a d z (either u t) }
+    where
+      go : (u : ℕ) (a : Tally) → doing w′ u ≡ some a → QuietIn w u → (u ≡ t) ⊎ (u ≢ t) → QuietIn w′ u
+      go u a d z (inr e) = others-kept u e z
+      go u a d z (inl e) = subst (λ u. QuietIn w′ u) (sym e)
+          (rw (upd-same (w .records) t (recordAfter n)) (own-kept n refl a (sym (ap tallyOf (upd-at (w .records) t (recordAfter n) u e)) ∙ d) (subst (λ u. QuietIn w u) e z)))
+
+-- A BEGIN
+
+module _ (w : World) (g : Ghost) (κ : Knowledge) (G : Good w g κ) (marks : (k : ℕ) → Marks (w .cell k) (on (w .records) k)) (t : ℕ) (op : Op) (a : Accepted w t op) where
+  abbrev v′ : World
+  v′ = withRecord w t (firstOf op)
+
+  idle-here : (j : ℕ) → on (w .records) j t ≡ idle
+  idle-here j = idle-to w g κ G t op a j
+
+  on-its-cell : on (v′ .records) (cellOf op) ≡ upd (on (w .records) (cellOf op)) t (firstOf op)
+  on-its-cell = on-changed (w .records) t (firstOf op) (cellOf op) (inl (its-cell w g κ G t op a))
+
+  on-another : (j : ℕ) → j ≢ cellOf op → on (v′ .records) j ≡ on (w .records) j
+  on-another j n = on-elsewhere (w .records) t (firstOf op) j (inr (was-idle w g κ G t op a)) (inl (λ z. n (sym z ∙ its-cell w g κ G t op a)))
+
+  pub begun-marks : (j : ℕ) → Marks (w .cell j) (on (v′ .records) j)
+  begun-marks j = go (either j (cellOf op))
+    where
+      go : (j ≡ cellOf op) ⊎ (j ≢ cellOf op) → Marks (w .cell j) (on (v′ .records) j)
+      go (inr e) = rw (on-another j e) (marks j)
+      go (inl e) = subst (λ j. Marks (w .cell j) (on (v′ .records) j)) (sym e) (rw on-its-cell (λ c y.
+          let x = marks (cellOf op) c y in
+          let ne : x .who ≢ t = λ z. rw (idle-here (cellOf op)) at (subst (λ u. T (marking (lineOf (on (w .records) (cellOf op) u)))) z (x .marks)) in
+          let f = upd-off (on (w .records) (cellOf op)) t (firstOf op) (x .who) ne in
+          record { who = x .who; marks = rw f (x .marks); here = rw f (x .here) }))
+
+  -- a first line is of a swap of unequal values only if the operation is one
+  first-unequal : (p : Op) → T (swapping (lineOf (firstOf p))) → Unequal p
+  first-unequal (read k) b = b
+  first-unequal (swap k e n) b = go (eqb e n) refl b
+    where
+      go : (x : Bool) → eqb e n ≡ x → T (swapping (lineAt (cond x 10 15) 0)) → e ≢ n
+      go true z b = absurd b
+      go false z b = eqb-false _ _ z
+
+  -- a swap that its cell sees is pending there
+  sees : (j u : ℕ) → T (swapping (lineOf (on (w .records) j u))) → (doing w u ≡ some (tally (w .records u))) × Unequal (opOf (w .records u)) × (cellOf (opOf (w .records u)) ≡ j)
+  sees j u b =
+      let e = on-it (w .records) j u (lies-in swapping busy tt (lineOf (on (w .records) j u)) b) in
+      let b′ : T (swapping (lineOf (w .records u))) = subst (λ (q : Record). T (swapping (lineOf q))) (on-in (w .records) j u e) b in
+      let y = lies-in swapping busy tt (lineOf (w .records u)) b′ in
+      (busy-doing (w .records u) y, is-unequal (w .records u) (pending-at w (G .on-path) u y .1 .line) b′, cell-of (w .records u) ∙ e)
+
+  pub begin-quietly : QuietStarts doing active QuietIn w v′ t op
+  begin-quietly = record { new = new; others = others }
+    where
+      new : active w (cellOf op) → Free doing w (cellOf op) → QuietIn v′ t
+      new c free = rw (upd-same (w .records) t (firstOf op), its-cell w g κ G t op a, on-its-cell) (first-quiet op)
+        where
+          f : ℕ → Record
+          f = on (w .records) (cellOf op)
+          nobody : (u : ℕ) → T (swapping (lineOf (f u))) → ⊥
+          nobody u b = let s = sees (cellOf op) u b in free u (tally (w .records u)) (s .0) (s .1) (s .2)
+          clear : w .cell (cellOf op) .y (w .cell (cellOf op) .current) ≡ 0
+          clear = go (either (w .cell (cellOf op) .y (w .cell (cellOf op) .current)) 0)
+            where
+              go : (w .cell (cellOf op) .y (w .cell (cellOf op) .current) ≡ 0) ⊎ (w .cell (cellOf op) .y (w .cell (cellOf op) .current) ≢ 0) → w .cell (cellOf op) .y (w .cell (cellOf op) .current) ≡ 0
+              go (inl z) = z
+              go (inr z) = let x = marks (cellOf op) c z in absurd (nobody (x .who) (lies-in marking swapping tt (lineOf (f (x .who))) (x .marks)))
+          lonely : (p : Op) (u : ℕ) → u ≢ t → T (swapping (lineOf (upd f t (firstOf p) u))) → ⊥
+          lonely p u ne = rw (upd-off f t (firstOf p) u ne) (nobody u)
+          at-first : (p : Op) (r : Record) → firstOf p ≡ r → r .hard ≡ 0 → (lineOf r ≡ l10) ⊎ (lineOf r ≡ l15) → Quiet (w .cell (cellOf op)) (upd f t (firstOf p)) t
+          at-first p r e h (inl z) = record { active = c; lonely = lonely p; no-hard = rw (upd-same f t (firstOf p), e) h; line = rw (upd-same f t (firstOf p), e, z) tt
+            ; here = rw (upd-same f t (firstOf p), e, z) (λ b. absurd b); clear = λ b. clear; mine = rw (upd-same f t (firstOf p), e, z) (λ b. absurd b) }
+          at-first p r e h (inr z) = record { active = c; lonely = lonely p; no-hard = rw (upd-same f t (firstOf p), e) h; line = rw (upd-same f t (firstOf p), e, z) tt
+            ; here = rw (upd-same f t (firstOf p), e, z) (λ b. absurd b); clear = λ b. clear; mine = rw (upd-same f t (firstOf p), e, z) (λ b. absurd b) }
+          first-quiet : (p : Op) → Quiet (w .cell (cellOf op)) (upd f t (firstOf p)) t
+          first-quiet (read k) = at-first (read k) (firstRead k) refl refl (inl refl)
+          first-quiet (swap k e n) = at-first (swap k e n) (firstSwap k e n) refl refl (go (eqb e n))
+            where
+              go : (x : Bool) → (lineAt (cond x 10 15) 0 ≡ l10) ⊎ (lineAt (cond x 10 15) 0 ≡ l15)
+              go true = inl refl
+              go false = inr refl
+      others : (u : ℕ) (n : Tally) → doing w u ≡ some n → (Unequal op → cellOf op ≢ cellOf (n .op)) → QuietIn w u → QuietIn v′ u
+      others u n d apart z = rw (upd-off (w .records) t (firstOf op) u ne) (go (either (w .records u .cell) (cellOf op)))
+        where
+          ne : u ≢ t
+          ne e = let x : Opt.none ≡ some n = sym (ap tallyOf (was-idle w g κ G t op a)) ∙ sym (ap (doing w) e) ∙ d in let y : _≡_ {A = ℕ} 0 1 = cc in omega arith
+          its : cellOf (n .op) ≡ w .records u .cell
+          its = ap (λ (n : Tally). cellOf (n .op)) (some-is (doing w u) (tally (w .records u)) n (busy-doing (w .records u) (is-busy w (G .on-path) u n d)) d) ∙ cell-of (w .records u)
+          go : (w .records u .cell ≡ cellOf op) ⊎ (w .records u .cell ≢ cellOf op) → Quiet (w .cell (w .records u .cell)) (on (v′ .records) (w .records u .cell)) u
+          go (inr e) = rw (on-another (w .records u .cell) e) z
+          go (inl e) = subst (λ j. Quiet (w .cell j) (on (v′ .records) j) u) (sym e) (rw on-its-cell
+              (others-begin (w .cell (cellOf op)) (on (w .records) (cellOf op)) u t (firstOf op) (subst (λ (j : ℕ). Quiet (w .cell j) (on (w .records) j) u) e z) ne (λ b. apart (first-unequal op b) (sym e ∙ sym its))))
