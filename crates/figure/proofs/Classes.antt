@@ -5,6 +5,7 @@ use lib.Dec.{eqb, T}
 use Rattle.cells.specs.Basics.{within}
 use Rattle.cells.specs.Lines.{Wanted, for13, for25, for28, Line, l1, l2, l3, l10, l11, l12, l15, l16, l17, l18, l19, l20, l21, l22, l23, l24, l26, l27, l29, l30, nowhere}
 use Rattle.cells.specs.Questions.{ofKind}
+use Rattle.cells.proofs.Numbers.{number}
 use Rattle.figure.proofs.LineLaws.{every, every-line, lines}
 
 abbrev pub wantedBy : Wanted → ℕ
@@ -12,30 +13,7 @@ wantedBy for13 = 13
 wantedBy for25 = 25
 wantedBy for28 = 28
 
--- a line's number, and the number of the line that wanted the decision
-abbrev pub number : Line → ℕ
-number (l1 w) = 1
-number (l2 w) = 2
-number (l3 w) = 3
-number l10 = 10
-number l11 = 11
-number l12 = 12
-number l15 = 15
-number l16 = 16
-number l17 = 17
-number l18 = 18
-number l19 = 19
-number l20 = 20
-number l21 = 21
-number l22 = 22
-number l23 = 23
-number l24 = 24
-number l26 = 26
-number l27 = 27
-number l29 = 29
-number l30 = 30
-number nowhere = 0
-
+-- the number of the line that wanted the decision
 abbrev pub decisionFor : Line → ℕ
 decisionFor (l1 w) = wantedBy w
 decisionFor (l2 w) = wantedBy w

@@ -17,11 +17,12 @@ use Rattle.cells.specs.declared.lines.Next.the-variants.{Go, Done}
 use Rattle.cells.specs.Basics.{within}
 use Rattle.cells.specs.Record.{noValue}
 use Rattle.cells.specs.Lines.{Wanted, for13, for25, for28, Line, l1, l2, l3, l10, l11, l12, l15, l16, l17, l18, l19, l20, l21, l22, l23, l24, l26, l27, l29, l30, nowhere, lineOf, accessAt, at, counted, nextAt, hardware}
+use Rattle.cells.proofs.Numbers.{number}
 use Rattle.history.specs.Basics.{upd}
 use Rattle.history.proofs.Basics.{either, upd-at, upd-same, upd-off, upd-cases}
 use Rattle.figure.specs.Figure.{Cell, store, Memory, memory, perform}
 use Rattle.figure.proofs.LineLaws.{every-line}
-use Rattle.figure.proofs.Classes.{number, busy, holding, swapping, uncontended}
+use Rattle.figure.proofs.Classes.{busy, holding, swapping, uncontended}
 use Rattle.figure.proofs.Steps.{by-test}
 
 -- has not set Y yet; has written X and not yet looked at it

@@ -14,7 +14,7 @@ use Rattle.cells.specs.declared.Record.{Record}
 use Rattle.cells.specs.declared.Finished.{Finished}
 use Rattle.cells.specs.declared.lines.Next.{Next}
 use Rattle.cells.specs.declared.lines.Next.the-variants.{Go, Done}
-use Rattle.cells.specs.Record.{idle}
+use Rattle.cells.specs.Record.{noValue, idle}
 use Rattle.cells.specs.Begin.{firstRead, firstSwap}
 use Rattle.cells.specs.Lines.{Line, l10, l15, lineAt, lineOf, accessOf, accessAt, nextOf, nextAt, counted, hardware}
 use Rattle.cells.specs.Questions.{ofKind}
@@ -109,8 +109,9 @@ module _ (v : ℕ) (w : World) (g : Ghost) (κ : Knowledge) (i : Invariant v w g
 
 -- ALL OF IT
 
-module _ (n v : ℕ) (vs : List ℕ) (some-values : (k : ℕ) → getD vs k 0 ≢ none) where
+module _ (n v : ℕ) (vs : List ℕ) (some-values : (k : ℕ) → getD vs k 0 ≢ noValue) where
   pub simulation : Sim.Simulation figure (opening n v vs) active v (λ k. getD vs k 0)
+  unfolding none
   simulation = record
     { doing = doing; Inv = Invariant v; Quiet = QuietIn; idle = λ t. refl
     ; opened = λ κ. record { size = refl; good = opening-good n v vs some-values κ; marks = λ k c y. absurd (y refl) }

@@ -17,7 +17,7 @@ use Rattle.cells.specs.Step.{current}
 use Rattle.cells.proofs.Tests.{both, implied, or-left, or-right, all-from, none-of}
 use Rattle.figure.specs.Figure.{World}
 use Rattle.refinement.specs.Terms.{named}
-use Rattle.refinement.proofs.Assumed.{WellRecord}
+use Rattle.figure.proofs.Records.{WellRecord}
 use Rattle.refinement.proofs.Agree.{Links, Agree, Task}
 
 -- FIT

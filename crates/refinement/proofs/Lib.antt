@@ -1,4 +1,3 @@
-pub mod Assumed
 pub mod Agree
 pub mod Memory
 pub mod Fits
@@ -9,3 +8,4 @@ pub mod Steps
 pub mod Opening
 pub mod Refines
 pub mod LoneRead
+pub mod Demand3

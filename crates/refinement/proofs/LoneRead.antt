@@ -25,7 +25,6 @@ use Rattle.figure.specs.Figure.{Cell, World, withBoth, store, perform, recordAf
 use Rattle.figure.specs.Figure
 use Rattle.refinement.specs.Pool.{Pool, pool}
 use Rattle.refinement.specs.Terms.{start, isActive, loneRead, lastEvent}
-use Rattle.refinement.proofs.Assumed.{Well}
 use Rattle.refinement.proofs.Agree.{upd-own}
 use Rattle.refinement.proofs.Refines.{Together, together, histories, looks, same-words}
 
@@ -140,7 +139,7 @@ reads-what-it-shows {n} {v} {x} {w} g t k y l idle look c e =
 
 -- What look shows, a read returns that an idle task begins now and runs alone: with its third step, no hardware CAS attempted, where C of the
 -- cell's current block is false; otherwise with its sixth, having attempted one.
-pub look-is-a-lone-read : Well → (s : State) (p : List ℕ) (n v b : ℕ) (vs : List ℕ) → refusal (openQuestions (length p) n v b vs) ≡ none
+pub look-is-a-lone-read : (s : State) (p : List ℕ) (n v b : ℕ) (vs : List ℕ) → refusal (openQuestions (length p) n v b vs) ≡ none
     → (l : List Action) (t k y : ℕ) → let x = run pool (start s p n v b vs) l in t < n → isIdle (recordAt (x .0 .records) t) ≡ true → looked (x .0) (x .1) k ≡ Shown y
     → let c = isActive x k in lastEvent (history pool x (loneRead t k (cond c 3 6))) ≡ some (answered 0 (Value y) (cond c 3 6) (cond c 0 1))
-look-is-a-lone-read well s p n v b vs ok l t k y h idle look = reads-what-it-shows (together well s p n v b vs ok l) t k y h idle look (isActive (run pool (start s p n v b vs) l) k) refl
+look-is-a-lone-read s p n v b vs ok l t k y h idle look = reads-what-it-shows (together s p n v b vs ok l) t k y h idle look (isActive (run pool (start s p n v b vs) l) k) refl

@@ -21,7 +21,7 @@ use Rattle.figure.specs.Figure.{World, figure, opening, wordOf}
 use Rattle.figure.specs.Figure
 use Rattle.refinement.specs.Pool.{Pool, pool}
 use Rattle.refinement.specs.Terms.{start, named}
-use Rattle.refinement.proofs.Assumed.{WellRecord, Well}
+use Rattle.figure.proofs.Records.{WellRecord, well}
 use Rattle.refinement.proofs.Agree.{Links, Agree}
 use Rattle.refinement.proofs.Fits.{fits}
 use Rattle.refinement.proofs.Steps.{Same, steps, begins}
@@ -67,7 +67,7 @@ module _ {n v : ℕ} where
       go true e = let same = same-words g k (ltb-true k v e) in rw (same C, same Field.V, same D)
 
 -- an opening that is not refused, then any list of actions
-module _ (well : Well) (s : State) (p : List ℕ) (n v b : ℕ) (vs : List ℕ) (ok : refusal (openQuestions (length p) n v b vs) ≡ none) where
+module _ (s : State) (p : List ℕ) (n v b : ℕ) (vs : List ℕ) (ok : refusal (openQuestions (length p) n v b vs) ≡ none) where
   fresh-opening : Agree n v (Opened v) (start s p n v b vs .0) (start s p n v b vs .1) (opening n v vs)
   unfolding opened
   fresh-opening = rw ok (opens p n v b vs ok)

@@ -27,7 +27,7 @@ use Rattle.figure.specs.Figure.{Cell, World, withBoth, leaving, recordAfter, ou
 use Rattle.figure.specs.Figure
 use Rattle.refinement.specs.Pool.{Pool, pool}
 use Rattle.refinement.specs.Terms.{named}
-use Rattle.refinement.proofs.Assumed.{Busy, WellRecord}
+use Rattle.figure.proofs.Records.{Busy, WellRecord}
 use Rattle.refinement.proofs.Agree.{Links, Agree, Task, holdsAt, installsAt, no-blocks, records-change}
 use Rattle.refinement.proofs.Memory.{withCell}
 use Rattle.refinement.proofs.Fits.{fits}

@@ -1,0 +1,64 @@
+-- Demand 3 of the cells: it holds of the figure, and the pool has the figure's histories.
+use mathlib.Core.Path.{_≡_, refl, sym, subst}
+use mathlib.Core.Logic.{_≢_}
+use mathlib.Core.Bool.{Bool, true, false, not}
+use mathlib.Core.Option.{Option, none, some}
+use mathlib.Core.List.{List, [], _∷_}
+use Prim.Native.Nat.{ℕ, zero, suc, _≤_}
+use native.Mathlib.Decide.{decLe}
+use native.Mathlib.Omega.{arith}
+use lib.Dec.{eqb}
+use lib.ListN.{getD, length}
+use borrow.Author.Tests.{eqb-false}
+use Rattle.cells.specs.declared.State.{State}
+use Rattle.cells.specs.Record.{noValue}
+use Rattle.cells.specs.Questions.{refusal, hasNone, openQuestions}
+use Rattle.cells.proofs.Tests.{nth, answers, all-yes, none-of}
+use Rattle.history.specs.History.{Action, Event, history, Call, callsOf}
+use Rattle.history.specs.Demand3.{most, Demand3, Meets}
+use Rattle.history.proofs.Simulation.{activeAfter}
+use Rattle.history.proofs.EndsWithin.{Finishes, ends-within}
+use Rattle.figure.specs.Figure.{figure, opening, active}
+use Rattle.figure.proofs.Simulation.{figure-meets-demand-3}
+use Rattle.refinement.specs.Pool.{Pool, pool}
+use Rattle.refinement.specs.Terms.{start}
+use Rattle.refinement.proofs.Refines.{same-history}
+
+beyond : (vs : List ℕ) (k : ℕ) → length vs ≤ k → getD vs k 0 ≡ 0
+beyond [] zero h = refl
+beyond [] (suc k) h = refl
+beyond (x ∷ vs) zero h = absurd (omega arith)
+beyond (x ∷ vs) (suc k) h = beyond vs k (omega arith)
+
+-- question 5
+pub values-some : (vs : List ℕ) → hasNone vs ≡ false → (k : ℕ) → getD vs k 0 ≢ noValue
+unfolding hasNone
+values-some vs e k z = go (decLe (length vs) k)
+  where
+    go : Dec (length vs ≤ k) → ⊥
+    go (yes h) = omega (arith, beyond vs k h)
+    go (no h) = eqb-false _ _ (none-of (λ k. eqb (getD vs k 0) noValue) 0 (length vs) e k (omega arith) (omega arith)) z
+
+-- whatever was in the state and in the pool before an opening that is not refused
+module _ (s : State) (p : List ℕ) (n v b : ℕ) (vs : List ℕ) (ok : refusal (openQuestions (length p) n v b vs) ≡ none) where
+  pub starting-values : (k : ℕ) → getD vs k 0 ≢ noValue
+  unfolding openQuestions
+  starting-values = values-some vs (no (hasNone vs) (nth (answers (openQuestions (length p) n v b vs)) (all-yes (openQuestions (length p) n v b vs) ok) 4))
+    where
+      no : (x : Bool) → not x ≡ true → x ≡ false
+      no true e = sym e
+      no false e = refl
+
+  -- DEMAND 3. For every list of begins and steps from a fresh opening, with any numbers, refused ones included, wherever tasks halt: the
+  -- calls can be told one after another on plain cells, every finished call once with its own answer and some pending ones once each,
+  -- every one after its begin and no later than its last step; a read ends within 6 own steps with at most 1 hardware CAS, a swap within
+  -- 17 with at most 3; and a call attempts none if its cell's block was active at its begin and no other swap of unequal values is
+  -- pending on that cell from its begin to its end.
+  pub cells-meet-demand-3 : Meets pool (start s p n v b vs) (activeAfter figure (opening n v vs) active) v (λ k. getD vs k 0)
+  cells-meet-demand-3 l =
+      subst (λ (h : List (Action × Event)). Demand3 (activeAfter figure (opening n v vs) active) v (λ k. getD vs k 0) h) (sym (same-history s p n v b vs ok l))
+      (figure-meets-demand-3 n v vs starting-values l)
+
+  -- From anywhere in any list, at most 6 further steps of its task finish a read, and at most 17 a swap.
+  pub every-call-ends : (l : List Action) (t : ℕ) (c : Call) → callsOf (history pool (start s p n v b vs) l) .pending t ≡ some c → Finishes pool (start s p n v b vs) l t c (most (c .start .op))
+  every-call-ends = ends-within pool (start s p n v b vs) cells-meet-demand-3
