@@ -1,33 +1,31 @@
 -- A call that begins: its record is the first one of its operation, and nobody has seen anything new.
 use mathlib.Core.Path.{_≡_, refl, sym, ap, subst, _∙_}
 use mathlib.Core.Logic.{_≢_, _⊎_, inl, inr}
-use mathlib.Core.Bool.{Bool, true, false, not, _&&_, _||_, cond, false≢true}
-use mathlib.Core.Option.{some}
-use mathlib.Core.List.{List, []}
-use Prim.Native.Nat.{ℕ, _<_}
+use mathlib.Core.Bool.{Bool, true, false, not, _&&_, cond, false≢true}
+use mathlib.Core.List.{List}
+use Prim.Native.Nat.{ℕ}
 use native.Mathlib.Omega.{arith}
 use lib.Dec.{eqb, T}
 use lib.ListN.{getD}
-use borrow.Author.Tests.{eqb-true, eqb-false}
+use borrow.Author.Tests.{eqb-false}
 use Rattle.cells.specs.declared.Record.{Record}
-use Rattle.cells.specs.Record.{noValue, idle, isIdle}
-use Rattle.cells.specs.Lines.{Line, lineOf, nowhere, l10, l15}
+use Rattle.cells.specs.Record.{noValue, idle}
+use Rattle.cells.specs.Lines.{lineOf, l10, l15}
 use Rattle.cells.specs.Questions.{valuesFit}
 use Rattle.cells.specs.Begin.{first, firstRead}
-use Rattle.history.specs.Basics.{upd}
 use Rattle.history.specs.History.{Op, read, swap, cellOf}
-use Rattle.history.proofs.Basics.{either, upd-at, upd-same, upd-off}
-use Rattle.history.proofs.Simulation.{Phase, settled, late, Ghost, Knowledge, Tally, untold, Grown}
+use Rattle.history.proofs.Basics.{either, upd-same, upd-off}
+use Rattle.history.proofs.Simulation.{late, Ghost, Knowledge, untold, Grown}
 use Rattle.history.proofs.Simulation as Sim
-use Rattle.figure.specs.Figure.{Cell, World, withRecord, opening}
-use Rattle.figure.proofs.Records.{Pending, AllOnPath, OnPath, Accepted, firstOf, not-idle, opening-on-path}
-use Rattle.figure.proofs.Tallies.{tally, tallyOf, doing}
+use Rattle.figure.specs.Figure.{World, withRecord, opening}
+use Rattle.figure.proofs.Records.{AllOnPath, OnPath, Accepted, firstOf, not-idle, opening-on-path}
+use Rattle.figure.proofs.Tallies.{tallyOf, doing}
 use Rattle.figure.proofs.Classes.{busy, stored, lies-in}
-use Rattle.figure.proofs.Invariant.{none, View, Self, Split, Value, Decided, Seen, Planned, Fresh, Owner, Task, TaskOf, Rival, line, held, Inv}
+use Rattle.figure.proofs.Invariant.{none, View, line, Inv}
 use Rattle.figure.proofs.Frame.{moved, Mine, quiet}
 use Rattle.figure.proofs.Frame as Frame
 use Rattle.figure.proofs.Looking.{off, idle-task, settled≢late}
-use Rattle.figure.proofs.Views.{on, on-idle, on-changed, on-elsewhere, on-it, view, told-changed}
+use Rattle.figure.proofs.Views.{on, on-idle, on-changed, on-elsewhere, view, told-changed}
 use Rattle.figure.proofs.Worlds.{Good, doing-on}
 
 -- THE STEPPER'S FACTS at its first line

@@ -1,19 +1,19 @@
 -- Line 2 where it finds D none: the block is decided, and the cell is settled; a late swap whose value it is takes effect.
-use mathlib.Core.Path.{_≡_, refl, sym, ap, subst, _∙_}
-use mathlib.Core.Logic.{_≢_, _⊎_, inl, inr}
-use mathlib.Core.Bool.{Bool, true, false, not}
+use mathlib.Core.Path.{_≡_, refl, sym, ap, _∙_}
+use mathlib.Core.Logic.{_≢_}
+use mathlib.Core.Bool.{Bool, true, not}
 use Prim.Native.Nat.{ℕ}
-use lib.Dec.{T, T-not, not-T}
+use lib.Dec.{T}
 use Rattle.cells.specs.declared.Record.{Record}
 use Rattle.cells.specs.declared.lines.Field.the-variants.{D}
 use Rattle.cells.specs.declared.lines.Access.{Access}
-use Rattle.cells.specs.Lines.{Wanted, for13, for25, for28, Line, l2, l3, lineOf, at, counted}
+use Rattle.cells.specs.Lines.{Wanted, l2, l3, lineOf, at, counted}
 use Rattle.history.specs.Basics.{upd}
-use Rattle.history.proofs.Basics.{either, upd-at, upd-same, upd-off, upd-cases}
+use Rattle.history.proofs.Basics.{upd-at, upd-same, upd-off, upd-cases}
 use Rattle.history.proofs.Simulation.{Phase, settled, frozen, late, Knowledge}
-use Rattle.figure.specs.Figure.{Cell, store}
-use Rattle.figure.proofs.Classes.{is, busy, holding, swapping, racing, won, loaded, stored, contended, replacing, lies-in, are-apart}
-use Rattle.figure.proofs.Invariant.{none, View, Self, Split, Value, Decided, Seen, Planned, Fresh, Owner, Task, TaskOf, Rival, Current, PhaseIs, CurrentOf, line, held, RivalOf, Inv}
+use Rattle.figure.specs.Figure.{store}
+use Rattle.figure.proofs.Classes.{is, busy, holding, swapping, won, loaded, stored, replacing, lies-in, are-apart}
+use Rattle.figure.proofs.Invariant.{none, View, Decided, Seen, Owner, TaskOf, PhaseIs, line, held, Inv}
 use Rattle.figure.proofs.Frame.{moved, Rest, Mine, finish, was, undecided, one-winner, not-taken}
 use Rattle.figure.proofs.Looking.{off, same-wins, same-loses, settled≢late}
 

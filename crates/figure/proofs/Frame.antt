@@ -1,18 +1,16 @@
 -- A step changes memory and ghost, then one record: what holds of everybody but the stepper, and what holds of the stepper, make the
 -- invariant again. The quantifiers over tasks are met here once.
-use mathlib.Core.Path.{_≡_, refl, sym, ap, subst, _∙_}
+use mathlib.Core.Path.{_≡_, refl, sym, subst, _∙_}
 use mathlib.Core.Logic.{_≢_, _⊎_, inl, inr}
-use mathlib.Core.Bool.{Bool, true, false, not}
-use Prim.Native.Nat.{ℕ, _≤_, _<_}
+use Prim.Native.Nat.{ℕ}
 use lib.Dec.{T}
 use Rattle.cells.specs.declared.Record.{Record}
 use Rattle.cells.specs.Lines.{Line, lineOf}
 use Rattle.history.specs.Basics.{upd}
-use Rattle.history.proofs.Basics.{either, upd-same, upd-off, upd-cases}
-use Rattle.history.proofs.Simulation.{Phase, settled, frozen, late, Knowledge}
-use Rattle.figure.specs.Figure.{Cell}
-use Rattle.figure.proofs.Classes.{is, busy, holding, swapping, racing, won, loaded, stored, contended, replacing, checking, lies-in}
-use Rattle.figure.proofs.Invariant.{none, View, Self, Split, Value, Decided, Seen, Planned, Fresh, Owner, Task, TaskOf, Rival, Current, CurrentOf, line, held, RivalOf, Inv}
+use Rattle.history.proofs.Basics.{either, upd-cases}
+use Rattle.history.proofs.Simulation.{Knowledge}
+use Rattle.figure.proofs.Classes.{is, busy, holding, won, checking, lies-in}
+use Rattle.figure.proofs.Invariant.{none, View, TaskOf, Rival, CurrentOf, line, held, RivalOf, Inv}
 
 abbrev pub moved : View → ℕ → Record → View
 moved s t q = record { cell = s .cell; task = upd (s .task) t q; value = s .value; told = s .told; phase = s .phase }

@@ -1,7 +1,7 @@
 -- The invariant of one cell, as small facts grouped by the words that they look at.
 use mathlib.Core.Path.{_≡_}
 use mathlib.Core.Logic.{_≢_}
-use mathlib.Core.Bool.{Bool, true, false, not}
+use mathlib.Core.Bool.{Bool, not}
 use Prim.Native.Nat.{ℕ, _<_}
 use lib.Dec.{T}
 use Rattle.cells.specs.declared.Record.{Record}

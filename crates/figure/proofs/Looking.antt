@@ -1,19 +1,17 @@
 -- The lines that only look: what the stepper knows at its next line.
 use mathlib.Core.Path.{_≡_, refl, sym, ap, subst, _∙_}
-use mathlib.Core.Logic.{_≢_, _⊎_, inl, inr}
+use mathlib.Core.Logic.{_≢_}
 use mathlib.Core.Bool.{Bool, true, false, not}
 use Prim.Native.Nat.{ℕ, _<_}
 use native.Mathlib.Omega.{arith}
 use lib.Dec.{T}
 use Rattle.cells.specs.declared.Record.{Record}
 use Rattle.cells.specs.declared.lines.Access.{Access}
-use Rattle.cells.specs.Lines.{Wanted, for13, for25, for28, Line, l1, l2, l3, l10, l11, l12, l15, l16, l17, l18, l19, l20, l21, l22, l23, l24, l26, l27, l29, l30, nowhere, lineOf, at, counted}
-use Rattle.history.proofs.Basics.{either}
+use Rattle.cells.specs.Lines.{Wanted, for13, for25, for28, Line, l1, l2, l3, l10, l11, l12, l15, l16, l17, l18, l19, l20, l21, l22, l23, l24, l26, l27, l29, nowhere, at, counted}
 use Rattle.history.proofs.Simulation.{Phase, settled, frozen, late, Knowledge}
-use Rattle.figure.specs.Figure.{Cell}
-use Rattle.figure.proofs.Classes.{is, busy, holding, swapping, racing, won, loaded, stored, contended, replacing, checking, lies-in}
-use Rattle.figure.proofs.Invariant.{none, View, Self, Split, Value, Decided, Seen, Planned, Fresh, Owner, Task, TaskOf, Rival, Current, PhaseIs, CurrentOf, line, held, RivalOf, Inv}
-use Rattle.figure.proofs.Frame.{Rest, Mine, undecided, active-undecided, active-current, one-winner}
+use Rattle.figure.proofs.Classes.{holding, racing, won, loaded, stored}
+use Rattle.figure.proofs.Invariant.{none, View, Fresh, Owner, TaskOf, Rival, PhaseIs, line, held, Inv}
+use Rattle.figure.proofs.Frame.{Mine, undecided, active-undecided, active-current}
 
 -- NOTHING FOLLOWS FROM A LINE THAT IS NOT THERE: `search` closes each fact whose line it is not
 

@@ -1,18 +1,17 @@
 -- An active block whose Y is set has a task in its splitter: so where no swap of unequal values is pending, Y is clear.
 use mathlib.Core.Path.{_≡_, refl, sym, ap, subst, _∙_}
 use mathlib.Core.Logic.{_≢_, _⊎_, inl, inr}
-use mathlib.Core.Bool.{Bool, true, false, not, cond}
 use Prim.Native.Nat.{ℕ, _<_}
 use native.Mathlib.Omega.{arith}
 use lib.Dec.{eqb, T}
-use borrow.Author.Tests.{eqb-true, eqb-false}
+use borrow.Author.Tests.{eqb-false}
 use Rattle.cells.specs.declared.Record.{Record}
 use Rattle.cells.specs.declared.lines.Field.the-variants.{Y, C, D}
 use Rattle.cells.specs.declared.lines.Next.{Next}
-use Rattle.cells.specs.Record.{noValue, idle}
-use Rattle.cells.specs.Lines.{Wanted, for13, for25, for28, Line, l1, l2, l3, l10, l11, l12, l15, l16, l17, l18, l19, l20, l21, l22, l23, l24, l26, l27, l29, l30, nowhere, lineOf, accessAt, counted, nextAt}
+use Rattle.cells.specs.Record.{noValue}
+use Rattle.cells.specs.Lines.{for13, for25, for28, Line, l1, l2, l3, l10, l11, l12, l15, l16, l17, l18, l19, l20, l21, l22, l23, l24, l26, l27, l29, l30, nowhere, lineOf, accessAt, counted, nextAt}
 use Rattle.history.specs.Basics.{upd}
-use Rattle.history.proofs.Basics.{either, upd-at, upd-same, upd-off, upd-cases}
+use Rattle.history.proofs.Basics.{either, upd-same, upd-off, upd-cases}
 use Rattle.history.proofs.Simulation.{Knowledge}
 use Rattle.figure.specs.Figure.{Cell, store, install, Memory, memory, perform, recordAfter}
 use Rattle.figure.proofs.Classes.{busy, contended, marking}

@@ -4,13 +4,12 @@ use mathlib.Core.Logic.{_≢_, _⊎_, inl, inr}
 use mathlib.Core.Bool.{Bool, true, false, not, _&&_, _||_, cond, false≢true}
 use mathlib.Core.Option.{some}
 use Prim.Native.Nat.{ℕ}
-use native.Mathlib.Omega.{arith}
 use lib.Dec.{eqb, T}
 use borrow.Author.Tests.{eqb-true, eqb-false, eq-eqb, ne-eqb}
 use Rattle.cells.specs.declared.Record.{Record}
 use Rattle.cells.specs.declared.Answer.the-variants as Code
 use Rattle.cells.specs.Record.{isIdle}
-use Rattle.cells.specs.Lines.{Line, lineAt, lineOf, nowhere, readAnswer}
+use Rattle.cells.specs.Lines.{lineAt, lineOf, readAnswer}
 use Rattle.cells.specs.Questions.{ofKind, reads, swaps, lineFit}
 use Rattle.history.specs.History.{Op, read, swap, cellOf, Yes, No}
 use Rattle.history.specs.Linearization.{reply, after, apply}

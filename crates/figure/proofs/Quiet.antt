@@ -1,28 +1,28 @@
 -- No hardware CAS without contention: a call that begins on an active block, with no other swap of unequal values there, stays on the
 -- lines that attempt none.
-use mathlib.Core.Path.{_≡_, refl, sym, ap, subst, _∙_}
-use mathlib.Core.Logic.{_≢_, _⊎_, inl, inr}
-use mathlib.Core.Bool.{Bool, true, false, not, _&&_, _||_, cond}
+use mathlib.Core.Path.{_≡_, refl, sym, ap, _∙_}
+use mathlib.Core.Logic.{_≢_}
+use mathlib.Core.Bool.{Bool, true, false, not, _||_}
 use Prim.Native.Nat.{ℕ, _+_}
 use native.Mathlib.Omega.{arith}
 use lib.Dec.{eqb, T, eqb→eq}
-use borrow.Author.Tests.{eqb-true, eqb-false}
+use borrow.Author.Tests.{eqb-false}
 use Rattle.cells.specs.declared.Record.{Record}
 use Rattle.cells.specs.declared.lines.Field.{Field}
-use Rattle.cells.specs.declared.lines.Field.the-variants.{X, Y, C, D}
+use Rattle.cells.specs.declared.lines.Field.the-variants.{X, Y, D}
 use Rattle.cells.specs.declared.lines.Access.{Access}
 use Rattle.cells.specs.declared.lines.Access.the-variants.{LoadCell, Load, Store, DecideCas, InstallCas, Allocate, Nothing}
 use Rattle.cells.specs.declared.lines.Next.{Next}
 use Rattle.cells.specs.declared.lines.Next.the-variants.{Go, Done}
 use Rattle.cells.specs.Basics.{within}
 use Rattle.cells.specs.Record.{noValue}
-use Rattle.cells.specs.Lines.{Wanted, for13, for25, for28, Line, l1, l2, l3, l10, l11, l12, l15, l16, l17, l18, l19, l20, l21, l22, l23, l24, l26, l27, l29, l30, nowhere, lineOf, accessAt, at, counted, nextAt, hardware}
+use Rattle.cells.specs.Lines.{Line, l1, l2, l3, l10, l11, l12, l15, l16, l17, l18, l19, l20, l21, l22, l23, l24, l26, l27, l29, l30, nowhere, lineOf, accessAt, counted, nextAt, hardware}
 use Rattle.cells.proofs.Numbers.{number}
 use Rattle.history.specs.Basics.{upd}
-use Rattle.history.proofs.Basics.{either, upd-at, upd-same, upd-off, upd-cases}
+use Rattle.history.proofs.Basics.{upd-at, upd-same, upd-off, upd-cases}
 use Rattle.figure.specs.Figure.{Cell, store, Memory, memory, perform}
 use Rattle.figure.proofs.LineLaws.{every-line}
-use Rattle.figure.proofs.Classes.{busy, holding, swapping, uncontended}
+use Rattle.figure.proofs.Classes.{holding, swapping, uncontended}
 use Rattle.figure.proofs.Steps.{by-test}
 
 -- has not set Y yet; has written X and not yet looked at it

@@ -1,42 +1,36 @@
 -- Quiet tasks in the whole figure: steps and begins of others leave them quiet, and marks stay where they are.
 use mathlib.Core.Path.{_≡_, refl, sym, ap, subst, _∙_}
 use mathlib.Core.Logic.{_≢_, _⊎_, inl, inr}
-use mathlib.Core.Bool.{Bool, true, false, not, cond, false≢true}
+use mathlib.Core.Bool.{Bool, true, false, cond}
 use mathlib.Core.Option.{Option, some}
 use mathlib.Core.Option as Opt
 use mathlib.Core.List.{List}
 use Prim.Native.Nat.{ℕ}
 use native.Mathlib.Omega.{arith}
 use lib.Dec.{eqb, T}
-use lib.ListN.{getD}
-use borrow.Author.Tests.{eqb-true, eqb-false}
+use borrow.Author.Tests.{eqb-false}
 use Rattle.cells.specs.declared.Record.{Record}
-use Rattle.cells.specs.declared.Finished.{Finished}
 use Rattle.cells.specs.declared.lines.Next.{Next}
 use Rattle.cells.specs.declared.lines.Next.the-variants.{Go, Done}
 use Rattle.cells.specs.Record.{idle}
 use Rattle.cells.specs.Begin.{firstRead, firstSwap}
-use Rattle.cells.specs.Lines.{Line, l10, l15, lineAt, lineOf, accessOf, accessAt, nextOf, nextAt, counted, hardware}
-use Rattle.cells.specs.Questions.{ofKind}
+use Rattle.cells.specs.Lines.{Line, l10, l15, lineAt, lineOf, accessOf, accessAt, nextOf, counted, hardware}
 use Rattle.history.specs.Basics.{upd}
-use Rattle.history.specs.History.{Op, read, swap, cellOf, Action, begin, step, Event}
-use Rattle.history.specs.Demand3.{Unequal, Meets}
+use Rattle.history.specs.History.{Op, read, swap, cellOf}
+use Rattle.history.specs.Demand3.{Unequal}
 use Rattle.history.proofs.Basics.{either, upd-at, upd-same, upd-off}
-use Rattle.history.proofs.Simulation.{Ghost, Knowledge, Tally, Forward, Quietly, QuietStarts, QuietSteps, Free, activeAfter}
-use Rattle.history.proofs.Simulation as Sim
-use Rattle.history.proofs.Meets.{meets}
-use Rattle.figure.specs.Figure.{Cell, World, withBoth, withRecord, After, leaving, recordAfter, outcomeOf, ran, opening, perform, beginEvent, stepEvent, tried, figure, active, answerOf}
+use Rattle.history.proofs.Simulation.{Ghost, Knowledge, Tally, QuietStarts, QuietSteps, Free}
+use Rattle.figure.specs.Figure.{Cell, World, withBoth, withRecord, recordAfter, perform, tried, active}
 use Rattle.figure.proofs.LineLaws.{Leads, goes, done}
-use Rattle.figure.proofs.Records.{Pending, OnPath, AllOnPath, Accepted, firstOf, Begun, starts, begin-cases, Stepped, runs, step-cases, act-on-path, led}
-use Rattle.figure.proofs.Tallies.{opOf, tally, tallyOf, doing, follows, within}
+use Rattle.figure.proofs.Records.{Pending, OnPath, AllOnPath, Accepted, firstOf, led}
+use Rattle.figure.proofs.Tallies.{opOf, tally, tallyOf, doing}
 use Rattle.figure.proofs.Classes.{busy, swapping, marking, lies-in}
 use Rattle.figure.proofs.Invariant.{none, line}
-use Rattle.figure.proofs.Steps.{Step, Reason, Out}
-use Rattle.figure.proofs.Views.{on, on-in, on-it, on-idle, on-changed, on-elsewhere, view}
+use Rattle.figure.proofs.Views.{on, on-in, on-it, on-changed, on-elsewhere, view}
 use Rattle.figure.proofs.Operations.{cell-of, busy-line, busy-doing, is-unequal}
-use Rattle.figure.proofs.Worlds.{Good, pending-at, out, moveOf, may, kept-all, why}
-use Rattle.figure.proofs.Begins.{begun-good, opening-good, good-grown, was-idle, idle-to, its-cell}
-use Rattle.figure.proofs.Marks.{Marks, Marked, marks-kept}
+use Rattle.figure.proofs.Worlds.{Good, pending-at}
+use Rattle.figure.proofs.Begins.{was-idle, idle-to, its-cell}
+use Rattle.figure.proofs.Marks.{Marks, marks-kept}
 use Rattle.figure.proofs.Quiet.{Quiet, quiet-step, untried, others-step, others-begin}
 
 -- a task is quiet on its own cell

@@ -1,7 +1,7 @@
 -- Lines 29 and 30: a new block that nobody knows, and the cell that gets it.
-use mathlib.Core.Path.{_≡_, refl, sym, ap, subst, _∙_}
+use mathlib.Core.Path.{_≡_, sym, ap, _∙_}
 use mathlib.Core.Logic.{_≢_, _⊎_, inl, inr}
-use mathlib.Core.Bool.{Bool, true, false, not}
+use mathlib.Core.Bool.{Bool, true}
 use Prim.Native.Nat.{ℕ, suc, _<_}
 use native.Mathlib.Omega.{arith}
 use lib.Dec.{T}
@@ -10,11 +10,11 @@ use Rattle.cells.specs.declared.lines.Access.{Access}
 use Rattle.cells.specs.Lines.{Line, l29, l30, nowhere, lineOf, at, counted}
 use Rattle.history.specs.Basics.{upd}
 use Rattle.history.proofs.Basics.{either, upd-same, upd-off}
-use Rattle.history.proofs.Simulation.{Phase, settled, frozen, late, Knowledge}
+use Rattle.history.proofs.Simulation.{Phase, settled, late, Knowledge}
 use Rattle.figure.specs.Figure.{Cell, install, allocate}
-use Rattle.figure.proofs.Classes.{is, busy, holding, swapping, racing, won, loaded, stored, contended, replacing, checking, lies-in}
-use Rattle.figure.proofs.Invariant.{none, View, Self, Split, Value, Decided, Seen, Planned, Fresh, Owner, Task, TaskOf, Rival, Current, PhaseIs, CurrentOf, line, held, RivalOf, Inv}
-use Rattle.figure.proofs.Frame.{moved, Rest, Mine, finish, forget, was, undecided}
+use Rattle.figure.proofs.Classes.{is, busy, holding, racing, won, loaded, stored, contended, replacing, checking, lies-in}
+use Rattle.figure.proofs.Invariant.{none, View, Split, Value, Decided, Seen, Planned, Fresh, Owner, TaskOf, line, held, Inv}
+use Rattle.figure.proofs.Frame.{moved, Rest, Mine, finish, was, undecided}
 use Rattle.figure.proofs.Looking.{off, idle-mine, not-late, settled≢late, decided-settled}
 
 -- LINE 30, where the held block is the current one

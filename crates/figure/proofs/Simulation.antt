@@ -1,42 +1,29 @@
 -- The figure is simulated by the sequential specification: all that demand 3 asks of it, put together.
-use mathlib.Core.Path.{_≡_, refl, sym, ap, subst, _∙_}
-use mathlib.Core.Logic.{_≢_, _⊎_, inl, inr}
-use mathlib.Core.Bool.{Bool, true, false, not, cond, false≢true}
-use mathlib.Core.Option.{Option, some}
-use mathlib.Core.Option as Opt
+use mathlib.Core.Path.{_≡_, refl, sym, subst}
+use mathlib.Core.Logic.{_≢_}
 use mathlib.Core.List.{List}
 use Prim.Native.Nat.{ℕ}
-use native.Mathlib.Omega.{arith}
-use lib.Dec.{eqb, T}
 use lib.ListN.{getD}
-use borrow.Author.Tests.{eqb-true, eqb-false}
 use Rattle.cells.specs.declared.Record.{Record}
-use Rattle.cells.specs.declared.Finished.{Finished}
 use Rattle.cells.specs.declared.lines.Next.{Next}
 use Rattle.cells.specs.declared.lines.Next.the-variants.{Go, Done}
 use Rattle.cells.specs.Record.{noValue, idle}
-use Rattle.cells.specs.Begin.{firstRead, firstSwap}
-use Rattle.cells.specs.Lines.{Line, l10, l15, lineAt, lineOf, accessOf, accessAt, nextOf, nextAt, counted, hardware}
-use Rattle.cells.specs.Questions.{ofKind}
-use Rattle.history.specs.Basics.{upd}
-use Rattle.history.specs.History.{Op, read, swap, cellOf, Action, begin, step, Event}
-use Rattle.history.specs.Demand3.{Unequal, Meets}
-use Rattle.history.proofs.Basics.{either, upd-at, upd-same, upd-off}
-use Rattle.history.proofs.Simulation.{Ghost, Knowledge, Tally, Forward, Quietly, QuietStarts, QuietSteps, Free, activeAfter}
+use Rattle.cells.specs.Lines.{Line, accessOf, nextOf}
+use Rattle.history.specs.History.{Op, Action, begin, step}
+use Rattle.history.specs.Demand3.{Meets}
+use Rattle.history.proofs.Simulation.{Ghost, Knowledge, Forward, Quietly, QuietSteps, activeAfter}
 use Rattle.history.proofs.Simulation as Sim
 use Rattle.history.proofs.Meets.{meets}
-use Rattle.figure.specs.Figure.{Cell, World, withBoth, withRecord, After, leaving, recordAfter, outcomeOf, ran, opening, perform, beginEvent, stepEvent, tried, figure, active, answerOf}
-use Rattle.figure.proofs.LineLaws.{Leads, goes, done}
-use Rattle.figure.proofs.Records.{Pending, OnPath, AllOnPath, Accepted, firstOf, Begun, starts, begin-cases, Stepped, runs, step-cases, act-on-path, led}
-use Rattle.figure.proofs.Tallies.{opOf, tally, tallyOf, doing, follows, within}
-use Rattle.figure.proofs.Classes.{busy, swapping, marking, lies-in}
+use Rattle.figure.specs.Figure.{Cell, World, withBoth, After, recordAfter, outcomeOf, ran, opening, perform, beginEvent, stepEvent, tried, figure, active, answerOf}
+use Rattle.figure.proofs.Records.{Pending, AllOnPath, Begun, starts, begin-cases, Stepped, runs, step-cases, act-on-path}
+use Rattle.figure.proofs.Tallies.{tally, doing, follows, within}
 use Rattle.figure.proofs.Invariant.{none, line}
 use Rattle.figure.proofs.Steps.{Step, Reason, Out}
-use Rattle.figure.proofs.Views.{on, on-in, on-it, on-idle, on-changed, on-elsewhere, view}
-use Rattle.figure.proofs.Operations.{cell-of, busy-line, busy-doing, is-unequal}
-use Rattle.figure.proofs.Worlds.{Good, pending-at, out, moveOf, may, kept-all, why}
-use Rattle.figure.proofs.Begins.{begun-good, opening-good, good-grown, was-idle, idle-to, its-cell}
-use Rattle.figure.proofs.Marks.{Marks, Marked, marks-kept}
+use Rattle.figure.proofs.Views.{on, view}
+use Rattle.figure.proofs.Operations.{busy-line, busy-doing}
+use Rattle.figure.proofs.Worlds.{Good, out, moveOf, may, kept-all, why}
+use Rattle.figure.proofs.Begins.{begun-good, opening-good, good-grown}
+use Rattle.figure.proofs.Marks.{Marks}
 use Rattle.figure.proofs.Quietly.{QuietIn, stays, marks-after, step-quietly, begun-marks, begin-quietly}
 
 -- what holds of the figure, with v cells, from an opening on

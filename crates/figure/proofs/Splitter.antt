@@ -1,7 +1,6 @@
 -- The lines that change the splitter's words or make a block inactive: 16, 18, 22, 26 and 27.
-use mathlib.Core.Path.{_≡_, refl, sym, ap, subst, _∙_}
-use mathlib.Core.Logic.{_≢_, _⊎_, inl, inr}
-use mathlib.Core.Bool.{Bool, true, false, not}
+use mathlib.Core.Path.{_≡_, sym}
+use mathlib.Core.Logic.{_≢_}
 use Prim.Native.Nat.{ℕ}
 use native.Mathlib.Omega.{arith}
 use lib.Dec.{T}
@@ -11,12 +10,12 @@ use Rattle.cells.specs.declared.lines.Access.{Access}
 use Rattle.cells.specs.Lines.{for28, Line, l1, l16, l17, l18, l19, l27, nowhere, lineOf, at, counted}
 use Rattle.history.specs.Basics.{upd}
 use Rattle.history.proofs.Basics.{upd-same, upd-off, upd-cases}
-use Rattle.history.proofs.Simulation.{Phase, settled, frozen, late, Knowledge}
+use Rattle.history.proofs.Simulation.{Phase, late, Knowledge}
 use Rattle.figure.specs.Figure.{Cell, store}
-use Rattle.figure.proofs.Classes.{is, busy, holding, racing, won, stored, lies-in}
-use Rattle.figure.proofs.Invariant.{none, View, Self, Split, Value, Decided, Seen, Planned, Fresh, Owner, Task, TaskOf, Rival, Current, PhaseIs, CurrentOf, line, held, RivalOf, Inv}
-use Rattle.figure.proofs.Frame.{moved, Rest, Mine, finish, forget, was, undecided, active-undecided, active-current, not-taken}
-use Rattle.figure.proofs.Looking.{nothing, off, no-saw, no-early, no-other, same-wins, same-loses, idle-mine, not-late, value-of, active-settled}
+use Rattle.figure.proofs.Classes.{is, holding, racing, won, lies-in}
+use Rattle.figure.proofs.Invariant.{View, Split, PhaseIs, line, held, Inv}
+use Rattle.figure.proofs.Frame.{moved, Rest, finish, forget, was, not-taken}
+use Rattle.figure.proofs.Looking.{off, same-loses, idle-mine, not-late}
 
 -- the view with other memory and another phase
 abbrev pub inMemory : View → Cell → Phase → View

@@ -2,7 +2,7 @@
 use mathlib.Core.Path.{_≡_, refl, sym, ap, subst, _∙_}
 use mathlib.Core.Logic.{_≢_, _⊎_, inl, inr}
 use mathlib.Core.Bool.{Bool, true, false, not, cond}
-use Prim.Native.Nat.{ℕ, _<_}
+use Prim.Native.Nat.{ℕ}
 use native.Mathlib.Omega.{arith}
 use lib.Dec.{eqb, T, T-not, not-T}
 use borrow.Author.Tests.{eqb-true, eqb-false}
@@ -10,7 +10,7 @@ use Rattle.cells.specs.declared.Record.{Record}
 use Rattle.cells.specs.declared.Answer.{Answer}
 use Rattle.cells.specs.declared.Answer.the-variants.{Yes, No}
 use Rattle.cells.specs.declared.lines.Field.{Field}
-use Rattle.cells.specs.declared.lines.Field.the-variants.{X, Y, C, D}
+use Rattle.cells.specs.declared.lines.Field.the-variants.{C, D}
 use Rattle.cells.specs.declared.lines.Access.{Access}
 use Rattle.cells.specs.declared.lines.Next.{Next}
 use Rattle.cells.specs.declared.lines.Next.the-variants.{Go, Done}
@@ -20,10 +20,10 @@ use Rattle.history.specs.Basics.{upd}
 use Rattle.history.proofs.Basics.{either, upd-at, upd-off, upd-cases}
 use Rattle.history.proofs.Simulation.{Phase, settled, frozen, late, Knowledge}
 use Rattle.figure.specs.Figure.{Cell, store, install, Memory, memory, perform}
-use Rattle.figure.proofs.Classes.{is, busy, holding, swapping, won, stored, lies-in, are-apart}
+use Rattle.figure.proofs.Classes.{busy, swapping, stored, lies-in}
 use Rattle.figure.proofs.LineLaws.{wanted-is}
-use Rattle.figure.proofs.Invariant.{none, View, Task, TaskOf, PhaseIs, line, held, Inv}
-use Rattle.figure.proofs.Frame.{moved, Mine, quiet, was, grow, undecided, active-current, active-undecided}
+use Rattle.figure.proofs.Invariant.{none, View, PhaseIs, line, held, Inv}
+use Rattle.figure.proofs.Frame.{Mine, quiet, was, grow, undecided, active-current, active-undecided}
 use Rattle.figure.proofs.Looking.{idle-mine, not-late, T-of, settled≢late, active-settled, value-of, decided-not-late, from1, from2, from3-25, from3-28, from10, from11, from12, from15, from17-18, from17-27, from19-20, from19-27, from20, from21-1, from21-22, from21-23, from24-1, from24-26}
 use Rattle.figure.proofs.Splitter.{keeps16, keeps18, keeps-leaving, keeps27}
 use Rattle.figure.proofs.Storing as Storing

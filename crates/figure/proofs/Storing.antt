@@ -1,21 +1,21 @@
 -- Line 23: the winner stores its new value. In an active block the swap takes effect at once; in an inactive one it comes late.
-use mathlib.Core.Path.{_≡_, refl, sym, ap, subst, _∙_}
-use mathlib.Core.Logic.{_≢_, _⊎_, inl, inr}
-use mathlib.Core.Bool.{Bool, true, false, not}
+use mathlib.Core.Path.{_≡_, sym, ap, _∙_}
+use mathlib.Core.Logic.{_≢_}
+use mathlib.Core.Bool.{true, not}
 use Prim.Native.Nat.{ℕ}
 use lib.Dec.{T, T-not, not-T}
 use Rattle.cells.specs.declared.Record.{Record}
 use Rattle.cells.specs.declared.lines.Field.{Field}
 use Rattle.cells.specs.declared.lines.Access.{Access}
-use Rattle.cells.specs.Lines.{Line, l23, l24, lineOf, at, counted}
+use Rattle.cells.specs.Lines.{l23, l24, lineOf, at, counted}
 use Rattle.history.specs.Basics.{upd}
-use Rattle.history.proofs.Basics.{either, upd-at, upd-same, upd-off, upd-cases}
-use Rattle.history.proofs.Simulation.{Phase, settled, frozen, late, Knowledge}
-use Rattle.figure.specs.Figure.{Cell, store}
-use Rattle.figure.proofs.Classes.{is, busy, holding, racing, won, loaded, stored, contended, lies-in, are-apart}
-use Rattle.figure.proofs.Invariant.{none, View, Self, Split, Value, Decided, Seen, Planned, Fresh, Owner, Task, TaskOf, Rival, Current, PhaseIs, CurrentOf, line, held, RivalOf, Inv}
-use Rattle.figure.proofs.Frame.{moved, Rest, Mine, finish, forget, was, undecided, active-undecided, active-current, one-winner, not-taken}
-use Rattle.figure.proofs.Looking.{off, same-wins, same-loses, not-late, active-settled, active-value}
+use Rattle.history.proofs.Basics.{upd-at, upd-same, upd-off, upd-cases}
+use Rattle.history.proofs.Simulation.{Phase, settled, late, Knowledge}
+use Rattle.figure.specs.Figure.{store}
+use Rattle.figure.proofs.Classes.{is, holding, won, loaded, stored, contended, lies-in, are-apart}
+use Rattle.figure.proofs.Invariant.{none, View, Value, Fresh, Owner, PhaseIs, line, held, Inv}
+use Rattle.figure.proofs.Frame.{moved, Rest, Mine, finish, was, undecided, active-undecided, active-current, one-winner, not-taken}
+use Rattle.figure.proofs.Looking.{off, same-wins, same-loses, active-settled, active-value}
 
 module _ (s : View) (κ : Knowledge) (t : ℕ) (i : Inv s κ) (e : line s t ≡ l23) (a : Access) (n w : ℕ) where
   abbrev q : Record

@@ -4,17 +4,17 @@ use mathlib.Core.Logic.{_≢_, _⊎_, inl, inr}
 use mathlib.Core.Bool.{Bool, true, false, _||_, cond, false≢true}
 use Prim.Native.Nat.{ℕ}
 use lib.Dec.{eqb, T}
-use borrow.Author.Tests.{eq-eqb, ne-eqb, eqb-true, eqb-false}
+use borrow.Author.Tests.{eq-eqb, ne-eqb}
 use Rattle.cells.specs.declared.Record.{Record}
 use Rattle.cells.specs.Record.{idle}
 use Rattle.cells.specs.Lines.{Line, lineOf, nowhere}
 use Rattle.history.specs.Basics.{upd}
-use Rattle.history.proofs.Basics.{either, upd-at, upd-same, upd-off}
-use Rattle.history.proofs.Simulation.{Phase, late, Ghost, Knowledge}
-use Rattle.figure.specs.Figure.{Cell, World, withBoth, withRecord}
+use Rattle.history.proofs.Basics.{either, upd-at, upd-off}
+use Rattle.history.proofs.Simulation.{late, Ghost, Knowledge}
+use Rattle.figure.specs.Figure.{World}
 use Rattle.figure.proofs.LineLaws.{every-line, same, same-is}
 use Rattle.figure.proofs.Classes.{busy}
-use Rattle.figure.proofs.Invariant.{View, Task, TaskOf, line, held, Inv}
+use Rattle.figure.proofs.Invariant.{View, Task, line, Inv}
 use Rattle.figure.proofs.Looking.{idle-task}
 
 -- the tasks on cell k; the others are idle to it

@@ -1,17 +1,14 @@
 -- All cells together: every action of the figure keeps the invariant, makes a move of the sequential cells, and answers with a reason.
 use mathlib.Core.Path.{_≡_, refl, sym, ap, subst, _∙_}
 use mathlib.Core.Logic.{_≢_, _⊎_, inl, inr}
-use mathlib.Core.Bool.{Bool, true, false, not, cond}
-use mathlib.Core.Option.{Option, none, some}
+use mathlib.Core.Bool.{true, not}
+use mathlib.Core.Option.{some}
 use mathlib.Core.List.{List}
 use Prim.Native.Nat.{ℕ}
-use native.Mathlib.Omega.{arith}
-use lib.Dec.{eqb, T}
+use lib.Dec.{T}
 use Rattle.cells.specs.declared.Record.{Record}
 use Rattle.cells.specs.declared.Answer as Code
 use Rattle.cells.specs.declared.Answer.the-variants as CodeAnswer
-use Rattle.cells.specs.declared.lines.Next.{Next}
-use Rattle.cells.specs.declared.lines.Next.the-variants.{Go, Done}
 use Rattle.cells.specs.Record.{idle}
 use Rattle.cells.specs.Lines.{Line, lineOf, accessOf, nextOf, readAnswer}
 use Rattle.history.specs.Basics.{upd}
@@ -19,14 +16,14 @@ use Rattle.history.specs.History.{Op, cellOf, Yes}
 use Rattle.history.specs.Linearization.{reply, apply}
 use Rattle.history.proofs.Basics.{either, upd-at, upd-same, upd-off}
 use Rattle.history.proofs.Simulation as Sim
-use Rattle.history.proofs.Simulation.{Phase, settled, frozen, late, Ghost, Knowledge, Tally, Move, inPhase, shift, Grown, May, Why}
+use Rattle.history.proofs.Simulation.{Phase, settled, frozen, late, Ghost, Knowledge, Tally, Move, shift, Grown, May, Why}
 use Rattle.figure.specs.Figure.{Cell, World, withBoth, perform, answerOf}
 use Rattle.figure.proofs.Records.{Pending, AllOnPath, OnPath}
 use Rattle.figure.proofs.Tallies.{opOf, tally, tallyOf, doing}
 use Rattle.figure.proofs.Classes.{busy, swapping, stored, lies-in}
-use Rattle.figure.proofs.Invariant.{View, line, held, Inv}
+use Rattle.figure.proofs.Invariant.{View, line, Inv}
 use Rattle.figure.proofs.Frame as Frame
-use Rattle.figure.proofs.Steps.{Change, still, act, freeze, delay, settle, land, valueAfter, toldAfter, phaseAfter, after, Can, plus, Step, Reason, acts, acted, reads, declines, Out, each}
+use Rattle.figure.proofs.Steps.{Change, still, act, freeze, delay, settle, land, valueAfter, toldAfter, phaseAfter, after, Can, plus, Reason, acts, acted, reads, declines, Out, each}
 use Rattle.figure.proofs.Views.{on, on-in, on-it, on-changed, on-elsewhere, view, told-changed}
 use Rattle.figure.proofs.Operations.{cell-of, busy-line, busy-doing, reads-right, swap-yes, swap-no, apply-here, apply-there}
 
