@@ -127,17 +127,17 @@ module _ (s : View) (κ : Knowledge) (t : ℕ) (i : Inv s κ) (e : line s t ≡ 
   low = i .current .low
 
   abbrev Words : ℕ → Line → Record → (x y c v d vL : ℕ) → Type 0
-  Words u ℓ q x y c v d vL = Split u ℓ x y × Value ℓ (q .new) (q .held) (q .loaded) (suc (m .next)) v × Decided u ℓ q (s .told u) d c (m .current) (s .value) (s .phase) × Seen ℓ (q .held) (q .loaded) (κ .saw u) d c (m .current) × Planned ℓ (q .loaded) d (s .value) vL
+  Words u ℓ q x y c v d vL = Split u ℓ x y × Value ℓ (q .new) (q .held) (q .loaded) (m′ .next) v × Decided u ℓ q (s .told u) d c (m .current) (s .value) (s .phase) × Seen ℓ (q .held) (q .loaded) (κ .saw u) d c (m .current) × Planned ℓ (q .loaded) d (s .value) vL
 
   words : (u : ℕ) (ℓ : Line) (q : Record) → TaskOf s κ u ℓ q → Words u ℓ q (m′ .x (q .held)) (m′ .y (q .held)) (m′ .c (q .held)) (m′ .v (q .held)) (m′ .d (q .held)) (m′ .v (m .current))
   words u ℓ q k = go (either (q .held) (m .next))
     where
       go : (q .held ≡ m .next) ⊎ (q .held ≢ m .next) → Words u ℓ q (m′ .x (q .held)) (m′ .y (q .held)) (m′ .c (q .held)) (m′ .v (q .held)) (m′ .d (q .held)) (m′ .v (m .current))
-      go (inl z) = holds-nothing u ℓ q κ (q .new) (suc (m .next)) (s .told u) (m .current) (s .value) (s .phase) (λ b. let g : q .held < m .next = k .value .there b in omega arith) _ _ _ _ _ _
+      go (inl z) = holds-nothing u ℓ q κ (q .new) (m′ .next) (s .told u) (m .current) (s .value) (s .phase) (λ b. let g : q .held < m .next = k .value .there b in omega arith) _ _ _ _ _ _
       go (inr z) = rw (upd-off (m .x) (m .next) 255 (q .held) z, upd-off (m .y) (m .next) 0 (q .held) z, upd-off (m .c) (m .next) 0 (q .held) z, upd-off (m .v) (m .next) (p .new) (q .held) z, upd-off (m .d) (m .next) _ (q .held) z, oldV (m .current) low)
         (let v = k .value in (k .split, record { there = λ b. let g : q .held < m .next = v .there b in omega arith; some = v .some; still-loaded = v .still-loaded; still-stored = v .still-stored }, k .decided, k .seen, k .planned))
 
-  older : (b nv : ℕ) → Fresh b nv (m .next) (m .v b) (m .d b) (m .y b) (m .c b) (m .current) → Fresh b nv (suc (m .next)) (m′ .v b) (m′ .d b) (m′ .y b) (m′ .c b) (m .current)
+  older : (b nv : ℕ) → Fresh b nv (m .next) (m .v b) (m .d b) (m .y b) (m .c b) (m .current) → Fresh b nv (m′ .next) (m′ .v b) (m′ .d b) (m′ .y b) (m′ .c b) (m .current)
   older b nv f = let g : b < m .next = f .below in rw (oldV b g, oldD b g, oldY b g, oldC b g) record { below = omega arith; other = f .other; v-is = f .v-is; d-is = f .d-is; y-is = f .y-is; c-is = f .c-is }
 
   kept-owner : (u : ℕ) (ℓ : Line) (q : Record) → TaskOf s κ u ℓ q → s .phase ≡ late u → Owner ℓ q (s .told u) (m .current) (s .value) (m′ .v (m .current))
@@ -160,7 +160,7 @@ module _ (s : View) (κ : Knowledge) (t : ℕ) (i : Inv s κ) (e : line s t ≡ 
       let o : s .phase ≢ late t = not-late s κ t l29 p (λ x. x) (k .task) in
       let g = words t l29 p (k .task) in
       let d = g .2 in
-      let f : Fresh (m .next) (p .new) (suc (m .next)) (m′ .v (m .next)) (m′ .d (m .next)) (m′ .y (m .next)) (m′ .c (m .next)) (m .current)
+      let f : Fresh (m .next) (p .new) (m′ .next) (m′ .v (m .next)) (m′ .d (m .next)) (m′ .y (m .next)) (m′ .c (m .next)) (m .current)
             = record { below = omega arith; other = λ z. omega (arith, low); v-is = upd-same (m .v) (m .next) (p .new); d-is = upd-same (m .d) (m .next) _; y-is = upd-same (m .y) (m .next) 0; c-is = upd-same (m .c) (m .next) 0 } in
       record
         { task = record { self = search off; split = search off; value = let v = g .1 in search off; decided = search off; seen = let v = g .3 in search off; planned = search off; early = search off; fresh = λ b. f; owner = λ z. absurd (o z) }
