@@ -140,23 +140,18 @@ module _ (s : View) (κ : Knowledge) (i : Inv s κ) where
       seen-active : (ℓ : Line) → line s t ≡ ℓ → T (holding ℓ) → s .cell .c (q .held) ≡ 0 → κ .saw t (s .cell .v (q .held))
       seen-active ℓ e h c = rw (active-value t (rw e h) c) (now (active-settled t (rw e h) c))
 
+      -- at the first line the block held is the current one
+      same : L ≢ L → ⊥
+      same e = e refl
+
+      not-other : L ≢ L → (n : ℕ) × κ .saw t n × (n ≢ s .cell .d L)
+      not-other e = absurd (e refl)
+
       pub from10 : Mine s κ t l10 q → Mine s κ t l11 held-now
-      from10 m =
-          let c = i .current in
-          let same : L ≢ L → ⊥ = λ e. e refl in
-          let other : L ≢ L → (n : ℕ) × κ .saw t n × (n ≢ s .cell .d L) = λ e. absurd (e refl) in
-          let o : s .phase ≢ late t = not-late s κ t l10 q (λ x. x) (m .task) in
-          let d = seen-decision in
-          search off
+      from10 m = let c = i .current in let o : s .phase ≢ late t = not-late s κ t l10 q (λ x. x) (m .task) in search (off, same, not-other, seen-decision)
 
       pub from15 : Mine s κ t l15 q → Mine s κ t l16 held-now
-      from15 m =
-          let c = i .current in
-          let same : L ≢ L → ⊥ = λ e. e refl in
-          let other : L ≢ L → (n : ℕ) × κ .saw t n × (n ≢ s .cell .d L) = λ e. absurd (e refl) in
-          let o : s .phase ≢ late t = not-late s κ t l15 q (λ x. x) (m .task) in
-          let d = seen-decision in
-          search off
+      from15 m = let c = i .current in let o : s .phase ≢ late t = not-late s κ t l15 q (λ x. x) (m .task) in search (off, same, not-other, seen-decision)
 
       pub from11 : line s t ≡ l11 → Mine s κ t l11 q → Mine s κ t l12 loaded-now
       from11 e m =

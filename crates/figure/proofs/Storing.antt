@@ -13,7 +13,7 @@ use Rattle.history.proofs.Basics.{upd-at, upd-same, upd-off, upd-cases}
 use Rattle.history.proofs.Simulation.{Phase, settled, late, Knowledge}
 use Rattle.figure.specs.Figure.{store}
 use Rattle.figure.proofs.Classes.{is, holding, won, loaded, stored, contended, lies-in, are-apart}
-use Rattle.figure.proofs.Invariant.{none, View, Value, Fresh, Owner, PhaseIs, line, held, Inv}
+use Rattle.figure.proofs.Invariant.{none, View, Value, Fresh, Owner, Rival, PhaseIs, line, held, Inv}
 use Rattle.figure.proofs.Frame.{moved, Rest, Mine, finish, was, undecided, active-undecided, active-current, one-winner, not-taken}
 use Rattle.figure.proofs.Looking.{off, same-wins, same-loses, active-settled, active-value}
 
@@ -58,6 +58,12 @@ module _ (s : View) (κ : Knowledge) (t : ℕ) (i : Inv s κ) (e : line s t ≡ 
 
   some-now : V′ (q .held) ≢ none
   some-now z = here .task .self .nv-some tt (sym stored-now ∙ z)
+
+  still-wins : (w : ℕ) → w ≢ t → q .held ≡ held s w → Rival w l24 (line s w) (s .cell .x (held s w))
+  still-wins = same-wins s κ t l23 l24 q (λ x. tt) here
+
+  still-loses : (w : ℕ) → w ≢ t → held s w ≡ q .held → Rival t (line s w) l24 (s .cell .x (q .held))
+  still-loses = same-loses s κ t l23 l24 q (λ x. tt) (λ x. x) here
 
   -- nobody's late store is awaited on the winner's own block
   pub none-awaited : q .held ≡ L → (u : ℕ) → s .phase ≢ late u
@@ -108,15 +114,11 @@ module _ (s : View) (κ : Knowledge) (t : ℕ) (i : Inv s κ) (e : line s t ≡ 
     mine-live : Mine live κ t l24 next
     mine-live =
         let m = here in
-        let wins = same-wins s κ t l23 l24 q (λ x. tt) m in
-        let loses = same-loses s κ t l23 l24 q (λ x. tt) (λ x. x) m in
-        let v = stored-now in
-        let v′ = some-now in
         let told : T (upd (s .told) t true t) = rw upd-same tt in
         let only : T (not (upd (s .told) t true t)) → ⊥ = λ x. rw upd-same at x in
         let d = open-d in
         let o : s .phase ≢ late t = none-awaited is-L t in
-        search off
+        search (off, stored-now, some-now, still-wins, still-loses)
 
     pub kept-live : lineOf next ≡ l24 → Inv (moved live t next) κ
     kept-live e′ = finish live κ t l24 next e′ rest-live mine-live
@@ -150,15 +152,11 @@ module _ (s : View) (κ : Knowledge) (t : ℕ) (i : Inv s κ) (e : line s t ≡ 
     mine-delayed : Mine delayed κ t l24 next
     mine-delayed =
         let m = here in
-        let wins = same-wins s κ t l23 l24 q (λ x. tt) m in
-        let loses = same-loses s κ t l23 l24 q (λ x. tt) (λ x. x) m in
-        let v = stored-now in
-        let v′ = some-now in
         let nt : T (s .told t) → ⊥ = T-not (s .told t) untold in
         let d : s .cell .d (q .held) ≢ none → s .cell .d (q .held) ≡ q .expected = m .task .decided .before-store tt in
         let o : p ≡ late t → Owner l24 next (s .told t) L (s .value) (V′ L)
               = λ z. let x = owner-p z in record { has-stored = tt; here = x .0; not-told = untold; new-is = sym (upd-at (s .cell .v) (q .held) (q .new) L (sym (x .0))); expected-is = x .1 } in
-        search off
+        search (off, stored-now, some-now, still-wins, still-loses)
 
     pub kept-delayed : lineOf next ≡ l24 → Inv (moved delayed t next) κ
     kept-delayed e′ = finish delayed κ t l24 next e′ rest-delayed mine-delayed
