@@ -296,31 +296,31 @@ module _ (s : View) (κ : Knowledge) (t : ℕ) (i : Inv s κ) (eager : s .phase 
       by-test (Out s κ t m) (eqb (m .d (q .held)) (q .expected)) _ _
       (λ z. looks l29 _ refl (from3-28 s κ⁺ i⁺ t (accessAt (l3 for28) t q) 29 (q .wanted) (at-line (l3 for28) e) (eqb-true _ _ z)))
       (λ z. (leaves (unawaited (l3 for28) e (λ x. x)), declines-it (l3 for28) e tt tt (λ x. x) (m .d (q .held)) (k .seen .decision tt (k .decided .decided tt)) (eqb-false _ _ z)))
-  each l10 e b = looks l11 _ refl (from10 s κ⁺ i⁺ t (accessAt l10 t q) 11 (q .wanted) now (at-line l10 e))
-  each l11 e b = looks l12 _ refl (from11 s κ⁺ i⁺ t (accessAt l11 t q) 12 (q .wanted) now e (at-line l11 e))
+  each l10 e b = looks l11 _ refl (from10 s κ⁺ i⁺ t (accessAt l10 t q) 11 (q .wanted) (unawaited l10 e (λ x. x)) now (at-line l10 e))
+  each l11 e b = looks l12 _ refl (from11 s κ⁺ i⁺ t (accessAt l11 t q) 12 (q .wanted) (unawaited l11 e (λ x. x)) now e (at-line l11 e))
   each l12 e b =
       let k = known l12 e .task in
       by-test (Out s κ t m) (eqb (m .c (q .held)) 0) _ _
       (λ z. reads-it l12 e tt tt (λ x. x) (q .loaded) (k .seen .active-value tt (eqb-true _ _ z)) (k .self .loaded-some tt))
-      (λ z. looks (l1 for13) _ refl (from12 s κ⁺ i⁺ t (accessAt l12 t q) 1 13 (at-line l12 e) (eqb-false _ _ z)))
-  each l15 e b = looks l16 _ refl (from15 s κ⁺ i⁺ t (accessAt l15 t q) 16 (q .wanted) now (at-line l15 e))
+      (λ z. looks (l1 for13) _ refl (from12 s κ⁺ i⁺ t (accessAt l12 t q) 1 13 (unawaited l12 e (λ x. x)) (at-line l12 e) (eqb-false _ _ z)))
+  each l15 e b = looks l16 _ refl (from15 s κ⁺ i⁺ t (accessAt l15 t q) 16 (q .wanted) (unawaited l15 e (λ x. x)) now (at-line l15 e))
   each l16 e b = record { change = still; can = tt; kept = keeps16 s κ⁺ t i⁺ (accessAt l16 t q) 17 (q .wanted) e refl }
   each l17 e b =
       by-test (Out s κ t m) (eqb (m .y (q .held)) 0) _ _
-      (λ z. looks l18 _ refl (from17-18 s κ⁺ i⁺ t (accessAt l17 t q) 18 (q .wanted) (at-line l17 e) (eqb-true _ _ z)))
-      (λ z. looks l27 _ refl (from17-27 s κ⁺ i⁺ t (accessAt l17 t q) 27 (q .wanted) (at-line l17 e)))
+      (λ z. looks l18 _ refl (from17-18 s κ⁺ i⁺ t (accessAt l17 t q) 18 (q .wanted) (unawaited l17 e (λ x. x)) (at-line l17 e) (eqb-true _ _ z)))
+      (λ z. looks l27 _ refl (from17-27 s κ⁺ i⁺ t (accessAt l17 t q) 27 (q .wanted) (unawaited l17 e (λ x. x)) (at-line l17 e)))
   each l18 e b = record { change = still; can = tt; kept = keeps18 s κ⁺ t i⁺ (accessAt l18 t q) 19 (q .wanted) e refl }
   each l19 e b =
       by-test (Out s κ t m) (eqb (m .x (q .held)) t) _ _
-      (λ z. looks l20 _ refl (from19-20 s κ⁺ i⁺ t (accessAt l19 t q) 20 (q .wanted) (at-line l19 e) (eqb-true _ _ z)))
-      (λ z. looks l27 _ refl (from19-27 s κ⁺ i⁺ t (accessAt l19 t q) 27 (q .wanted) (at-line l19 e)))
-  each l20 e b = looks l21 _ refl (from20 s κ⁺ i⁺ t (accessAt l20 t q) 21 (q .wanted) now e (at-line l20 e))
+      (λ z. looks l20 _ refl (from19-20 s κ⁺ i⁺ t (accessAt l19 t q) 20 (q .wanted) (unawaited l19 e (λ x. x)) (at-line l19 e) (eqb-true _ _ z)))
+      (λ z. looks l27 _ refl (from19-27 s κ⁺ i⁺ t (accessAt l19 t q) 27 (q .wanted) (unawaited l19 e (λ x. x)) (at-line l19 e)))
+  each l20 e b = looks l21 _ refl (from20 s κ⁺ i⁺ t (accessAt l20 t q) 21 (q .wanted) (unawaited l20 e (λ x. x)) now e (at-line l20 e))
   each l21 e b =
       by-test (Out s κ t m) (eqb (m .c (q .held)) 0) _ _
       (λ c. by-test (Out s κ t m) (eqb (q .loaded) (q .expected)) _ _
-        (λ z. looks l23 _ refl (from21-23 s κ⁺ i⁺ t (accessAt l21 t q) 23 (q .wanted) (at-line l21 e) (eqb-true _ _ c) (eqb-true _ _ z) (eager (active-settled s κ i t (rw e tt) (eqb-true _ _ c)))))
-        (λ z. looks l22 _ refl (from21-22 s κ⁺ i⁺ t (accessAt l21 t q) 22 (q .wanted) (at-line l21 e) (eqb-true _ _ c) (eqb-false _ _ z))))
-      (λ c. looks (l1 for28) _ refl (from21-1 s κ⁺ i⁺ t (accessAt l21 t q) 1 28 (at-line l21 e) (eqb-false _ _ c)))
+        (λ z. looks l23 _ refl (from21-23 s κ⁺ i⁺ t (accessAt l21 t q) 23 (q .wanted) (unawaited l21 e (λ x. x)) (at-line l21 e) (eqb-true _ _ c) (eqb-true _ _ z) (eager (active-settled s κ i t (rw e tt) (eqb-true _ _ c)))))
+        (λ z. looks l22 _ refl (from21-22 s κ⁺ i⁺ t (accessAt l21 t q) 22 (q .wanted) (unawaited l21 e (λ x. x)) (at-line l21 e) (eqb-true _ _ c) (eqb-false _ _ z))))
+      (λ c. looks (l1 for28) _ refl (from21-1 s κ⁺ i⁺ t (accessAt l21 t q) 1 28 (unawaited l21 e (λ x. x)) (at-line l21 e) (eqb-false _ _ c)))
   each l22 e b =
       let k = known l22 e .task in
       (record { change = still; can = tt; kept = keeps-leaving s κ⁺ t i⁺ (accessAt l22 t q) 0 0 l22 e tt (unawaited l22 e (λ x. x)) idle refl },
