@@ -2,7 +2,8 @@
 // what the entries do is defined in specs/.
 mod lines;
 
-// What a task's pending call is about to do, and with what. Idle: line 0, and every other field 0.
+// What a task's pending call is about to do, and with what. Idle: line 0; an opening and a finished call leave every
+// other field 0 too.
 pub struct Record {
     // The figure's line that its next step runs.
     pub line: u32,

@@ -10,8 +10,8 @@ use Rattle.cells.specs.declared.lines.Next.the-variants.{Go, Done}
 use Rattle.cells.specs.Record.{noValue, idle}
 use Rattle.cells.specs.Lines.{Line, accessOf, nextOf}
 use Rattle.history.specs.History.{Op, Action, begin, step}
-use Rattle.history.specs.Demand3.{Meets}
-use Rattle.history.proofs.Simulation.{Ghost, Knowledge, Forward, Quietly, QuietSteps, activeAfter}
+use Rattle.history.specs.Demand3.{Meets, activeAfter}
+use Rattle.history.proofs.Simulation.{Ghost, Knowledge, Forward, Quietly, QuietSteps}
 use Rattle.history.proofs.Simulation as Sim
 use Rattle.history.proofs.Meets.{meets}
 use Rattle.figure.specs.Figure.{Cell, World, withBoth, After, recordAfter, outcomeOf, ran, opening, perform, beginEvent, stepEvent, tried, figure, active, answerOf}

@@ -25,7 +25,7 @@ use Rattle.cells.specs.Questions.{Question, refusal, beginQuestions, swapQuesti
 use Rattle.cells.specs.Begin.{firstRead, firstSwap}
 use Rattle.cells.specs.Look.{shownValue, shown}
 use Rattle.history.specs.Basics.{upd}
-use Rattle.history.specs.History.{Op, read, swap, Action, begin, step, Answer, Value, Yes, No, Event, refused, begun, going, answered, run}
+use Rattle.history.specs.History.{Op, read, swap, Action, begin, step, Answer, Value, Yes, No, Event, refused, begun, going, answered}
 
 -- MEMORY
 
@@ -63,7 +63,7 @@ allocate m n = record {
   x = upd (m .x) (m .next) (fresh n X); y = upd (m .y) (m .next) (fresh n Y); c = upd (m .c) (m .next) (fresh n C);
   v = upd (m .v) (m .next) (fresh n Field.V); d = upd (m .d) (m .next) (fresh n D) }
 
--- what an access makes of the task's cell, and the value that it answers
+-- what an access makes of the task's own cell (so the cell's number is not looked at), and the value that it answers
 pub record Memory : Type 0 where
   pub cell : Cell
   pub value : ℕ
@@ -142,12 +142,12 @@ answerOf (CodeAnswer.Value v) = Value v
 answerOf CodeAnswer.Yes = Yes
 answerOf CodeAnswer.No = No
 
--- of an outcome, where the line's access attempts x hardware CAS
 abbrev pub beginEvent : Outcome → Event
 beginEvent (Refused r) = refused r
 beginEvent Acted = begun
 beginEvent (Ended f) = answered 0 (answerOf (f .answer)) (f .steps) (f .hard)
 
+-- the access of the step's line attempts x hardware CAS
 abbrev pub stepEvent : ℕ → Outcome → Event
 stepEvent x (Refused r) = refused r
 stepEvent x Acted = going x
