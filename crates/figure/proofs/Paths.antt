@@ -15,26 +15,15 @@ use Rattle.cells.specs.Begin.{firstSwap}
 use Rattle.history.specs.Basics.{_∈_}
 use Rattle.history.specs.History.{Action, run}
 use Rattle.figure.specs.Figure.{opening, figure}
-use Rattle.figure.specs.Paths.{paths, by25, counts, countsOf, table, Traced, Trace, trace, traces, startTrace}
+use Rattle.figure.specs.Paths.{paths, by25, counts, countsOf, table, noTrace}
 use Rattle.figure.specs.Paths as Paths
 use Rattle.figure.proofs.LineLaws.{every-line, has, same}
-use Rattle.figure.proofs.Records.{Pending, Complete, steps-on, Sound, trace-sound, trace-world}
+use Rattle.figure.proofs.Records.{Pending, steps-on, Sound, figureTraces, traces-sound}
 
 -- FINISHED CALLS
 
-pub traces-run : (r : Trace) (l : List Action) → traces r l .world ≡ run figure (r .world) l
-traces-run r [] = refl
-traces-run r (a ∷ l) = traces-run (trace r a) l ∙ ap (λ w. run figure w l) (trace-world r a)
-
-pub traces-sound : (r : Trace) → Sound r → (l : List Action) → Sound (traces r l)
-traces-sound r s [] = s
-traces-sound r s (a ∷ l) = traces-sound (trace r a) (trace-sound r s a) l
-
-pub opening-sound : (n v : ℕ) (vs : List ℕ) → Sound (startTrace (opening n v vs))
-opening-sound n v vs = record { pending = λ t. inl (refl, refl); complete = λ x i. absurd i }
-
-pub calls-on-paths : (n v : ℕ) (vs : List ℕ) (l : List Action) (x : Traced) → x ∈ traces (startTrace (opening n v vs)) l .done → Complete (x .lines) (x .result)
-calls-on-paths n v vs l = traces-sound (startTrace (opening n v vs)) (opening-sound n v vs) l .complete
+pub calls-on-paths : (n v : ℕ) (vs : List ℕ) (l : List Action) → Sound (run figure (opening n v vs) l) (figureTraces (opening n v vs) noTrace l)
+calls-on-paths n v vs = traces-sound (opening n v vs) noTrace (record { pending = λ t. inl (refl, refl); begun = λ t k e. inl refl; complete = λ x i. absurd i })
 
 -- THE TABLE
 
