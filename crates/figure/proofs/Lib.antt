@@ -19,3 +19,4 @@ pub mod Marks
 pub mod Quiet
 pub mod Quietly
 pub mod Simulation
+pub mod Reachable
