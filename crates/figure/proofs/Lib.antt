@@ -20,3 +20,4 @@ pub mod Quiet
 pub mod Quietly
 pub mod Simulation
 pub mod Reachable
+pub mod Ninth

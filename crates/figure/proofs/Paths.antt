@@ -15,15 +15,18 @@ use Rattle.cells.specs.Begin.{firstSwap}
 use Rattle.history.specs.Basics.{_∈_}
 use Rattle.history.specs.History.{Action, run}
 use Rattle.figure.specs.Figure.{opening, figure}
-use Rattle.figure.specs.Paths.{paths, by25, counts, countsOf, table, noTrace}
+use Rattle.figure.specs.Paths.{paths, by25, counts, countsOf, table, Traced, noTrace}
 use Rattle.figure.specs.Paths as Paths
 use Rattle.figure.proofs.LineLaws.{every-line, has, same}
-use Rattle.figure.proofs.Records.{Pending, steps-on, Sound, figureTraces, traces-sound}
+use Rattle.figure.proofs.Records.{CompleteCall, Sound, figureTraces, traces-sound}
 
 -- FINISHED CALLS
 
-pub calls-on-paths : (n v : ℕ) (vs : List ℕ) (l : List Action) → Sound (run figure (opening n v vs) l) (figureTraces (opening n v vs) noTrace l)
-calls-on-paths n v vs = traces-sound (opening n v vs) noTrace (record { pending = λ t. inl (refl, refl); begun = λ t k e. inl refl; complete = λ x i. absurd i })
+pub start-sound : (n v : ℕ) (vs : List ℕ) → Sound (opening n v vs) noTrace
+start-sound n v vs = record { pending = λ t. inl (refl, refl); begun = λ t k e. inl refl; complete = λ x i. absurd i }
+
+pub calls-on-paths : (n v : ℕ) (vs : List ℕ) (l : List Action) (x : Traced) → x ∈ figureTraces (opening n v vs) noTrace l .done → CompleteCall x
+calls-on-paths n v vs l = traces-sound (opening n v vs) noTrace (start-sound n v vs) l .complete
 
 -- THE TABLE
 
@@ -63,5 +66,5 @@ ending-is : (k : Line) (d : List Line) (l : Line) → ending k (d ++ (l ∷ []))
 ending-is k [] l = refl
 ending-is k (a ∷ d) l = ending-is a d l
 
-pub ninth-only-from : (v : ℕ) (did : List Line) (q : Record) → Pending v did q → did ++ (lineOf q ∷ []) ≡ by25 → (lineOf q ≡ l3 for28) × (q .steps ≡ 14)
-ninth-only-from v did q o e = (sym (ending-is nowhere did (lineOf q)) ∙ ap (ending nowhere) e, omega (arith, steps-on did (lineOf q), ap Paths.steps e, o .steps))
+pub last-line : (did : List Line) (l : Line) → did ++ (l ∷ []) ≡ by25 → l ≡ l3 for28
+last-line did l e = sym (ending-is nowhere did l) ∙ ap (ending nowhere) e
