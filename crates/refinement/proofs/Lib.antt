@@ -9,3 +9,5 @@ pub mod Opening
 pub mod Refines
 pub mod LoneRead
 pub mod Demand3
+pub mod Traces
+pub mod Counts
