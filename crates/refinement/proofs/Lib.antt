@@ -11,3 +11,4 @@ pub mod LoneRead
 pub mod Demand3
 pub mod Traces
 pub mod Counts
+pub mod NoNone
