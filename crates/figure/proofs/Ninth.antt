@@ -19,7 +19,7 @@ use Rattle.cells.specs.declared.lines.Next.{Next}
 use Rattle.cells.specs.declared.lines.Next.the-variants.{Go, Done}
 use Rattle.cells.specs.Record.{noValue, idle}
 use Rattle.cells.specs.Pool.{offset}
-use Rattle.cells.specs.Lines.{Line, for25, for28, l1, l2, l3, l29, l30, nowhere, lineOf, accessAt, accessOf, counted, nextAt, nextOf}
+use Rattle.cells.specs.Lines.{Line, for25, for28, l1, l2, l3, l29, l30, lineOf, accessAt, accessOf, counted, nextAt, nextOf}
 use Rattle.history.specs.Basics.{upd, _∈_}
 use Rattle.history.specs.History.{Op, Action, begin, step, run}
 use Rattle.history.proofs.Basics.{either, upd-at, upd-same, upd-off, upd-cases}
@@ -154,11 +154,11 @@ module _ (v : ℕ) (w : World) (i : Reachable v w) (r : Trace) (s : Sound w r) (
     stays u h =
         let p = w .records u in
         let ℓ = its-line u h in
+        let low = task u .value .there (every-in holding later tt (now u) ℓ) in
+        let decided : w .cell (p .cell) .d (p .held) ≢ none = λ z. task u .self .ev-some (every-in swapping later tt (now u) ℓ) (sym (o .late u h) ∙ z) in
+        let kept = decision-stays (w .cell (p .cell)) (accessOf t q) (p .held) (every-line (λ k. spares (accessAt k t q)) tt (lineOf q)) low decided in
         upd-cases (λ (c : Cell). c .d (p .held) ≡ p .expected) (w .cell) (q .cell) (perform m (accessOf t q) .cell) (p .cell)
-          (λ e. subst (λ k. perform (w .cell k) (accessOf t q) .cell .d (p .held) ≡ p .expected) e
-            (decision-stays (w .cell (p .cell)) (accessOf t q) (p .held) (every-line (λ k. spares (accessAt k t q)) tt (lineOf q)) (task u .value .there (every-in holding later tt (now u) ℓ))
-              (λ z. task u .self .ev-some (every-in swapping later tt (now u) ℓ) (sym (o .late u h) ∙ z)) ∙ o .late u h))
-          (λ e. o .late u h)
+        (λ e. subst (λ k. perform (w .cell k) (accessOf t q) .cell .d (p .held) ≡ p .expected) e (kept ∙ o .late u h)) (λ e. o .late u h)
 
     -- line 25 found another value than the new one: the swap is not told, so the decision is the expected value
     came-late : now t ≡ l3 for25 → m .d (q .held) ≢ q .new → m .d (q .held) ≡ q .expected
@@ -175,11 +175,12 @@ module _ (v : ℕ) (w : World) (i : Reachable v w) (r : Trace) (s : Sound w r) (
         kept : (n : Next) → Keeps (counted q (accessOf t q)) n → Expected cells q → Goes cells n
         kept (Go p) (a, b, c) z = rw (c, a, b) z
         kept (Done f) k z = tt
+
         go : (through25 (r .did t) ≡ true) ⊎ (now t ≡ l3 for25) → Goes cells next
         go (inl k) = kept next (keeps t _ (counted q (accessOf t q)) (now t) (its-line t k)) (stays t k)
         go (inr e) = subst (λ ℓ. let x = perform m (accessAt ℓ t q) in Goes (upd (w .cell) (q .cell) (x .cell)) (nextAt ℓ t (counted q (accessAt ℓ t q)) (x .value))) (sym e)
             (by-test (Goes (upd (w .cell) (q .cell) m)) (eqb (m .d (q .held)) (q .new)) _ _ (λ z. tt)
-              (λ z. ap (λ (c : Cell). c .d (q .held)) (upd-same (w .cell) (q .cell) m) ∙ came-late e (eqb-false _ _ z)))
+            (λ z. ap (λ (c : Cell). c .d (q .held)) (upd-same (w .cell) (q .cell) m) ∙ came-late e (eqb-false _ _ z)))
 
     -- line 28 finds the expected value, so the call does not end there
     ends : (f : Finished) → next ≡ Done f → didLine now r t ≢ by25
@@ -187,6 +188,7 @@ module _ (v : ℕ) (w : World) (i : Reachable v w) (r : Trace) (s : Sound w r) (
       where
         at-28 : now t ≡ l3 for28
         at-28 = last-line (r .did t) (now t) z
+
         go : (through25 (r .did t) ≡ true) ⊎ (now t ≡ l3 for25) → ⊥
         go (inl k) =
             let y = subst (λ ℓ. nextAt ℓ t (counted q (accessAt ℓ t q)) (perform m (accessAt ℓ t q) .value) ≡ Done f) at-28 e in

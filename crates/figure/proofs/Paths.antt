@@ -4,7 +4,6 @@ use mathlib.Core.Logic.{inl, inr}
 use mathlib.Core.Bool.{cond}
 use mathlib.Core.List.{List, [], _∷_, _++_}
 use Prim.Native.Nat.{ℕ}
-use native.Mathlib.Omega.{arith}
 use lib.Dec.{eqb, eqb→eq}
 use Rattle.cells.specs.declared.Record.{Record}
 use Rattle.cells.specs.declared.Answer.the-variants.{No}
@@ -13,10 +12,9 @@ use Rattle.cells.specs.declared.lines.Next.the-variants.{Go, Done}
 use Rattle.cells.specs.Lines.{Line, for13, for25, for28, l2, l3, l30, nowhere, lineOf, accessAt, nextOf, hardware}
 use Rattle.cells.specs.Begin.{firstSwap}
 use Rattle.history.specs.Basics.{_∈_}
-use Rattle.history.specs.History.{Action, run}
-use Rattle.figure.specs.Figure.{opening, figure}
+use Rattle.history.specs.History.{Action}
+use Rattle.figure.specs.Figure.{opening}
 use Rattle.figure.specs.Paths.{paths, by25, counts, countsOf, table, Traced, noTrace}
-use Rattle.figure.specs.Paths as Paths
 use Rattle.figure.proofs.LineLaws.{every-line, has, same}
 use Rattle.figure.proofs.Records.{CompleteCall, Sound, figureTraces, traces-sound}
 

@@ -1,5 +1,5 @@
 -- Every world that the figure reaches from an opening has the invariant, if nobody asks what the tasks have seen.
-use mathlib.Core.Path.{_≡_, refl, subst, sym}
+use mathlib.Core.Path.{refl, sym, subst}
 use mathlib.Core.Logic.{_≢_}
 use mathlib.Core.List.{List, [], _∷_}
 use Prim.Native.Nat.{ℕ}

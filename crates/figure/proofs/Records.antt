@@ -9,7 +9,6 @@ use native.Mathlib.Omega.{arith}
 use lib.Dec.{eqb, leb, ltb, T, leb→le, ltb→lt}
 use borrow.Author.Tests.{ltb-true, lt-ltb, ne-eqb}
 use Rattle.cells.specs.declared.Record.{Record}
-use Rattle.cells.specs.declared.Finished.{Finished}
 use Rattle.cells.specs.declared.Outcome.the-variants.{Refused, Acted}
 use Rattle.cells.specs.declared.lines.Next.{Next}
 use Rattle.cells.specs.declared.lines.Next.the-variants.{Go, Done}

@@ -1,5 +1,5 @@
 -- Each count is the lines done: what a call on the pool reports is counted from its lines, which are those of a path that the figure reaches.
-use mathlib.Core.Path.{_≡_, sym, subst}
+use mathlib.Core.Path.{_≡_, subst}
 use mathlib.Core.Option.{none}
 use mathlib.Core.List.{List}
 use Prim.Native.Nat.{ℕ}

@@ -1,7 +1,6 @@
 -- None never enters or leaves a cell: the figure's invariant has no current block with V none, and an answered value was seen not to be none.
-use mathlib.Core.Path.{_≡_, refl, sym, ap, subst, _∙_}
-use mathlib.Core.Logic.{_≢_, inl, inr}
-use mathlib.Core.Bool.{cond}
+use mathlib.Core.Path.{_≡_, refl, sym, subst, _∙_}
+use mathlib.Core.Logic.{_≢_}
 use mathlib.Core.Option.{Option, none, some}
 use mathlib.Core.List.{List, [], _∷_}
 use Prim.Native.Nat.{ℕ, _<_}
@@ -10,16 +9,13 @@ use lib.Dec.{eqb}
 use lib.ListN.{length}
 use borrow.Author.Tests.{eqb-false}
 use Rattle.cells.specs.declared.State.{State}
-use Rattle.cells.specs.declared.Record.{Record}
 use Rattle.cells.specs.declared.Answer as Code
-use Rattle.cells.specs.declared.Answer.the-variants as CodeAnswer
-use Rattle.cells.specs.declared.Looked.{Looked}
-use Rattle.cells.specs.declared.Looked.the-variants.{NotShown, Shown}
+use Rattle.cells.specs.declared.Looked.the-variants.{Shown}
 use Rattle.cells.specs.declared.lines.Field.{Field}
 use Rattle.cells.specs.declared.lines.Next.{Next}
 use Rattle.cells.specs.declared.lines.Next.the-variants.{Go, Done}
 use Rattle.cells.specs.Record.{noValue}
-use Rattle.cells.specs.Lines.{Line, readAnswer, accessOf, nextOf}
+use Rattle.cells.specs.Lines.{Line, accessOf, nextOf}
 use Rattle.cells.specs.Pool.{word}
 use Rattle.cells.specs.Questions.{refusal, openQuestions, lookQuestions}
 use Rattle.cells.specs.Step.{current}
@@ -29,7 +25,7 @@ use Rattle.history.specs.History.{Op, Action, begin, step, Answer, Value, Yes, 
 use Rattle.history.proofs.Simulation.{Knowledge}
 use Rattle.figure.specs.Figure.{Cell, World, After, perform, answerOf, outcomeOf, ran, beginEvent, stepEvent, tried, figure, opening}
 use Rattle.figure.specs.Figure
-use Rattle.figure.proofs.Records.{Pending, Begun, starts, begin-cases, Stepped, runs, step-cases, with-first}
+use Rattle.figure.proofs.Records.{Begun, starts, begin-cases, Stepped, runs, step-cases, with-first}
 use Rattle.figure.proofs.Invariant as Invariant
 use Rattle.figure.proofs.Invariant.{View}
 use Rattle.figure.proofs.Steps.{Change, Reason, acts, acted, reads, declines, Out, by-test}

@@ -26,11 +26,10 @@ module _ (f g : ℕ → Line) (r : Trace) where
   Alike (step t) = f t ≡ g t
 
   enters : (a : Action) (e : Event) → Alike a → enterLine f r a e ≡ enterLine g r a e
-  enters (begin t op) (refused n) h = refl
+  enters a (refused n) h = refl
   enters (begin t op) begun h = refl
   enters (begin t op) (going x) h = refl
   enters (begin t op) (answered x a n k) h = refl
-  enters (step t) (refused n) h = refl
   enters (step t) begun h = refl
   enters (step t) (going x) h = rw h
   enters (step t) (answered x a n k) h = rw h
