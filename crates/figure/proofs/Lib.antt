@@ -21,3 +21,4 @@ pub mod Quietly
 pub mod Simulation
 pub mod Reachable
 pub mod Ninth
+pub mod TracedCalls

@@ -22,11 +22,11 @@ use Rattle.cells.specs.Pool.{offset}
 use Rattle.cells.specs.Lines.{Line, for25, for28, l1, l2, l3, l29, l30, lineOf, accessAt, accessOf, counted, nextAt, nextOf}
 use Rattle.history.specs.Basics.{upd, _∈_}
 use Rattle.history.specs.History.{Op, Action, begin, step, run}
-use Rattle.history.proofs.Basics.{either, upd-at, upd-same, upd-off, upd-cases}
+use Rattle.history.proofs.Basics.{upd-same, upd-off, upd-cases}
 use Rattle.figure.specs.Figure.{Cell, World, withBoth, After, store, install, memory, Memory, perform, recordAfter, outcomeOf, ran, beginEvent, stepEvent, tried, opening, figure}
 use Rattle.figure.specs.Paths.{paths, reached, by25, Traced, Trace, noTrace, didLine, enterLine}
 use Rattle.figure.proofs.LineLaws.{every, every-in, every-line, has, same, same-is, imp, before}
-use Rattle.figure.proofs.Records.{OnPath, Sound, with-first, firstOf, Begun, starts, begin-cases, Stepped, runs, step-cases, act-sound, figureTraces}
+use Rattle.figure.proofs.Records.{OnPath, Sound, with-first, upd-both, firstOf, Begun, starts, begin-cases, Stepped, runs, step-cases, act-sound, figureTraces}
 use Rattle.figure.proofs.Paths.{start-sound, last-line}
 use Rattle.figure.proofs.Classes.{holding, swapping}
 use Rattle.figure.proofs.Invariant.{none, TaskOf}
@@ -139,7 +139,7 @@ module _ (v : ℕ) (w : World) (i : Reachable v w) (r : Trace) (s : Sound w r) (
     abbrev q : Record
     q = w .records t
 
-    -- task t's cell before, and the cells after its step; what memory answers, and what follows
+    -- the cell of t, all cells after its step, and what follows for t
     abbrev m : Cell
     m = w .cell (q .cell)
 
@@ -196,13 +196,10 @@ module _ (v : ℕ) (w : World) (i : Reachable v w) (r : Trace) (s : Sound w r) (
             let b : _≡_ {A = ℕ} 0 1 = cc in omega arith
         go (inr k) = false≢true (sym (ap (same (l3 for25)) (sym k ∙ at-28)))
 
+    -- other cells, with another record for t and other lines
     put : (c : ℕ → Cell) (p : Record) (did : List Line) → (through25 did ≡ true → Expected c p) → ((u : ℕ) → through25 (r .did u) ≡ true → Expected c (w .records u))
         → (u : ℕ) → through25 (upd (r .did) t did u) ≡ true → Expected c (upd (w .records) t p u)
-    put c p did own others u h = go (either u t)
-      where
-        go : (u ≡ t) ⊎ (u ≢ t) → Expected c (upd (w .records) t p u)
-        go (inl e) = rw (upd-at (w .records) t p u e) (own (rw (upd-at (r .did) t did u e) at h))
-        go (inr e) = rw (upd-off (w .records) t p u e) (others u (rw (upd-off (r .did) t did u e) at h))
+    put c p did = upd-both (λ u did p. through25 did ≡ true → Expected c p) (r .did) (w .records) t did p
 
     line-kept : (n : Next) → next ≡ n → (through25 (didLine now r t) ≡ true → Goes cells n)
         → NotNinth (withBoth w (q .cell) (perform m (accessOf t q) .cell) t (recordAfter n)) (enterLine now r (step t) (stepEvent (tried t q) (outcomeOf n)))

@@ -213,6 +213,14 @@ pub with-first : {A : Type 0} (P : A → Type 0) (a : A) (l : List A) → P a �
 with-first P a l h f x (inl e) = rw e h
 with-first P a l h f x (inr i) = f x i
 
+-- two functions changed at one number
+pub upd-both : {A B : Type 0} (P : ℕ → A → B → Type 0) (f : ℕ → A) (g : ℕ → B) (t : ℕ) (a : A) (b : B) → P t a b → ((u : ℕ) → P u (f u) (g u)) → (u : ℕ) → P u (upd f t a u) (upd g t b u)
+upd-both P f g t a b here there u = go (either u t)
+  where
+    go : (u ≡ t) ⊎ (u ≢ t) → P u (upd f t a u) (upd g t b u)
+    go (inl e) = rw (upd-at f t a u e, upd-at g t b u e, e) here
+    go (inr e) = rw (upd-off f t a u e, upd-off g t b u e) (there u)
+
 first-on-path : (w : World) (t : ℕ) (op : Op) → Accepted w t op → Pending (w .cells) [] (firstOf op)
 first-on-path w t (read k) a = record { cell = a .cell; line = refl; values = refl; steps = refl; hard = refl; lines = inl refl }
 first-on-path w t (swap k e n) a = record { cell = a .cell; line = fits (eqb e n) .0; values = a .values; steps = refl; hard = refl; lines = fits (eqb e n) .1 }
@@ -227,29 +235,22 @@ module _ (w : World) (r : Trace) (s : Sound w r) where
 
   -- another record for task t, and other lines
   put : (t : ℕ) (q : Record) (did : List Line) → OnPath (w .tasks) (w .cells) t did q → (u : ℕ) → OnPath (w .tasks) (w .cells) u (upd (r .did) t did u) (upd (w .records) t q u)
-  put t q did o u = go (either u t)
-    where
-      go : (u ≡ t) ⊎ (u ≢ t) → OnPath (w .tasks) (w .cells) u (upd (r .did) t did u) (upd (w .records) t q u)
-      go (inl e) = rw (upd-at (w .records) t q u e, upd-at (r .did) t did u e, e) o
-      go (inr e) = rw (upd-off (w .records) t q u e, upd-off (r .did) t did u e) (s .pending u)
+  put t q did o = upd-both (OnPath (w .tasks) (w .cells)) (r .did) (w .records) t did q o (s .pending)
 
   put-begun : (t : ℕ) (q : Record) → Begins (r .op t) q → (u : ℕ) → Begins (r .op u) (upd (w .records) t q u)
   put-begun t q b u = upd-cases (Begins (r .op u)) (w .records) t q u (λ e. rw e b) (λ e. s .begun u)
 
   begin-sound : (t : ℕ) (op : Op) {f : After} → Begun w t op f → Sound (f .world) (enterLine now r (begin t op) (beginEvent (f .outcome)))
   begin-sound t op (refuses n) = s
-  begin-sound t op (starts a) = record { pending = put t (firstOf op) [] (inr (a .task, first-on-path w t op a)); begun = go; complete = s .complete }
+  begin-sound t op (starts a) = record {
+    pending = put t (firstOf op) [] (inr (a .task, first-on-path w t op a));
+    begun = upd-both (λ u. Begins) (r .op) (w .records) t op (firstOf op) (kind op) (s .begun);
+    complete = s .complete;
+  }
     where
       kind : (op : Op) → Begins op (firstOf op)
       kind (read j) k e = inr refl
       kind (swap j o n) k e = absurd (let z : _≡_ {A = ℕ} 0 1 = cc in omega arith)
-
-      go : (u : ℕ) → Begins (upd (r .op) t op u) (upd (w .records) t (firstOf op) u)
-      go u = at (either u t)
-        where
-          at : (u ≡ t) ⊎ (u ≢ t) → Begins (upd (r .op) t op u) (upd (w .records) t (firstOf op) u)
-          at (inl e) = rw (upd-at (r .op) t op u e, upd-at (w .records) t (firstOf op) u e) (kind op)
-          at (inr e) = rw (upd-off (r .op) t op u e, upd-off (w .records) t (firstOf op) u e) (s .begun u)
 
   module _ (t : ℕ) (m : t < w .tasks) (o : Pending (w .cells) (r .did t) (w .records t)) where
     abbrev q : Record
