@@ -1,5 +1,6 @@
 // One step of figure 2 without its memory: what a line accesses, and what follows.
-use crate::{Finished, Record};
+use crate::Finished;
+use crate::Record;
 
 // The five words of a block, in their order.
 pub enum Field {

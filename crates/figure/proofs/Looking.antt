@@ -58,7 +58,7 @@ module _ (s : View) (κ : Knowledge) (t : ℕ) where
   -- a task that is idle asks for nothing, unless its late store is awaited
   pub idle-task : (q : Record) → s .phase ≢ late t → TaskOf s κ t nowhere q
   idle-task q n = record
-    { self = search off; split = search off; value = search off; decided = search off; seen = search off; planned = search off; fresh = search off; early = search off; owner = λ e. absurd (n e) }
+      { self = search off; split = search off; value = search off; decided = search off; seen = search off; planned = search off; fresh = search off; early = search off; owner = λ e. absurd (n e) }
 
   pub idle-mine : (q : Record) → s .phase ≢ late t → Mine s κ t nowhere q
   idle-mine q n = record { task = idle-task q n; wins = λ w ne h. search off; loses = λ w ne h. search off; apart = λ w ne. search off }
@@ -174,7 +174,7 @@ module _ (s : View) (κ : Knowledge) (i : Inv s κ) where
       pub from17-18 : Mine s κ t l17 q → s .cell .y (q .held) ≡ 0 → Mine s κ t l18 on
       from17-18 m y =
           let loses : (u : ℕ) → u ≢ t → held s u ≡ q .held → Rival t (line s u) l18 (s .cell .x (q .held))
-                = λ u ne h. record { one-won = λ a b. b; no-race = λ a b e. i .tasks u .split .kept a (ap (s .cell .y) h ∙ y) } in
+          = λ u ne h. record { one-won = λ a b. b; no-race = λ a b e. i .tasks u .split .kept a (ap (s .cell .y) h ∙ y) } in
           search off
 
       pub from19-27 : Mine s κ t l19 q → Mine s κ t l27 on
@@ -184,9 +184,9 @@ module _ (s : View) (κ : Knowledge) (i : Inv s κ) where
       from19-20 m x =
           let y : s .cell .y (q .held) ≢ 0 = m .task .split .about-to-win tt x in
           let wins : (u : ℕ) → u ≢ t → q .held ≡ held s u → Rival u l20 (line s u) (s .cell .x (held s u))
-                = λ u ne h. record { one-won = λ a b. m .loses u ne (sym h) .no-race b tt x; no-race = λ a b e. ne (sym e ∙ rw h at x) } in
+          = λ u ne h. record { one-won = λ a b. m .loses u ne (sym h) .no-race b tt x; no-race = λ a b e. ne (sym e ∙ rw h at x) } in
           let loses : (u : ℕ) → u ≢ t → held s u ≡ q .held → Rival t (line s u) l20 (s .cell .x (q .held))
-                = λ u ne h. record { one-won = λ a b. m .loses u ne h .no-race a tt x; no-race = λ a b e. b } in
+          = λ u ne h. record { one-won = λ a b. m .loses u ne h .no-race a tt x; no-race = λ a b e. b } in
           search off
 
       pub from21-1 : Mine s κ t l21 q → s .cell .c (q .held) ≢ 0 → Mine s κ t (l1 for28) on

@@ -53,8 +53,13 @@ module _ (v : ℕ) (w : World) (g : Ghost) (κ : Knowledge) (i : Invariant v w g
     w′ = withBoth w k m t (recordAfter n)
 
     abbrev moves : (x : Step (view w g k) κ t m (recordAfter n)) → AllOnPath w′ → Sim.Moves doing (Invariant v) w w′ g κ t
-    moves x p = record { now = tally q; was = busy-doing q (busy-line q (o .line)); move = moveOf w g κ (i .good) t did o (x .change); may = may w g κ (i .good) t did o (x .change) (x .can)
-      ; keeps = λ κ′ grown. record { size = i .size; good = kept-all w g κ (i .good) t did o m (recordAfter n) (stays w g κ (i .good) (i .marks) t did o .0) (x .change) (x .can) (x .kept) p κ′ grown; marks = marks-after w g κ (i .good) (i .marks) t did o } }
+    moves x p = record {
+      now = tally q;
+      was = busy-doing q (busy-line q (o .line));
+      move = moveOf w g κ (i .good) t did o (x .change);
+      may = may w g κ (i .good) t did o (x .change) (x .can);
+      keeps = λ κ′ grown. record { size = i .size; good = kept-all w g κ (i .good) t did o m (recordAfter n) (stays w g κ (i .good) (i .marks) t did o .0) (x .change) (x .can) (x .kept) p κ′ grown; marks = marks-after w g κ (i .good) (i .marks) t did o };
+    }
 
     -- the line's move, and why it may answer
     line-forward : (x : Next) → n ≡ x → Out (view w g k) κ t m x → AllOnPath w′ → Forward doing (Invariant v) w g κ (step t) (withBoth w k m t (recordAfter x)) (stepEvent (tried t q) (outcomeOf x))
@@ -99,14 +104,18 @@ module _ (v : ℕ) (w : World) (g : Ghost) (κ : Knowledge) (i : Invariant v w g
 module _ (n v : ℕ) (vs : List ℕ) (some-values : (k : ℕ) → getD vs k 0 ≢ noValue) where
   pub simulation : Sim.Simulation figure (opening n v vs) active v (λ k. getD vs k 0)
   unfolding none
-  simulation = record
-    { doing = doing; Inv = Invariant v; Quiet = QuietIn; idle = λ t. refl
-    ; opened = λ κ. record { size = refl; good = opening-good n v vs some-values κ; marks = λ k c y. absurd (y refl) }
-    ; grow = λ w g κ κ′ i grown. record { size = i .size; good = good-grown w g κ κ′ (i .good) grown; marks = i .marks }
-    ; within = λ w g κ i. within w (i .good .on-path)
-    ; follows = λ w g κ i a. subst (λ (size : ℕ). Sim.Follows doing size w a (figure w a .0) (figure w a .1)) (i .size) (follows w (i .good .on-path) a)
-    ; forward = λ w g κ i. forward v w g κ i
-    ; quietly = λ w g κ i. quietly v w g κ i }
+  simulation = record {
+    doing = doing;
+    Inv = Invariant v;
+    Quiet = QuietIn;
+    idle = λ t. refl;
+    opened = λ κ. record { size = refl; good = opening-good n v vs some-values κ; marks = λ k c y. absurd (y refl) };
+    grow = λ w g κ κ′ i grown. record { size = i .size; good = good-grown w g κ κ′ (i .good) grown; marks = i .marks };
+    within = λ w g κ i. within w (i .good .on-path);
+    follows = λ w g κ i a. subst (λ (size : ℕ). Sim.Follows doing size w a (figure w a .0) (figure w a .1)) (i .size) (follows w (i .good .on-path) a);
+    forward = λ w g κ i. forward v w g κ i;
+    quietly = λ w g κ i. quietly v w g κ i;
+  }
 
   -- demand 3, of figure 2 with a new block each time: from any opening whose starting values are other than none, for every list of
   -- actions, the calls can be linearized, keep their bounds, and attempt no hardware CAS without contention

@@ -41,11 +41,12 @@ module _ (s : View) (κ : Knowledge) (t : ℕ) (i : Inv s κ) (e : line s t ≡ 
   untold = not-T (s .told t) (here .task .self .told-stored tt)
 
   value′ : (u : ℕ) → u ≢ t → Value (line s u) (s .task u .new) (held s u) (s .task u .loaded) (s .cell .next) (V′ (held s u))
-  value′ u ne = let r = i .tasks u .value in record
-    { there = r .there
-    ; some = λ b. upd-cases (λ x. x ≢ none) (s .cell .v) (q .held) (q .new) (held s u) (λ h. here .task .self .nv-some tt) (λ h. r .some b)
-    ; still-loaded = λ b. upd-cases (λ x. x ≡ s .task u .loaded) (s .cell .v) (q .held) (q .new) (held s u) (λ h. absurd (nobody u ne h (lies-in loaded won tt (line s u) b))) (λ h. r .still-loaded b)
-    ; still-stored = λ b. upd-cases (λ x. x ≡ s .task u .new) (s .cell .v) (q .held) (q .new) (held s u) (λ h. absurd (nobody u ne h (lies-in stored won tt (line s u) b))) (λ h. r .still-stored b) }
+  value′ u ne = let r = i .tasks u .value in record {
+    there = r .there;
+    some = λ b. upd-cases (λ x. x ≢ none) (s .cell .v) (q .held) (q .new) (held s u) (λ h. here .task .self .nv-some tt) (λ h. r .some b);
+    still-loaded = λ b. upd-cases (λ x. x ≡ s .task u .loaded) (s .cell .v) (q .held) (q .new) (held s u) (λ h. absurd (nobody u ne h (lies-in loaded won tt (line s u) b))) (λ h. r .still-loaded b);
+    still-stored = λ b. upd-cases (λ x. x ≡ s .task u .new) (s .cell .v) (q .held) (q .new) (held s u) (λ h. absurd (nobody u ne h (lies-in stored won tt (line s u) b))) (λ h. r .still-stored b);
+  }
 
   fresh′ : (u : ℕ) → T (is 30 (line s u)) → Fresh (s .task u .taken) (s .task u .new) (s .cell .next) (V′ (s .task u .taken)) (s .cell .d (s .task u .taken)) (s .cell .y (s .task u .taken)) (s .cell .c (s .task u .taken)) L
   fresh′ u b = rw (upd-off (s .cell .v) (q .held) (q .new) (s .task u .taken) (not-taken s κ i u t b (rw e tt))) (i .tasks u .fresh b)
@@ -95,21 +96,44 @@ module _ (s : View) (κ : Knowledge) (t : ℕ) (i : Inv s κ) (e : line s t ≡ 
     none-stored u ne b d = nobody u ne (undecided s κ i u (lies-in stored holding tt (line s u) b) d ∙ sym is-L) (lies-in stored won tt (line s u) b)
 
     rest-live : Rest live κ t
-    rest-live = record
-      { rivals = λ u w ne ne′. i .rivals u w; apart = λ u w ne ne′. i .apart u w
-      ; current = let k = i .current in record
-          { low = k .low; P-some = here .task .self .nv-some tt; v-some = v-some′; decided-inactive = k .decided-inactive; decision = λ d. absurd (d (rw is-L at open-d))
-          ; phase-is = rw live-settled (λ d. (rw is-L at c, upd-at (s .cell .v) (q .held) (q .new) L (sym is-L))) }
-      ; tasks = λ u ne. let k = i .tasks u in rw (upd-off (s .told) t true u ne) record
-          { self = k .self; split = k .split; value = value′ u ne; seen = k .seen; fresh = fresh′ u; early = k .early
-          ; decided = let r = k .decided in record
-              { replaced-decided = r .replaced-decided; decided-inactive = r .decided-inactive; before-store = r .before-store
-              ; told-value = λ b z d. absurd (none-stored u ne b d); told-decided = r .told-decided; late-inactive = r .late-inactive
-              ; late-phase = r .late-phase; late-decided = r .late-decided; inactive = r .inactive; decided = r .decided; expected = r .expected }
-          ; planned = record
-              { plan-some = k .planned .plan-some
-              ; plan = λ b d. absurd (k .decided .inactive (lies-in (is 2) contended tt (line s u) b) (ap (s .cell .c) (undecided s κ i u (lies-in (is 2) holding tt (line s u) b) d ∙ sym is-L) ∙ c)) }
-          ; owner = λ z. absurd (none-awaited is-L u z) } }
+    rest-live = record {
+      rivals = λ u w ne ne′. i .rivals u w;
+      apart = λ u w ne ne′. i .apart u w;
+      current = let k = i .current in record {
+        low = k .low;
+        P-some = here .task .self .nv-some tt;
+        v-some = v-some′;
+        decided-inactive = k .decided-inactive;
+        decision = λ d. absurd (d (rw is-L at open-d));
+        phase-is = rw live-settled (λ d. (rw is-L at c, upd-at (s .cell .v) (q .held) (q .new) L (sym is-L)));
+      };
+      tasks = λ u ne. let k = i .tasks u in rw (upd-off (s .told) t true u ne) record {
+        self = k .self;
+        split = k .split;
+        value = value′ u ne;
+        seen = k .seen;
+        fresh = fresh′ u;
+        early = k .early;
+        decided = let r = k .decided in record {
+          replaced-decided = r .replaced-decided;
+          decided-inactive = r .decided-inactive;
+          before-store = r .before-store;
+          told-value = λ b z d. absurd (none-stored u ne b d);
+          told-decided = r .told-decided;
+          late-inactive = r .late-inactive;
+          late-phase = r .late-phase;
+          late-decided = r .late-decided;
+          inactive = r .inactive;
+          decided = r .decided;
+          expected = r .expected;
+        };
+        planned = record {
+          plan-some = k .planned .plan-some;
+          plan = λ b d. absurd (k .decided .inactive (lies-in (is 2) contended tt (line s u) b) (ap (s .cell .c) (undecided s κ i u (lies-in (is 2) holding tt (line s u) b) d ∙ sym is-L) ∙ c));
+        };
+        owner = λ z. absurd (none-awaited is-L u z);
+      };
+    }
 
     mine-live : Mine live κ t l24 next
     mine-live =
@@ -132,22 +156,40 @@ module _ (s : View) (κ : Knowledge) (t : ℕ) (i : Inv s κ) (e : line s t ≡ 
     delayed = record { cell = store (s .cell) (q .held) Field.V (q .new); task = s .task; value = s .value; told = s .told; phase = p }
 
     rest-delayed : Rest delayed κ t
-    rest-delayed = record
-      { rivals = λ u w ne ne′. i .rivals u w; apart = λ u w ne ne′. i .apart u w
-      ; current = let k = i .current in record { low = k .low; P-some = k .P-some; v-some = v-some′; decided-inactive = k .decided-inactive; decision = k .decision; phase-is = is-p }
-      ; tasks = λ u ne. let k = i .tasks u in record
-          { self = k .self; split = k .split; value = value′ u ne; seen = k .seen; fresh = fresh′ u; early = k .early
-          ; decided = let r = k .decided in record
-              { replaced-decided = r .replaced-decided; decided-inactive = r .decided-inactive; before-store = r .before-store
-              ; told-value = r .told-value; told-decided = r .told-decided; late-inactive = r .late-inactive
-              ; late-phase = λ b z d. lates u ne .0 (r .late-phase b z d); late-decided = r .late-decided; inactive = r .inactive; decided = r .decided; expected = r .expected }
-          ; planned = record
-              { plan-some = k .planned .plan-some
-              ; plan = λ b d z. upd-cases (λ x. x ≡ s .task u .loaded) (s .cell .v) (q .held) (q .new) L
-                  (λ h. let z′ = k .planned .plan b d z in absurd (z (sym z′ ∙ plan-p (rw (undecided s κ i u (lies-in (is 2) holding tt (line s u) b) d) at d) (sym h))))
-                  (λ h. k .planned .plan b d z) }
-          ; owner = λ z. let x = lates u ne .1 z in let o = k .owner (x .0) in record
-              { has-stored = o .has-stored; here = o .here; not-told = o .not-told; expected-is = o .expected-is; new-is = o .new-is ∙ sym (upd-off (s .cell .v) (q .held) (q .new) L (x .1)) } } }
+    rest-delayed = record {
+      rivals = λ u w ne ne′. i .rivals u w;
+      apart = λ u w ne ne′. i .apart u w;
+      current = let k = i .current in record { low = k .low; P-some = k .P-some; v-some = v-some′; decided-inactive = k .decided-inactive; decision = k .decision; phase-is = is-p };
+      tasks = λ u ne. let k = i .tasks u in record {
+        self = k .self;
+        split = k .split;
+        value = value′ u ne;
+        seen = k .seen;
+        fresh = fresh′ u;
+        early = k .early;
+        decided = let r = k .decided in record {
+          replaced-decided = r .replaced-decided;
+          decided-inactive = r .decided-inactive;
+          before-store = r .before-store;
+          told-value = r .told-value;
+          told-decided = r .told-decided;
+          late-inactive = r .late-inactive;
+          late-phase = λ b z d. lates u ne .0 (r .late-phase b z d);
+          late-decided = r .late-decided;
+          inactive = r .inactive;
+          decided = r .decided;
+          expected = r .expected;
+        };
+        planned = record {
+          plan-some = k .planned .plan-some;
+          plan = λ b d z. upd-cases (λ x. x ≡ s .task u .loaded) (s .cell .v) (q .held) (q .new) L
+              (λ h. let z′ = k .planned .plan b d z in absurd (z (sym z′ ∙ plan-p (rw (undecided s κ i u (lies-in (is 2) holding tt (line s u) b) d) at d) (sym h))))
+              (λ h. k .planned .plan b d z);
+        };
+        owner = λ z. let x = lates u ne .1 z in let o = k .owner (x .0) in record
+            { has-stored = o .has-stored; here = o .here; not-told = o .not-told; expected-is = o .expected-is; new-is = o .new-is ∙ sym (upd-off (s .cell .v) (q .held) (q .new) L (x .1)) };
+      };
+    }
 
     mine-delayed : Mine delayed κ t l24 next
     mine-delayed =
@@ -155,7 +197,7 @@ module _ (s : View) (κ : Knowledge) (t : ℕ) (i : Inv s κ) (e : line s t ≡ 
         let nt : T (s .told t) → ⊥ = T-not (s .told t) untold in
         let d : s .cell .d (q .held) ≢ none → s .cell .d (q .held) ≡ q .expected = m .task .decided .before-store tt in
         let o : p ≡ late t → Owner l24 next (s .told t) L (s .value) (V′ L)
-              = λ z. let x = owner-p z in record { has-stored = tt; here = x .0; not-told = untold; new-is = sym (upd-at (s .cell .v) (q .held) (q .new) L (sym (x .0))); expected-is = x .1 } in
+        = λ z. let x = owner-p z in record { has-stored = tt; here = x .0; not-told = untold; new-is = sym (upd-at (s .cell .v) (q .held) (q .new) L (sym (x .0))); expected-is = x .1 } in
         search (off, stored-now, some-now, still-wins, still-loses)
 
     pub kept-delayed : lineOf next ≡ l24 → Inv (moved delayed t next) κ

@@ -205,6 +205,7 @@ module _ (w : World) (g : Ghost) (κ : Knowledge) (G : Good w g κ) (t : ℕ) (d
         -- a task that is busy on cell j now
         knows : (j u : ℕ) → T (busy (lineOf (on (w′ .records) j u))) → ((v : ℕ) → κ .saw u v → κ′ .saw u v) × (κ .early u → κ′ .early u)
         knows j u b = let d = doing-on w′ j u b in let n = was-doing u _ (d .0) in ((λ v. grown .saw u (n .0) _ (n .1) (d .0) v), grown .early u (n .0) _ (n .1) (d .0))
+
         sees : (u : ℕ) → T (busy (lineOf (on (w′ .records) k u))) → (v : ℕ) → plus κ (phaseAfter s t x) (valueAfter s t x) .saw u v → κ′ .saw u v
         sees u b v (inl z) = knows k u b .0 v z
         sees u b v (inr z) =
@@ -212,13 +213,14 @@ module _ (w : World) (g : Ghost) (κ : Knowledge) (G : Good w g κ) (t : ℕ) (d
             let n = was-doing u _ (d .0) in
             let i : cellOf (opOf (w′ .records u)) ≡ k = cell-of (w′ .records u) ∙ d .1 in
             subst (κ′ .saw u) (ap (g′ x .cells) i ∙ value-here x c ∙ sym (z .1)) (grown .sees u (n .0) _ (n .1) (d .0) (ap (g′ x .phase) i ∙ phase-here x ∙ z .0))
+
         go : (j : ℕ) → (j ≡ k) ⊎ (j ≢ k) → Inv (view w′ (g′ x) j) κ′
         go j (inl e) = subst (λ i. Inv (view w′ (g′ x) i) κ′) (sym e)
             (Frame.grow (view w′ (g′ x) k) (plus κ (phaseAfter s t x) (valueAfter s t x)) κ′ (λ u b. (sees u b, knows k u b .1)) (subst (λ (v : View). Inv v (plus κ (phaseAfter s t x) (valueAfter s t x))) (sym view-here) kept))
         go j (inr e) =
             Frame.grow (view w′ (g′ x) j) κ κ′ (λ u b. knows j u b)
             (subst (λ (v : View). Inv v κ) (sym (view-there j e))
-              (told-changed (view w g j) κ (g′ x .told) (told-there j e x c) (λ u z. lies-in stored busy tt (line (view w g j) u) (G .cells j .tasks u .owner z .has-stored)) (G .cells j)))
+            (told-changed (view w g j) κ (g′ x .told) (told-there j e x c) (λ u z. lies-in stored busy tt (line (view w g j) u) (G .cells j .tasks u .owner z .has-stored)) (G .cells j)))
 
   -- WHY IT MAY ANSWER
 

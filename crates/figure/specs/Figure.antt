@@ -59,9 +59,14 @@ install m b = record { current = b; next = m .next; x = m .x; y = m .y; c = m .c
 -- a new block, filled with the value
 abbrev pub allocate : Cell → ℕ → Cell
 allocate m n = record {
-  current = m .current; next = suc (m .next);
-  x = upd (m .x) (m .next) (fresh n X); y = upd (m .y) (m .next) (fresh n Y); c = upd (m .c) (m .next) (fresh n C);
-  v = upd (m .v) (m .next) (fresh n Field.V); d = upd (m .d) (m .next) (fresh n D) }
+  current = m .current;
+  next = suc (m .next);
+  x = upd (m .x) (m .next) (fresh n X);
+  y = upd (m .y) (m .next) (fresh n Y);
+  c = upd (m .c) (m .next) (fresh n C);
+  v = upd (m .v) (m .next) (fresh n Field.V);
+  d = upd (m .d) (m .next) (fresh n D);
+}
 
 -- what an access makes of the task's own cell (so the cell's number is not looked at), and the value that it answers
 pub record Memory : Type 0 where
@@ -129,8 +134,11 @@ begins w t (swap k e n) = unless (refusal (swapQuestions (w .tasks) (w .cells) (
 -- cell k's first block, number 0, has its starting value
 abbrev pub opening : (tasks cells : ℕ) → List ℕ → World
 opening n v vs = record {
-  tasks = n; cells = v; records = λ t. idle;
-  cell = λ k. record { current = 0; next = 1; x = λ b. fresh (getD vs k 0) X; y = λ b. fresh (getD vs k 0) Y; c = λ b. fresh (getD vs k 0) C; v = λ b. fresh (getD vs k 0) Field.V; d = λ b. fresh (getD vs k 0) D } }
+  tasks = n;
+  cells = v;
+  records = λ t. idle;
+  cell = λ k. record { current = 0; next = 1; x = λ b. fresh (getD vs k 0) X; y = λ b. fresh (getD vs k 0) Y; c = λ b. fresh (getD vs k 0) C; v = λ b. fresh (getD vs k 0) Field.V; d = λ b. fresh (getD vs k 0) D };
+}
 
 unfoldable pub looked : World → ℕ → Looked
 looked w k = let m = w .cell k in let b = m .current in shown (refusal (lookQuestions (w .cells) k)) (shownValue (m .c b) (m .v b) (m .d b))
