@@ -13,25 +13,24 @@ use Rattle.cells.specs.declared.Record.{Record}
 use Rattle.cells.specs.declared.lines.Next.{Next}
 use Rattle.cells.specs.declared.lines.Next.the-variants.{Go, Done}
 use Rattle.cells.specs.Record.{idle}
-use Rattle.cells.specs.Begin.{firstRead, firstSwap}
 use Rattle.cells.specs.Lines.{Line, l10, l15, lineAt, lineOf, accessOf, accessAt, nextOf, counted, hardware}
 use Rattle.history.specs.Basics.{upd}
 use Rattle.history.specs.History.{Op, read, swap, cellOf}
 use Rattle.history.specs.Demand3.{Unequal}
 use Rattle.history.proofs.Basics.{either, upd-at, upd-same, upd-off}
 use Rattle.history.proofs.Simulation.{Ghost, Knowledge, Tally, QuietStarts, QuietSteps, Free}
-use Rattle.figure.specs.Figure.{Cell, World, withBoth, withRecord, recordAfter, perform, tried, active}
+use Rattle.figure.specs.Figure.{Cell, World, withRecord, recordAfter, perform, tried, active}
 use Rattle.figure.proofs.LineLaws.{Leads, goes, done}
 use Rattle.figure.proofs.Records.{Pending, OnPath, AllOnPath, Accepted, firstOf, led}
 use Rattle.figure.proofs.Tallies.{opOf, tally, tallyOf, doing}
-use Rattle.figure.proofs.Classes.{busy, swapping, marking, lies-in}
+use Rattle.figure.proofs.Classes.{busy, swapping, marking, lies-in, holding, uncontended}
 use Rattle.figure.proofs.Invariant.{none, line}
 use Rattle.figure.proofs.Views.{on, on-in, on-it, on-changed, on-elsewhere, view}
 use Rattle.figure.proofs.Operations.{cell-of, busy-line, busy-doing, is-unequal}
-use Rattle.figure.proofs.Worlds.{Good, pending-at}
+use Rattle.figure.proofs.Worlds.{Good, cellAfter, nextAfter, stepAfter, pending-at}
 use Rattle.figure.proofs.Begins.{was-idle, idle-to, its-cell}
 use Rattle.figure.proofs.Marks.{Marks, marks-kept}
-use Rattle.figure.proofs.Quiet.{Quiet, quiet-step, untried, others-step, others-begin}
+use Rattle.figure.proofs.Quiet.{signed, Quiet, quiet-step, untried, others-step, others-begin}
 
 -- a task is quiet on its own cell
 abbrev pub QuietIn : World → ℕ → Type 0
@@ -58,13 +57,13 @@ module _ (w : World) (g : Ghost) (κ : Knowledge) (G : Good w g κ) (marks : (k 
   k = q .cell
 
   abbrev m : Cell
-  m = perform (w .cell k) (accessOf t q) .cell
+  m = cellAfter w t
 
   abbrev n : Next
-  n = nextOf t q (perform (w .cell k) (accessOf t q) .value)
+  n = nextAfter w t
 
   abbrev w′ : World
-  w′ = withBoth w k m t (recordAfter n)
+  w′ = stepAfter w t
 
   here : on (w .records) k t ≡ q
   here = on-in (w .records) k t refl
@@ -208,33 +207,25 @@ module _ (w : World) (g : Ghost) (κ : Knowledge) (G : Good w g κ) (marks : (k 
           lonely : (p : Op) (u : ℕ) → u ≢ t → T (swapping (lineOf (upd f t (firstOf p) u))) → ⊥
           lonely p u ne = rw (upd-off f t (firstOf p) u ne) (nobody u)
 
-          at-first : (p : Op) (r : Record) → firstOf p ≡ r → r .hard ≡ 0 → (lineOf r ≡ l10) ⊎ (lineOf r ≡ l15) → Quiet (w .cell (cellOf op)) (upd f t (firstOf p)) t
-          at-first p r e h (inl z) = record {
+          -- at line 10 or 15 nothing is held yet
+          at-first : (p : Op) (ℓ : Line) → lineOf (firstOf p) ≡ ℓ → T (uncontended ℓ) → (T (holding ℓ) → ⊥) → (T (signed ℓ) → ⊥) → firstOf p .hard ≡ 0 → Quiet (w .cell (cellOf op)) (upd f t (firstOf p)) t
+          at-first p ℓ e b n x h = record {
             active = c;
             lonely = lonely p;
-            no-hard = rw (upd-same f t (firstOf p), e) h;
-            line = rw (upd-same f t (firstOf p), e, z) tt;
-            here = rw (upd-same f t (firstOf p), e, z) (λ b. absurd b);
-            clear = λ b. clear;
-            mine = rw (upd-same f t (firstOf p), e, z) (λ b. absurd b);
-          }
-          at-first p r e h (inr z) = record {
-            active = c;
-            lonely = lonely p;
-            no-hard = rw (upd-same f t (firstOf p), e) h;
-            line = rw (upd-same f t (firstOf p), e, z) tt;
-            here = rw (upd-same f t (firstOf p), e, z) (λ b. absurd b);
-            clear = λ b. clear;
-            mine = rw (upd-same f t (firstOf p), e, z) (λ b. absurd b);
+            no-hard = rw (upd-same f t (firstOf p)) h;
+            line = rw (upd-same f t (firstOf p), e) b;
+            here = rw (upd-same f t (firstOf p), e) (λ z. absurd (n z));
+            clear = λ z. clear;
+            mine = rw (upd-same f t (firstOf p), e) (λ z. absurd (x z));
           }
 
           first-quiet : (p : Op) → Quiet (w .cell (cellOf op)) (upd f t (firstOf p)) t
-          first-quiet (read k) = at-first (read k) (firstRead k) refl refl (inl refl)
-          first-quiet (swap k e n) = at-first (swap k e n) (firstSwap k e n) refl refl (go (eqb e n))
+          first-quiet (read k) = at-first (read k) l10 refl tt (λ z. z) (λ z. z) refl
+          first-quiet (swap k e n) = go (eqb e n) refl
             where
-              go : (x : Bool) → (lineAt (cond x 10 15) 0 ≡ l10) ⊎ (lineAt (cond x 10 15) 0 ≡ l15)
-              go true = inl refl
-              go false = inr refl
+              go : (x : Bool) → eqb e n ≡ x → Quiet (w .cell (cellOf op)) (upd f t (firstOf (swap k e n))) t
+              go true z = at-first (swap k e n) l10 (rw z) tt (λ z. z) (λ z. z) refl
+              go false z = at-first (swap k e n) l15 (rw z) tt (λ z. z) (λ z. z) refl
 
       others : (u : ℕ) (n : Tally) → doing w u ≡ some n → (Unequal op → cellOf op ≢ cellOf (n .op)) → QuietIn w u → QuietIn v′ u
       others u n d apart z = rw (upd-off (w .records) t (firstOf op) u ne) (go (either (w .records u .cell) (cellOf op)))
