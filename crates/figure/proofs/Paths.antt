@@ -14,7 +14,8 @@ use Rattle.cells.specs.Begin.{firstSwap}
 use Rattle.history.specs.Basics.{_∈_}
 use Rattle.history.specs.History.{Action}
 use Rattle.figure.specs.Figure.{opening}
-use Rattle.figure.specs.Paths.{paths, by25, counts, countsOf, table, Traced, noTrace}
+use Rattle.cells.specs.Paths.{table}
+use Rattle.figure.specs.Paths.{paths, by25, counts, countsOf, Traced, noTrace}
 use Rattle.figure.proofs.LineLaws.{every-line, has, same}
 use Rattle.figure.proofs.Records.{CompleteCall, Sound, figureTraces, traces-sound}
 

@@ -4,6 +4,7 @@ use mathlib.Core.List.{List, [], _∷_, _++_}
 use Prim.Native.Nat.{ℕ, _+_}
 use Rattle.cells.specs.declared.lines.Access.{Access}
 use Rattle.cells.specs.Record.{idle}
+use Rattle.cells.specs.Paths.{table}
 use Rattle.cells.specs.Lines.{Line, Wanted, for13, for25, for28, l1, l2, l3, l10, l11, l12, l15, l16, l17, l18, l19, l20, l21, l22, l23, l24, l26, l27, l29, l30, accessAt, loads, stores, hardware}
 use Rattle.history.specs.Basics.{upd, _∈_}
 use Rattle.history.specs.History.{Op, read, Action, begin, step, Answer, Event, refused, begun, going, answered}
@@ -80,13 +81,6 @@ counts p = steps p ∷ count loads p ∷ count stores p ∷ count hardware p ∷
 abbrev pub countsOf : List (List Line) → List (List ℕ)
 countsOf [] = []
 countsOf (p ∷ ps) = counts p ∷ countsOf ps
-
--- document 01's table
-abbrev pub table : List (List ℕ)
-table =
-    (3 ∷ 3 ∷ 0 ∷ 0 ∷ []) ∷ (6 ∷ 5 ∷ 0 ∷ 1 ∷ []) ∷ (8 ∷ 5 ∷ 3 ∷ 0 ∷ []) ∷ (10 ∷ 6 ∷ 4 ∷ 0 ∷ []) ∷ (12 ∷ 8 ∷ 3 ∷ 1 ∷ []) ∷
-    (7 ∷ 4 ∷ 2 ∷ 1 ∷ []) ∷ (9 ∷ 5 ∷ 3 ∷ 1 ∷ []) ∷ (10 ∷ 7 ∷ 2 ∷ 1 ∷ []) ∷ (15 ∷ 10 ∷ 3 ∷ 2 ∷ []) ∷
-    (9 ∷ 4 ∷ 2 ∷ 2 ∷ []) ∷ (11 ∷ 5 ∷ 3 ∷ 2 ∷ []) ∷ (12 ∷ 7 ∷ 2 ∷ 2 ∷ []) ∷ (17 ∷ 10 ∷ 3 ∷ 3 ∷ []) ∷ []
 
 -- THE LINES THAT A CALL DID, in any machine that takes actions and gives events
 
