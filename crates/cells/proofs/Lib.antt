@@ -3,3 +3,4 @@ pub mod Counting
 pub mod Unused
 pub mod Numbers
 pub mod Words
+pub mod Ranges
