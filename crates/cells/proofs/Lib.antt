@@ -4,3 +4,4 @@ pub mod Unused
 pub mod Numbers
 pub mod Words
 pub mod Ranges
+pub mod Parts

@@ -8,3 +8,4 @@ pub mod Open
 pub mod Begin
 pub mod Step
 pub mod Look
+pub mod Turn

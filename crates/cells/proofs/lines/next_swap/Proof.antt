@@ -29,7 +29,7 @@ next-swap-spec =
     (λ c. rw (c .before .before .match .keys5, c .goto5 .ensures, eq-eqb _ _ (c .before .if2 .taken)))
     (λ c. rw (c .before .before .match .keys5, c .goto6 .ensures, ne-eqb _ _ (c .before .if2 .left)))
     (λ c. rw (c .before .match .keys6, c .load .ensures))
-    (λ c. rw (line-at (c .before .before .args .r) 21 (c .before .match .keys7)) (c .next-compared .ensures _))
+    (λ c. rw (line-at (c .before .before .args .r) 21 (c .before .match .keys7)) (c .next-compared .ensures 0))
     (λ c. rw (c .before .match .keys8, c .answer .ensures))
     (λ c. rw (c .before .match .keys9, c .goto7 .ensures))
     (λ c. rw (at-24 _ (c .before .before .before .pre) (c .before .before .match .rest), c .goto8 .ensures, c .before .if3 .taken))
