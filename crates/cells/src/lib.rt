@@ -2,6 +2,7 @@
 // what the entries do is defined in specs/.
 mod lines;
 mod pool;
+mod turn;
 
 // What a task's pending call is about to do, and with what. Idle: line 0, and every other field 0.
 pub struct Record {

@@ -1,15 +1,16 @@
 // The lent pool: a block is five neighbouring words.
 ghost use mathlib.Core.Path.{_≡_};
-ghost use Prim.Native.Nat.{_+_, _*_, _<_};
+ghost use mathlib.Core.Option.{none};
+ghost use Prim.Native.Nat.{ℕ, _+_, _*_, _<_};
 ghost use lib.ListN.{length, set};
-ghost use Rattle.cells.specs.declared.lines.Field.the-variants.{D};
+ghost use Rattle.cells.specs.declared.lines.Access.the-variants.{DecideCas};
 ghost use Rattle.cells.specs.Pool.{offset, word, setWord, fill};
-ghost use Rattle.cells.specs.Turn.{decideCas};
+ghost use Rattle.cells.specs.Turn.{touched, performed};
 
 use crate::lines::Field;
 
-// What D holds before a decision.
-const NONE: u32 = 4294967295;
+// The value that is none.
+pub const NONE: u32 = 4294967295;
 
 fn offset(field: Field) -> usize
     ensures { λ n. ⌜ (n ≡ offset field) × (n < 5) ⌝ }
@@ -70,7 +71,7 @@ fn put_block(part: &mut [u32], v: u32)
 // The hardware CAS of D, from none: 1 where it succeeds, else 0.
 pub fn decide_cas(pool: &mut [u32], block: u32, v: u32) -> u32
     requires { ⌜ 5 * block + 4 < length (now pool) ⌝ }
-    ensures { λ r. ⌜ (now (pool .exit), r) ≡ decideCas (now (pool .entry)) block v ⌝ }
+    ensures { λ r. ⌜ ((c l : ℕ) → touched (now (pool .exit)) c l r ≡ performed (now (pool .entry)) c l none (DecideCas block v)) ⌝ }
 {
     if load(pool, block, Field::D) == NONE {
         store(pool, block, Field::D, v);

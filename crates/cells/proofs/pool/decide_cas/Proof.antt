@@ -11,6 +11,6 @@ decide-cas-spec =
     (λ c κs. search needs)
     (λ c κs. search needs)
     (λ c. search needs)
-    (λ c. rw (c .before .before .store .ensures, eq-eqb _ _ (sym (c .before .before .before .before .before .load .ensures) ∙ c .before .before .before .before .if1 .taken)))
+    (λ c d l. rw (c .before .before .store .ensures, eq-eqb _ _ (sym (c .before .before .before .before .before .load .ensures) ∙ c .before .before .before .before .if1 .taken)))
     (λ c. search needs)
-    (λ c. rw (ne-eqb _ _ (λ e. c .if1 .left (c .before .load .ensures ∙ e)))))
+    (λ c d l. rw (ne-eqb _ _ (λ e. c .if1 .left (c .before .load .ensures ∙ e)))))
