@@ -5,3 +5,4 @@ pub mod Numbers
 pub mod Words
 pub mod Ranges
 pub mod Parts
+pub mod TurnLaw
