@@ -1,17 +1,18 @@
 -- A turn is a step told numbers: its parts, what it needs, what it does to a state, and when it needs no unused block.
-use mathlib.Core.Path.{_≡_, refl, sym, ap, _∙_}
-use mathlib.Core.Bool.{Bool, true, false, _&&_, _||_, not, and-eq-true-iff}
+use mathlib.Core.Path.{_≡_, refl, ap, _∙_}
+use mathlib.Core.Bool.{Bool, true, false, _||_, not, and-eq-true-iff}
 use mathlib.Core.Option.{Option, none, some}
 use mathlib.Core.List.{List}
-use Prim.Native.Nat.{ℕ, _+_, _*_, _≤_, _<_}
+use Prim.Native.Nat.{ℕ, _+_, _*_, _<_}
 use native.Mathlib.Omega.{arith}
 use lib.Dec.{eqb, ltb}
-use lib.ListN.{length, getD, set}
+use lib.ListN.{getD, set}
 use lib.Seq.{set-getD}
 use borrow.Author.Tests.{ltb-true, leb-true, ne-eqb}
 use Rattle.cells.specs.declared.Record.{Record}
 use Rattle.cells.specs.declared.State.{State}
-use Rattle.cells.specs.declared.lines.Field.the-variants.{D}
+use Rattle.cells.specs.declared.lines.Field.{Field}
+use Rattle.cells.specs.declared.lines.Field.the-variants.{X, Y, C, D}
 use Rattle.cells.specs.declared.lines.Access.{Access}
 use Rattle.cells.specs.declared.lines.Access.the-variants.{LoadCell, Load, Store, DecideCas, InstallCas, Allocate, Nothing}
 use Rattle.cells.specs.declared.lines.Next.{Next}
@@ -22,8 +23,8 @@ use Rattle.cells.specs.Pool.{word}
 use Rattle.cells.specs.Questions.{recordFit, busyTests, holds, installs}
 use Rattle.cells.specs.Blocks.{unused}
 use Rattle.cells.specs.Open.{After}
-use Rattle.cells.specs.Step.{Memory, memory, allocated, current, perform, followed, ran}
-use Rattle.cells.specs.Turn.{Touched, touched, filling, performed, Turned, ending, turn, Reaches, Ready}
+use Rattle.cells.specs.Step.{Memory, memory, current, perform, followed, ran}
+use Rattle.cells.specs.Turn.{Touched, performed, Turned, ending, turn, Reaches, Ready}
 use Rattle.cells.proofs.Tests.{nth}
 use Rattle.cells.proofs.Numbers.{number, at-number}
 
@@ -33,46 +34,58 @@ pub turns : (p : List ℕ) (t : ℕ) (r : Record) (c l : ℕ) (f : Option ℕ) (
 unfolding turn
 turns p t r c l f a m q n ea em eq en = rw (en, eq, em, ea)
 
--- WHAT IT NEEDS, in a fit state: a line that names a block holds it
+-- WHAT A LINE ACCESSES, by kinds of access: two load the task's cell, and every other names the held block, if any
+module _ (t : ℕ) (r : Record) (Q : Line → Access → Type 0) where
+  abbrev Held : Line → Type 0
+  Held l = not (eqb (number l) 10 || eqb (number l) 15) ≡ true
+
+  by-access : ((l : Line) → Q l (LoadCell (r .cell))) → ((l : Line) (f : Field) → Held l → Q l (Load (r .held) f)) → ((l : Line) (f : Field) (v : ℕ) → Held l → Q l (Store (r .held) f v))
+      → ((l : Line) → Held l → Q l (DecideCas (r .held) (r .loaded))) → Q l29 (Allocate (r .new)) → Q l30 (InstallCas (r .cell) (r .held) (r .taken)) → Q nowhere Nothing → (l : Line) → Q l (accessAt l t r)
+  by-access cell load store decide allocate install nothing = go
+    where
+      go : (l : Line) → Q l (accessAt l t r)
+      go (l1 w) = load (l1 w) Field.V refl
+      go (l2 w) = decide (l2 w) refl
+      go (l3 w) = load (l3 w) D refl
+      go l10 = cell l10
+      go l11 = load l11 Field.V refl
+      go l12 = load l12 C refl
+      go l15 = cell l15
+      go l16 = store l16 X t refl
+      go l17 = load l17 Y refl
+      go l18 = store l18 Y 1 refl
+      go l19 = load l19 X refl
+      go l20 = load l20 Field.V refl
+      go l21 = load l21 C refl
+      go l22 = store l22 Y 0 refl
+      go l23 = store l23 Field.V (r .new) refl
+      go l24 = load l24 C refl
+      go l26 = store l26 Y 0 refl
+      go l27 = store l27 C 1 refl
+      go l29 = allocate
+      go l30 = install
+      go nowhere = nothing
+
+-- WHAT A TURN NEEDS, in a fit state
 module _ (r : Record) (v b words t : ℕ) (fits : recordFit r v b ≡ true) (busy : r .line ≡ 0 → ⊥) (size : words ≡ 5 * b) where
   test : (k : ℕ) → getD (busyTests r v b) k true ≡ true
   unfolding recordFit
   test = nth (busyTests r v b) (rw (ne-eqb _ _ busy) at fits)
 
-  held : (l : Line) → lineOf r ≡ l → not (eqb (number l) 10 || eqb (number l) 15) ≡ true → 5 * r .held + 4 < words
-  held l e h =
+  there : (l : Line) → not (eqb (number l) 10 || eqb (number l) 15) ≡ true → lineOf r ≡ l → 5 * r .held + 4 < words
+  there l h e =
       let n : r .line ≡ number l = at-number r (test 1) ∙ ap number e in
       let k : (not (holds r) || ltb (r .held) b) ≡ true = and-eq-true-iff (not (holds r) || ltb (r .held) b) (not (installs r) || ltb (r .taken) b) .0 (test 2) .0 in
       let g : r .held < b = ltb-true _ _ (rw (n, h) at k) in
       omega arith
 
   reaches : (l : Line) → lineOf r ≡ l → Reaches words (accessAt l t r)
-  reaches (l1 w) e = held (l1 w) e refl
-  reaches (l2 w) e = held (l2 w) e refl
-  reaches (l3 w) e = held (l3 w) e refl
-  reaches l10 e = tt
-  reaches l11 e = held l11 e refl
-  reaches l12 e = held l12 e refl
-  reaches l15 e = tt
-  reaches l16 e = held l16 e refl
-  reaches l17 e = held l17 e refl
-  reaches l18 e = held l18 e refl
-  reaches l19 e = held l19 e refl
-  reaches l20 e = held l20 e refl
-  reaches l21 e = held l21 e refl
-  reaches l22 e = held l22 e refl
-  reaches l23 e = held l23 e refl
-  reaches l24 e = held l24 e refl
-  reaches l26 e = held l26 e refl
-  reaches l27 e = held l27 e refl
-  reaches l29 e = tt
-  reaches l30 e = tt
-  reaches nowhere e = tt
+  reaches = by-access t r (λ l a. lineOf r ≡ l → Reaches words a) (λ l e. tt) (λ l f h e. there l h e) (λ l f v h e. there l h e) (λ l h e. there l h e) (λ e. tt) (λ e. tt) (λ e. tt)
 
   pub ready : Ready words t r
   ready = record { reaches = reaches (lineOf r) refl; steps = leb-true _ _ (test 4); hard = leb-true _ _ (test 5) }
 
--- WHAT IT DOES TO A STATE
+-- WHAT A TURN DOES TO A STATE
 
 abbrev pub moved : State → (cell current last : ℕ) → State
 moved s k c l = record { tasks = s .tasks; cells = s .cells; blocks = s .blocks; last = l; current = set (s .current) k c; records = s .records }
@@ -92,27 +105,7 @@ Of k (Allocate v) = Prim.Unit
 Of k Nothing = Prim.Unit
 
 own : (t : ℕ) (r : Record) (l : Line) → Of (r .cell) (accessAt l t r)
-own t r (l1 w) = tt
-own t r (l2 w) = tt
-own t r (l3 w) = tt
-own t r l10 = refl
-own t r l11 = tt
-own t r l12 = tt
-own t r l15 = refl
-own t r l16 = tt
-own t r l17 = tt
-own t r l18 = tt
-own t r l19 = tt
-own t r l20 = tt
-own t r l21 = tt
-own t r l22 = tt
-own t r l23 = tt
-own t r l24 = tt
-own t r l26 = tt
-own t r l27 = tt
-own t r l29 = tt
-own t r l30 = refl
-own t r nowhere = tt
+own t r = by-access t r (λ l a. Of (r .cell) a) (λ l. refl) (λ l f h. tt) (λ l f v h. tt) (λ l h. tt) tt refl tt
 
 module _ (s : State) (p : List ℕ) (k : ℕ) where
   abbrev seen : Access → Touched
@@ -120,9 +113,6 @@ module _ (s : State) (p : List ℕ) (k : ℕ) where
 
   abbrev back : Touched → Memory
   back x = memory (moved s k (x .current) (x .last)) (x .pool) (x .value)
-
-  kept : moved s k (current s k) (s .last) ≡ s
-  kept = rw (set-getD (s .current) k 0)
 
   same : (a : Access) → Of k a → perform s p a ≡ back (seen a)
   same (LoadCell j) e = rw (e, set-getD (s .current) k 0)
@@ -156,3 +146,19 @@ ran-turn s p t r =
     let x = seen s p k (accessOf t r) in
     ap (λ (m : Memory). followed m t (nextOf t r (m .value))) (same s p k (accessOf t r) (own t r (lineOf r)))
     ∙ follows s p k t x (nextOf t r (x .value))
+
+-- ONLY LINE 29 ASKS FOR AN UNUSED BLOCK
+
+-- a record of a swap at the same line tells the number
+at-29 : (r : Record) → lineOf r ≡ l29 → r .line ≡ 29
+at-29 r e =
+    let q : Record = record { line = r .line; wanted = r .wanted; kind = 2; cell = 0; expected = 0; new = 1; held = 0; taken = 0; loaded = 0; steps = 0; hard = 0 } in
+    let n : r .line ≡ number (lineOf r) = at-number q (rw e) in
+    n ∙ rw e
+
+pub turn-free : (p : List ℕ) (t : ℕ) (r : Record) (c l : ℕ) (f g : Option ℕ) → (r .line ≡ 29 → ⊥) → turn p t r c l f ≡ turn p t r c l g
+unfolding turn
+turn-free p t r c l f g n =
+    let Same : Line → Access → Type 0 = λ i a. lineOf r ≡ i → performed p c l f a ≡ performed p c l g a in
+    let same : (i : Line) → Same i (accessAt i t r) = by-access t r Same (λ i e. refl) (λ i x h e. refl) (λ i x v h e. refl) (λ i h e. refl) (λ e. absurd (n (at-29 r e))) (λ e. refl) (λ e. refl) in
+    ap (λ (m : Touched). ending m (nextOf t r (m .value))) (same (lineOf r) refl)

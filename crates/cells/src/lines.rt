@@ -4,8 +4,9 @@ ghost use mathlib.Core.Bool.{_||_};
 ghost use Prim.Native.Nat.{ℕ, _≤_};
 ghost use lib.Dec.{eqb};
 ghost use Rattle.cells.specs.Lines.{l3, l21, deciding, lineOf, accessOf, nextAt, counted, hardware, goto, decide, hold, load, take, answer, readAnswer};
-
-use crate::{Answer, Finished, Record};
+use crate::Answer;
+use crate::Finished;
+use crate::Record;
 
 // The five words of a block, in their order.
 pub enum Field {
@@ -213,7 +214,11 @@ fn read_answer(r: Record, v: u32) -> Answer
     ensures { λ a. ⌜ a ≡ readAnswer r v ⌝ }
 {
     if r.kind == 2 {
-        if v == r.expected { Answer::Yes } else { Answer::No }
+        if v == r.expected {
+            Answer::Yes
+        } else {
+            Answer::No
+        }
     } else {
         Answer::Value(v)
     }
@@ -256,10 +261,18 @@ fn next_decided(r: Record, v: u32) -> Next
     match wanted {
         13 => answer(r, read_answer(r, v)),
         25 => {
-            if v == r.new { answer(r, Answer::Yes) } else { decide(r, 28) }
+            if v == r.new {
+                answer(r, Answer::Yes)
+            } else {
+                decide(r, 28)
+            }
         }
         28 => {
-            if v == r.expected { goto(r, 29) } else { answer(r, Answer::No) }
+            if v == r.expected {
+                goto(r, 29)
+            } else {
+                answer(r, Answer::No)
+            }
         }
         _ => Next::Go(r),
     }
@@ -274,7 +287,11 @@ fn next_read(r: Record, v: u32) -> Next
         10 => hold(r, 11, v),
         11 => load(r, 12, v),
         _ => {
-            if v == 0 { answer(r, read_answer(r, r.loaded)) } else { decide(r, 13) }
+            if v == 0 {
+                answer(r, read_answer(r, r.loaded))
+            } else {
+                decide(r, 13)
+            }
         }
     }
 }
@@ -287,20 +304,14 @@ fn next_swap(task: u32, r: Record, v: u32) -> Next
     match line {
         15 => hold(r, 16, v),
         16 => goto(r, 17),
-        17 => {
-            if v == 0 { goto(r, 18) } else { goto(r, 27) }
-        }
+        17 => { if v == 0 { goto(r, 18) } else { goto(r, 27) } }
         18 => goto(r, 19),
-        19 => {
-            if v == task { goto(r, 20) } else { goto(r, 27) }
-        }
+        19 => { if v == task { goto(r, 20) } else { goto(r, 27) } }
         20 => load(r, 21, v),
         21 => next_compared(r, v),
         22 => answer(r, Answer::No),
         23 => goto(r, 24),
-        _ => {
-            if v == 0 { goto(r, 26) } else { decide(r, 25) }
-        }
+        _ => { if v == 0 { goto(r, 26) } else { decide(r, 25) } }
     }
 }
 
@@ -327,7 +338,11 @@ fn next_install(r: Record, v: u32) -> Next
         27 => decide(r, 28),
         29 => take(r, 30, v),
         30 => {
-            if v == 1 { answer(r, Answer::Yes) } else { answer(r, Answer::No) }
+            if v == 1 {
+                answer(r, Answer::Yes)
+            } else {
+                answer(r, Answer::No)
+            }
         }
         _ => Next::Go(r),
     }

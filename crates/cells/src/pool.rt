@@ -6,7 +6,6 @@ ghost use lib.ListN.{length, set};
 ghost use Rattle.cells.specs.declared.lines.Access.the-variants.{DecideCas};
 ghost use Rattle.cells.specs.Pool.{offset, word, setWord, fill};
 ghost use Rattle.cells.specs.Turn.{touched, performed};
-
 use crate::lines::Field;
 
 // The value that is none.

@@ -3,10 +3,18 @@ ghost use mathlib.Core.Path.{_≡_};
 ghost use lib.ListN.{length};
 ghost use Rattle.cells.specs.Record.{idle};
 ghost use Rattle.cells.specs.Turn.{foundOf, touched, filling, performed, turned, turn, Reaches, There, Ready};
-
-use crate::lines::{Access, Next, access_of, counted, next_of};
-use crate::pool::{NONE, decide_cas, fill, load, store};
-use crate::{Outcome, Record};
+use crate::Outcome;
+use crate::Record;
+use crate::lines::Access;
+use crate::lines::Next;
+use crate::lines::access_of;
+use crate::lines::counted;
+use crate::lines::next_of;
+use crate::pool::NONE;
+use crate::pool::decide_cas;
+use crate::pool::fill;
+use crate::pool::load;
+use crate::pool::store;
 
 // What the search for an unused block answers.
 pub enum Found {
@@ -29,7 +37,14 @@ pub struct Touch {
     pub value: u32,
 }
 
-pub fn take_turn(pool: &mut [u32], task: u32, r: Record, current: u32, last: u32, free: Found) -> Turn
+pub fn take_turn(
+    pool: &mut [u32],
+    task: u32,
+    r: Record,
+    current: u32,
+    last: u32,
+    free: Found,
+) -> Turn
     requires { ⌜ Ready (length (now pool)) task r × There (length (now pool)) (foundOf free) ⌝ }
     ensures { λ n. ⌜ turned (n .record) (n .current) (n .last) (now (pool .exit)) (n .outcome) ≡ turn (now (pool .entry)) task r current last (foundOf free) ⌝ }
 {
@@ -57,22 +72,32 @@ fn perform(pool: &mut [u32], a: Access, current: u32, last: u32, free: Found) ->
     ensures { λ m. ⌜ touched (now (pool .exit)) (m .current) (m .last) (m .value) ≡ performed (now (pool .entry)) current last (foundOf free) a ⌝ }
 {
     match a {
-        Access::LoadCell(_) => Touch { current, last, value: current },
-        Access::Load(b, f) => Touch { current, last, value: load(pool, b, f) },
+        Access::LoadCell(_) => leave(current, last, current),
+        Access::Load(b, f) => leave(current, last, load(pool, b, f)),
         Access::Store(b, f, v) => {
             store(pool, b, f, v);
-            Touch { current, last, value: 0 }
+            leave(current, last, 0)
         }
-        Access::DecideCas(b, v) => Touch { current, last, value: decide_cas(pool, b, v) },
+        Access::DecideCas(b, v) => leave(current, last, decide_cas(pool, b, v)),
         Access::InstallCas(_, from, to) => {
             if current == from {
-                Touch { current: to, last, value: 1 }
+                leave(to, last, 1)
             } else {
-                Touch { current, last, value: 0 }
+                leave(current, last, 0)
             }
         }
         Access::Allocate(v) => allocate(pool, free, current, last, v),
-        Access::Nothing => Touch { current, last, value: 0 },
+        Access::Nothing => leave(current, last, 0),
+    }
+}
+
+fn leave(current: u32, last: u32, value: u32) -> Touch
+    ensures { λ m. ⌜ m ≡ record { current = current; last = last; value = value } ⌝ }
+{
+    Touch {
+        current,
+        last,
+        value,
     }
 }
 
@@ -83,9 +108,9 @@ fn allocate(pool: &mut [u32], free: Found, current: u32, last: u32, v: u32) -> T
     match free {
         Found::At(b) => {
             fill(pool, b, v);
-            Touch { current, last: b, value: b }
+            leave(current, b, b)
         }
-        Found::Nowhere => Touch { current, last, value: NONE },
+        Found::Nowhere => leave(current, last, NONE),
     }
 }
 

@@ -8,7 +8,9 @@ allocate-spec =
     (tie.spec
     (λ c. search needs)
     (λ c κs. rw (c .before .before .free .given .1) at (c .before .before .before .before .before .pre))
+    (λ c κs. search needs)
     (λ c. search needs)
+    (λ c κs. search needs)
     (λ c. search needs)
-    (λ c. rw (c .before .before .before .before .before .free .given .1, c .before .before .fill .ensures))
-    (λ c. rw (c .enum-told .given .1)))
+    (λ c. rw (c .before .before .before .before .before .before .free .given .1, c .before .before .before .fill .ensures, c .leave .ensures))
+    (λ c. rw (c .before .enum-told .given .1, c .leave2 .ensures)))
