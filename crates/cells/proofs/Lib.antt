@@ -4,3 +4,6 @@ pub mod Unused
 pub mod Numbers
 pub mod Words
 pub mod Cases
+pub mod Ranges
+pub mod Parts
+pub mod TurnLaw

@@ -9,3 +9,4 @@ pub mod Begin
 pub mod Step
 pub mod Look
 pub mod Paths
+pub mod Turn

@@ -2,6 +2,8 @@
 // what the entries do is defined in specs/.
 mod lines;
 mod paths;
+mod pool;
+mod turn;
 
 // What a task's pending call is about to do, and with what. Idle: line 0; an opening and a finished call leave every
 // other field 0 too.
