@@ -1,6 +1,9 @@
 // Shared compare-and-swap cells after figure 2 of Luchangco, Moir and Shavit. The types of the entries;
 // what the entries do is defined in specs/.
+mod blocks;
 mod lines;
+mod questions;
+mod records;
 
 // What a task's pending call is about to do, and with what. Idle: line 0, and every other field 0.
 pub struct Record {
