@@ -3,3 +3,7 @@ pub mod Counting
 pub mod Unused
 pub mod Numbers
 pub mod Words
+pub mod Loops
+pub mod Ranges
+pub mod Refusals
+pub mod Fits

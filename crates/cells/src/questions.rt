@@ -199,5 +199,5 @@ pub fn swap_refusal(fits: bool, tasks: u32, cells: u32, r: Record, task: u32, ce
     if n != 0 {
         return n;
     }
-    if (expected == NO_VALUE) | (new == NO_VALUE) { 10 } else { 0 }
+    if !(expected == NO_VALUE) & !(new == NO_VALUE) { 0 } else { 10 }
 }
