@@ -26,7 +26,7 @@ module _ (s : State) (p : List ℕ) where
 
   pub grouped : fit s p ≡ sizesOk && ((cellsFit s && ltb (s .last) (s .blocks)) && recordsFit s)
   unfolding fit
-  grouped = regroup _ _ _ _ _ _
+  grouped = regroup (tasksOk (s .tasks)) (cellsOk (s .cells)) (blocksOk (s .tasks) (s .cells) (s .blocks) (length p)) (cellsFit s) (ltb (s .last) (s .blocks)) (recordsFit s)
 
   pub sizes-below : sizesOk ≡ true → (s .tasks ≤ 32) × (s .cells ≤ 16)
   sizes-below e =

@@ -7,3 +7,4 @@ pub mod Loops
 pub mod Ranges
 pub mod Refusals
 pub mod Fits
+pub mod Search

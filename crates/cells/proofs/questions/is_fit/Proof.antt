@@ -1,13 +1,14 @@
 use mathlib.Core.Path.{_≡_, sym, _∙_}
-use mathlib.Core.Bool.{Bool, true}
+use mathlib.Core.Bool.{Bool, true, false, _&&_}
 use Prim.Native.Nat.{ℕ, _≤_, _-_}
 use native.Mathlib.Nat.{sub-zero}
+use lib.Dec.{ltb}
 use denote.Ref.{now}
 use borrow.Author.Tests.{not-true, not-false}
 use Rattle.cells.specs.declared.State.{State}
 use Rattle.cells.specs.Basics.{allFrom}
 use Rattle.cells.specs.Record.{recordAt}
-use Rattle.cells.specs.Questions.{recordFit, fit}
+use Rattle.cells.specs.Questions.{recordFit, cellsFit, recordsFit, fit}
 use Rattle.cells.proofs.Loops.{all-no, all-yes, all-end}
 use Rattle.cells.proofs.Fits.{sizesOk, grouped, sizes-below}
 use borrow.Author.Needs.{needs}
@@ -34,19 +35,39 @@ blocks-ok-requires : tie.Need-blocks-ok-requires Inv-loop μ-loop
 blocks-ok-requires c κs = search needs
 
 returns : tie.Need-returns Inv-loop μ-loop
-returns c = ?
+returns c =
+    let s = c .before .before .before .before .before .args .t1 in
+    let p = now (c .before .before .before .before .before .args .pool) in
+    let e : sizesOk s p ≡ false = rw (← c .before .before .before .tasks-ok .ensures, ← c .before .before .cells-ok .ensures, ← c .before .blocks-ok .ensures) (not-true _ (c .if1 .taken)) in
+    sym (grouped s p ∙ rw e)
 
 cells-fit-requires : tie.Need-cells-fit-requires Inv-loop μ-loop
-cells-fit-requires c κs = ?
+cells-fit-requires c κs =
+    let s = c .before .before .before .before .before .before .before .args .t1 in
+    let p = now (c .before .before .before .before .before .before .before .args .pool) in
+    let e : sizesOk s p ≡ true = rw (← c .before .before .before .before .before .tasks-ok .ensures, ← c .before .before .before .before .cells-ok .ensures, ← c .before .before .before .blocks-ok .ensures) (not-false _ (c .before .before .if1 .left)) in
+    sizes-below s p e .1
 
 returns-2 : tie.Need-returns-2 Inv-loop μ-loop
-returns-2 c = ?
+unfolding cellsFit
+returns-2 c =
+    let s = c .before .before .before .before .before .before .before .before .before .args .t1 in
+    let p = now (c .before .before .before .before .before .before .before .before .before .args .pool) in
+    let e : sizesOk s p ≡ true = rw (← c .before .before .before .before .before .before .before .tasks-ok .ensures, ← c .before .before .before .before .before .before .cells-ok .ensures, ← c .before .before .before .before .before .blocks-ok .ensures) (not-false _ (c .before .before .before .before .if1 .left)) in
+    let d : cellsFit s && ltb (s .last) (s .blocks) ≡ false = rw (← c .before .cells-fit .ensures) (not-true _ (c .if2 .taken)) in
+    sym (grouped s p ∙ rw (e, d))
 
 cast-n : tie.Need-cast-n Inv-loop μ-loop
 cast-n c = omega arith
 
 loop-holds : tie.Need-loop-holds Inv-loop μ-loop
-loop-holds c = (search needs, ?, rw sub-zero ?)
+unfolding cellsFit recordsFit
+loop-holds c =
+    let s = c .before .before .before .before .before .before .before .before .before .args .t1 in
+    let p = now (c .before .before .before .before .before .before .before .before .before .args .pool) in
+    let e : sizesOk s p ≡ true = rw (← c .before .before .before .before .before .before .before .tasks-ok .ensures, ← c .before .before .before .before .before .before .cells-ok .ensures, ← c .before .before .before .before .before .blocks-ok .ensures) (not-false _ (c .before .before .before .before .if1 .left)) in
+    let d : cellsFit s && ltb (s .last) (s .blocks) ≡ true = rw (← c .before .cells-fit .ensures) (not-false _ (c .if2 .left)) in
+    (search needs, sizes-below s p e .0, rw sub-zero (sym (grouped s p ∙ rw (e, d))))
 
 mul-r : tie.Need-mul-r Inv-loop μ-loop
 mul-r c = omega arith
