@@ -8,3 +8,6 @@ pub mod Ranges
 pub mod Refusals
 pub mod Fits
 pub mod Search
+pub mod Replies
+pub mod BlockParts
+pub mod Filling

@@ -1,7 +1,7 @@
 // A task's record.
 ghost use mathlib.Core.Path.{_≡_};
 ghost use Rattle.cells.specs.Record.{idle};
-ghost use Rattle.cells.specs.Begin.{first};
+ghost use Rattle.cells.specs.Begin.{first, firstRead, firstSwap};
 
 use crate::Record;
 
@@ -16,7 +16,7 @@ pub fn idle() -> Record
 }
 
 // Of a task whose call begins.
-pub fn first(line: u32, kind: u32, cell: u32, expected: u32, new: u32) -> Record
+fn first(line: u32, kind: u32, cell: u32, expected: u32, new: u32) -> Record
     ensures { λ r. ⌜ r ≡ first line kind cell expected new ⌝ }
 {
     Record {
@@ -32,4 +32,20 @@ pub fn first(line: u32, kind: u32, cell: u32, expected: u32, new: u32) -> Record
         steps: 0,
         hard: 0,
     }
+}
+
+pub fn first_read(cell: u32) -> Record
+    ensures { λ r. ⌜ r ≡ firstRead cell ⌝ }
+{
+    first(10, 1, cell, 0, 0)
+}
+
+// A swap of equal values reads.
+pub fn first_swap(cell: u32, expected: u32, new: u32) -> Record
+    ensures { λ r. ⌜ r ≡ firstSwap cell expected new ⌝ }
+{
+    if expected == new {
+        return first(10, 2, cell, expected, new);
+    }
+    first(15, 2, cell, expected, new)
 }
