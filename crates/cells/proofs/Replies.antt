@@ -18,23 +18,26 @@ use Rattle.cells.proofs.Tests.{answers, all-yes, nth, within-true, bloc
 use Rattle.cells.proofs.Refusals.{numbered, unrefused, refused}
 use Rattle.cells.proofs.Fits.{sizes}
 
-module _ (s : State) (p : List ℕ) (l : List Question) (a : After) (n : ℕ) (e : n ≡ Option·getD (refusal l) 0) where
-  pub is-refused : (n ≡ 0 → ⊥) → leaving s p (Refused n) ≡ unless (refusal l) s p a
-  is-refused h = rw (refused (refusal l) (λ z. h (e ∙ z)), ← e)
+module _ (l : List Question) (n : ℕ) (e : n ≡ Option·getD (refusal l) 0) where
+  pub is-refused : (n ≡ 0 → ⊥) → (s : State) (p : List ℕ) (a : After) → leaving s p (Refused n) ≡ unless (refusal l) s p a
+  is-refused h s p a = rw (refused (refusal l) (λ z. h (e ∙ z)), ← e)
 
-  pub is-open : numbered l ≡ true → n ≡ 0 → refusal l ≡ none
-  is-open h z = unrefused l h (sym e ∙ z)
+  pub is-allowed : n ≡ 0 → numbered l ≡ true → refusal l ≡ none
+  is-allowed z h = unrefused l h (sym e ∙ z)
 
 yes-at : (l : List Question) → refusal l ≡ none → (k : ℕ) → getD (answers l) k true ≡ true
 yes-at l e = nth (answers l) (all-yes l e)
 
 -- the record is asked about only of a task of a fit state
-pub asked-of : (x y : Bool) (q r : Record) (l : Record → List Question) → (((x && y) ≡ true) × (q ≡ r)) ⊎ ((x && y) ≡ false)
-    → refusal ((6, x) ∷ (7, y) ∷ l q) ≡ refusal ((6, x) ∷ (7, y) ∷ l r)
-asked-of x y q r l (inl w) = rw (w .1)
-asked-of false y q r l (inr e) = refl
-asked-of true false q r l (inr e) = refl
-asked-of true true q r l (inr e) = absurd (false≢true (sym e))
+pub asked-of : (x f y : Bool) (q r : Record) (l : Record → List Question) → x ≡ f → (((x && y) ≡ true) × (q ≡ r)) ⊎ ((x && y) ≡ false)
+    → refusal ((6, x) ∷ (7, y) ∷ l q) ≡ refusal ((6, f) ∷ (7, y) ∷ l r)
+asked-of x f y q r l h d = go x y d ∙ rw h
+  where
+    go : (x y : Bool) → (((x && y) ≡ true) × (q ≡ r)) ⊎ ((x && y) ≡ false) → refusal ((6, x) ∷ (7, y) ∷ l q) ≡ refusal ((6, x) ∷ (7, y) ∷ l r)
+    go x y (inl w) = rw (w .1)
+    go false y (inr e) = refl
+    go true false (inr e) = refl
+    go true true (inr e) = absurd (false≢true (sym e))
 
 module _ (s : State) (p : List ℕ) (t : ℕ) where
   pub task-below : (x : Bool) → x ≡ fit s p → (x && ltb t (s .tasks)) ≡ true → t < 32
