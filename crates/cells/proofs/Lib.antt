@@ -11,3 +11,4 @@ pub mod Search
 pub mod Replies
 pub mod BlockParts
 pub mod Filling
+pub mod Acts
