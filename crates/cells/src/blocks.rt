@@ -5,8 +5,8 @@ ghost use lib.ListN.{getD};
 ghost use Prim.Native.Nat.{_≤_, _<_};
 ghost use Rattle.cells.specs.Basics.{anyFrom};
 ghost use Rattle.cells.specs.Blocks.{usesBlock, used, after, unused, foundOf};
-
-use crate::{Record, State};
+use crate::Record;
+use crate::State;
 
 pub enum Found {
     At(u32),

@@ -8,12 +8,12 @@ ghost use Rattle.cells.specs.Open.{opened, leaving};
 ghost use Rattle.cells.specs.Begin.{readBegun, swapBegun};
 ghost use Rattle.cells.specs.Look.{looked, shownValue};
 
+mod block_words;
 mod blocks;
 mod lines;
 mod opening;
 mod questions;
 mod records;
-mod block_words;
 
 use lines::Field;
 use records::NO_VALUE;
@@ -84,16 +84,29 @@ pub struct Reply {
     pub outcome: Outcome,
 }
 
-pub fn open(s: State, pool: &mut [u32], tasks: u32, cells: u32, blocks: u32, values: &[u32]) -> Reply
+pub fn open(
+    s: State,
+    pool: &mut [u32],
+    tasks: u32,
+    cells: u32,
+    blocks: u32,
+    values: &[u32],
+) -> Reply
     ensures { λ r. ⌜ leaving (r .state) (now (pool .exit)) (r .outcome) ≡ opened s (now (pool .entry)) tasks cells blocks (now (values .entry)) ⌝ }
 {
     let n = questions::open_refusal(pool.len(), tasks, cells, blocks, values);
     if n != 0 {
-        return Reply { state: s, outcome: Outcome::Refused(n) };
+        return Reply {
+            state: s,
+            outcome: Outcome::Refused(n),
+        };
     }
     opening::clear(pool);
     opening::fill_blocks(pool, values);
-    Reply { state: opening::open_state(tasks, cells, blocks), outcome: Outcome::Acted }
+    Reply {
+        state: opening::open_state(tasks, cells, blocks),
+        outcome: Outcome::Acted,
+    }
 }
 
 pub fn begin_read(mut s: State, pool: &[u32], task: u32, cell: u32) -> Reply
@@ -101,27 +114,54 @@ pub fn begin_read(mut s: State, pool: &[u32], task: u32, cell: u32) -> Reply
 {
     let t = task as usize;
     let fit = questions::is_fit(s, pool);
-    let r = if fit & (task < s.tasks) { s.records[t] } else { records::idle() };
+    let r = if fit & (task < s.tasks) {
+        s.records[t]
+    } else {
+        records::idle()
+    };
     let n = questions::begin_refusal(fit, s.tasks, s.cells, r, task, cell);
     if n != 0 {
-        return Reply { state: s, outcome: Outcome::Refused(n) };
+        return Reply {
+            state: s,
+            outcome: Outcome::Refused(n),
+        };
     }
     s.records[t] = records::first_read(cell);
-    Reply { state: s, outcome: Outcome::Acted }
+    Reply {
+        state: s,
+        outcome: Outcome::Acted,
+    }
 }
 
-pub fn begin_swap(mut s: State, pool: &[u32], task: u32, cell: u32, expected: u32, new: u32) -> Reply
+pub fn begin_swap(
+    mut s: State,
+    pool: &[u32],
+    task: u32,
+    cell: u32,
+    expected: u32,
+    new: u32,
+) -> Reply
     ensures { λ r. ⌜ leaving (r .state) (now (pool .entry)) (r .outcome) ≡ swapBegun s (now (pool .entry)) task cell expected new ⌝ }
 {
     let t = task as usize;
     let fit = questions::is_fit(s, pool);
-    let r = if fit & (task < s.tasks) { s.records[t] } else { records::idle() };
+    let r = if fit & (task < s.tasks) {
+        s.records[t]
+    } else {
+        records::idle()
+    };
     let n = questions::swap_refusal(fit, s.tasks, s.cells, r, task, cell, expected, new);
     if n != 0 {
-        return Reply { state: s, outcome: Outcome::Refused(n) };
+        return Reply {
+            state: s,
+            outcome: Outcome::Refused(n),
+        };
     }
     s.records[t] = records::first_swap(cell, expected, new);
-    Reply { state: s, outcome: Outcome::Acted }
+    Reply {
+        state: s,
+        outcome: Outcome::Acted,
+    }
 }
 
 // What a read of the block would find.

@@ -3,10 +3,9 @@ ghost use mathlib.Core.Path.{_≡_};
 ghost use Prim.Native.Nat.{_*_, _≤_};
 ghost use lib.ListN.{length, replicate};
 ghost use Rattle.cells.specs.Open.{filled, openState};
-
-use crate::records::idle;
-use crate::block_words::fill;
 use crate::State;
+use crate::block_words::fill;
+use crate::records::idle;
 
 pub fn open_state(tasks: u32, cells: u32, blocks: u32) -> State
     requires { ⌜ 1 ≤ cells ⌝ }

@@ -8,9 +8,9 @@ ghost use lib.ListN.{getD};
 ghost use Prim.Native.Nat.{_≤_};
 ghost use Rattle.cells.specs.Basics.{allFrom};
 ghost use Rattle.cells.specs.Questions.{refusal, tasksOk, cellsOk, blocksOk, hasNone, openQuestions, reads, swaps, lineFit, blocksFit, valuesFit, recordFit, fit, beginQuestions, swapQuestions};
-
+use crate::Record;
+use crate::State;
 use crate::records::NO_VALUE;
-use crate::{Record, State};
 
 fn tasks_ok(tasks: u32) -> bool
     ensures { λ b. ⌜ b ≡ tasksOk tasks ⌝ }
@@ -157,7 +157,8 @@ fn cells_fit(current: &[u32; 16], cells: u32, blocks: u32) -> bool
 pub fn is_fit(s: State, pool: &[u32]) -> bool
     ensures { λ b. ⌜ b ≡ fit s (now (pool .entry)) ⌝ }
 {
-    if !(tasks_ok(s.tasks) & (cells_ok(s.cells) & blocks_ok(s.tasks, s.cells, s.blocks, pool.len()))) {
+    if !(tasks_ok(s.tasks)
+        & (cells_ok(s.cells) & blocks_ok(s.tasks, s.cells, s.blocks, pool.len()))) {
         return false;
     }
     if !(cells_fit(&s.current, s.cells, s.blocks) & (s.last < s.blocks)) {
@@ -192,12 +193,25 @@ pub fn begin_refusal(fits: bool, tasks: u32, cells: u32, r: Record, task: u32, c
     if r.line == 0 { 0 } else { 9 }
 }
 
-pub fn swap_refusal(fits: bool, tasks: u32, cells: u32, r: Record, task: u32, cell: u32, expected: u32, new: u32) -> u32
+pub fn swap_refusal(
+    fits: bool,
+    tasks: u32,
+    cells: u32,
+    r: Record,
+    task: u32,
+    cell: u32,
+    expected: u32,
+    new: u32,
+) -> u32
     ensures { λ n. ⌜ n ≡ Option·getD (refusal ((6, fits) ∷ swapQuestions tasks cells r task cell expected new)) 0 ⌝ }
 {
     let n = begin_refusal(fits, tasks, cells, r, task, cell);
     if n != 0 {
         return n;
     }
-    if !(expected == NO_VALUE) & !(new == NO_VALUE) { 0 } else { 10 }
+    if !(expected == NO_VALUE) & !(new == NO_VALUE) {
+        0
+    } else {
+        10
+    }
 }

@@ -2,7 +2,6 @@
 ghost use mathlib.Core.Path.{_≡_};
 ghost use Rattle.cells.specs.Record.{idle};
 ghost use Rattle.cells.specs.Begin.{first, firstRead, firstSwap};
-
 use crate::Record;
 
 // The reserved value.
