@@ -4,9 +4,9 @@ use mathlib.Core.Bool.{Bool, true, false, _&&_, and-true, and-eq-true-iff}
 use mathlib.Core.List.{List, [], _∷_}
 use Prim.Native.Nat.{ℕ, _*_, _≤_, _<_, _+_}
 use native.Mathlib.Omega.{arith}
-use lib.Dec.{leb, ltb}
+use lib.Dec.{ltb}
 use lib.ListN.{getD, length}
-use borrow.Author.Tests.{leb-true, ltb-true}
+use borrow.Author.Tests.{ltb-true}
 use Rattle.cells.specs.declared.State.{State}
 use Rattle.cells.specs.Basics.{ands}
 use Rattle.cells.specs.Questions.{tasksOk, cellsOk, blocksOk, cellsFit, recordsFit, fit, fitTests}

@@ -114,6 +114,7 @@ pub fn begin_read(mut s: State, pool: &[u32], task: u32, cell: u32) -> Reply
 {
     let t = task as usize;
     let fit = questions::is_fit(s, pool);
+    // Only a task of a fit state has a record to ask about.
     let r = if fit & (task < s.tasks) {
         s.records[t]
     } else {
@@ -145,6 +146,7 @@ pub fn begin_swap(
 {
     let t = task as usize;
     let fit = questions::is_fit(s, pool);
+    // Only a task of a fit state has a record to ask about.
     let r = if fit & (task < s.tasks) {
         s.records[t]
     } else {

@@ -7,7 +7,7 @@ ghost use lib.Dec.{eqb, ltb};
 ghost use lib.ListN.{getD};
 ghost use Prim.Native.Nat.{_≤_};
 ghost use Rattle.cells.specs.Basics.{allFrom};
-ghost use Rattle.cells.specs.Questions.{refusal, tasksOk, cellsOk, blocksOk, hasNone, openQuestions, reads, swaps, lineFit, blocksFit, valuesFit, recordFit, fit, beginQuestions, swapQuestions};
+ghost use Rattle.cells.specs.Questions.{refusal, tasksOk, cellsOk, blocksOk, hasNone, openQuestions, reads, swaps, lineFit, blocksFit, valuesFit, recordFit, fit, beginQuestions, swapQuestions, stepQuestions};
 use crate::Record;
 use crate::State;
 use crate::records::NO_VALUE;
@@ -176,7 +176,7 @@ pub fn is_fit(s: State, pool: &[u32]) -> bool
     true
 }
 
-// BEGIN, of a state of which is known whether it is fit, and the task's record
+// BEGIN AND STEP, of a state of which is known whether it is fit, and the task's record
 
 pub fn begin_refusal(fits: bool, tasks: u32, cells: u32, r: Record, task: u32, cell: u32) -> u32
     ensures { λ n. ⌜ n ≡ Option·getD (refusal ((6, fits) ∷ beginQuestions tasks cells r task cell)) 0 ⌝ }
@@ -214,4 +214,16 @@ pub fn swap_refusal(
     } else {
         10
     }
+}
+
+pub fn step_refusal(fits: bool, tasks: u32, r: Record, task: u32) -> u32
+    ensures { λ n. ⌜ n ≡ Option·getD (refusal ((6, fits) ∷ stepQuestions tasks r task)) 0 ⌝ }
+{
+    if !fits {
+        return 6;
+    }
+    if tasks <= task {
+        return 7;
+    }
+    if r.line == 0 { 11 } else { 0 }
 }

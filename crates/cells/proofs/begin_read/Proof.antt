@@ -1,3 +1,4 @@
+-- The code's number is that of the definition's questions: by it the entry refuses or acts.
 use mathlib.Core.Path.{_≡_, refl, ap, _∙_}
 use mathlib.Core.Logic.{inl, inr, ⊎-elim}
 use mathlib.Core.Option.{Option, Option·getD}

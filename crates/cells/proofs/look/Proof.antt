@@ -1,3 +1,4 @@
+-- Each return by the tests that led to it; a fit state says where the block lies.
 use mathlib.Core.Path.{sym, _∙_}
 use denote.Ref.{now}
 use borrow.Author.Tests.{not-true, not-false, lt-ltb, le-ltb}

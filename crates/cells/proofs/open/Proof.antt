@@ -1,3 +1,4 @@
+-- The code's number is that of the definition's questions: by it the entry refuses or acts.
 use mathlib.Core.Path.{_≡_, refl}
 use mathlib.Core.Option.{none}
 use native.Mathlib.Omega.{arith}

@@ -1,3 +1,4 @@
+-- Each return by the tests that led to it.
 use mathlib.Core.Path.{_∙_}
 use borrow.Author.Tests.{eq-eqb, ne-eqb}
 use borrow.Author.Needs.{needs}

@@ -1,3 +1,4 @@
+-- The part that is lent starts at the block.
 use denote.Ref.{now}
 use Rattle.cells.proofs.BlockParts.{filled-part}
 use borrow.Author.Needs.{needs}

@@ -1,3 +1,4 @@
+-- A store keeps the length.
 use lib.ListN.{length-set}
 use borrow.Author.Needs.{needs}
 use native.Mathlib.Omega.{arith}

@@ -1,4 +1,4 @@
-use mathlib.Core.Path.{ap, sym}
+-- Each offset is below five.
 use Rattle.cells.proofs.Words.{offset-small}
 use borrow.Author.Needs.{needs}
 use native.Mathlib.Omega.{arith}

@@ -1,3 +1,4 @@
+-- Each return by the test that led to it.
 use borrow.Author.Tests.{eq-eqb, ne-eqb}
 use borrow.Author.Needs.{needs}
 use Rattle.cells.proofs.blocks.block_after.Statement.{statement}

@@ -1,3 +1,4 @@
+-- The loop: what is left from here on answers for the whole.
 use mathlib.Core.Path.{_≡_}
 use mathlib.Core.Bool.{Bool}
 use mathlib.Core.List.{List}

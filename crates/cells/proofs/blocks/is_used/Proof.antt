@@ -1,5 +1,6 @@
+-- The loop: what is left from here on answers for the whole state.
 use mathlib.Core.Path.{_≡_, sym, _∙_}
-use mathlib.Core.Bool.{Bool, true}
+use mathlib.Core.Bool.{Bool}
 use Prim.Native.Nat.{ℕ, _≤_, _-_}
 use native.Mathlib.Nat.{sub-zero}
 use Rattle.cells.specs.declared.State.{State}

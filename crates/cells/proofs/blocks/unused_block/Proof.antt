@@ -1,3 +1,4 @@
+-- The loop: what is left from here on finds what the whole search finds.
 use mathlib.Core.Path.{_≡_, refl, sym, _∙_}
 use Prim.Native.Nat.{_<_}
 use borrow.Author.Tests.{not-true, not-false}

@@ -1,3 +1,4 @@
+-- The loop: zeros up to here, the rest as it was.
 use mathlib.Core.Path.{_≡_, refl, _∙_}
 use mathlib.Core.List.{_++_, append-nil}
 use Prim.Native.Nat.{_≤_, _<_, _-_}

@@ -1,3 +1,4 @@
+-- The loop: what is left to fill from here on gives the whole pool.
 use mathlib.Core.Path.{_≡_, refl, _∙_}
 use Prim.Native.Nat.{_≤_, _-_}
 use lib.ListN.{length, drop}

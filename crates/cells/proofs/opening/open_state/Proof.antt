@@ -1,3 +1,4 @@
+-- Every record is idle.
 use borrow.Author.Needs.{needs}
 use Rattle.cells.proofs.opening.open_state.Statement.{statement}
 use Rattle.cells.proofs.opening.open_state.Tie as tie

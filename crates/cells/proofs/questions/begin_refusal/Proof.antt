@@ -1,3 +1,4 @@
+-- Each return by the tests that led to it.
 use borrow.Author.Tests.{not-true, not-false, lt-ltb, le-ltb, eq-eqb, ne-eqb}
 use Rattle.cells.proofs.questions.begin_refusal.Statement.{statement}
 use Rattle.cells.proofs.questions.begin_refusal.Tie as tie

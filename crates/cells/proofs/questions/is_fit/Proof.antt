@@ -1,3 +1,4 @@
+-- The loop: what is left from here on answers for the whole state.
 use mathlib.Core.Path.{_≡_, sym, _∙_}
 use mathlib.Core.Bool.{Bool, true, false, _&&_}
 use Prim.Native.Nat.{ℕ, _≤_, _-_}
@@ -25,6 +26,9 @@ Inv-loop pool s n t₀ t = (t ≤ n) × (n ≤ 32) × (allFrom (test s) t (n - t
 abbrev μ-loop : tie.MeasureT-loop
 μ-loop pool s n t₀ t = n - t
 
+sizes-ok : (c : tie.Else1 Inv-loop μ-loop) → let a = c .before .before .before .before .before .args in sizesOk (a .t1) (now (a .pool)) ≡ true
+sizes-ok c = rw (← c .before .before .before .tasks-ok .ensures, ← c .before .before .cells-ok .ensures, ← c .before .blocks-ok .ensures) (not-false _ (c .if1 .left))
+
 tasks-ok-requires : tie.Need-tasks-ok-requires Inv-loop μ-loop
 tasks-ok-requires c κs = search needs
 
@@ -42,18 +46,14 @@ returns c =
     sym (grouped s p ∙ rw e)
 
 cells-fit-requires : tie.Need-cells-fit-requires Inv-loop μ-loop
-cells-fit-requires c κs =
-    let s = c .before .before .before .before .before .before .before .args .t1 in
-    let p = now (c .before .before .before .before .before .before .before .args .pool) in
-    let e : sizesOk s p ≡ true = rw (← c .before .before .before .before .before .tasks-ok .ensures, ← c .before .before .before .before .cells-ok .ensures, ← c .before .before .before .blocks-ok .ensures) (not-false _ (c .before .before .if1 .left)) in
-    sizes-below s p e .1
+cells-fit-requires c κs = let a = c .before .before .before .before .before .before .before .args in sizes-below (a .t1) (now (a .pool)) (sizes-ok (c .before .before)) .1
 
 returns-2 : tie.Need-returns-2 Inv-loop μ-loop
 unfolding cellsFit
 returns-2 c =
     let s = c .before .before .before .before .before .before .before .before .before .args .t1 in
     let p = now (c .before .before .before .before .before .before .before .before .before .args .pool) in
-    let e : sizesOk s p ≡ true = rw (← c .before .before .before .before .before .before .before .tasks-ok .ensures, ← c .before .before .before .before .before .before .cells-ok .ensures, ← c .before .before .before .before .before .blocks-ok .ensures) (not-false _ (c .before .before .before .before .if1 .left)) in
+    let e = sizes-ok (c .before .before .before .before) in
     let d : cellsFit s && ltb (s .last) (s .blocks) ≡ false = rw (← c .before .cells-fit .ensures) (not-true _ (c .if2 .taken)) in
     sym (grouped s p ∙ rw (e, d))
 
@@ -65,7 +65,7 @@ unfolding cellsFit recordsFit
 loop-holds c =
     let s = c .before .before .before .before .before .before .before .before .before .args .t1 in
     let p = now (c .before .before .before .before .before .before .before .before .before .args .pool) in
-    let e : sizesOk s p ≡ true = rw (← c .before .before .before .before .before .before .before .tasks-ok .ensures, ← c .before .before .before .before .before .before .cells-ok .ensures, ← c .before .before .before .before .before .blocks-ok .ensures) (not-false _ (c .before .before .before .before .if1 .left)) in
+    let e = sizes-ok (c .before .before .before .before) in
     let d : cellsFit s && ltb (s .last) (s .blocks) ≡ true = rw (← c .before .cells-fit .ensures) (not-false _ (c .if2 .left)) in
     (search needs, sizes-below s p e .0, rw sub-zero (sym (grouped s p ∙ rw (e, d))))
 

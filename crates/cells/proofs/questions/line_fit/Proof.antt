@@ -1,3 +1,4 @@
+-- Each arm by the law of its range.
 use mathlib.Core.Path.{sym, _∙_}
 use Rattle.cells.specs.Questions.{reads, swaps}
 use Rattle.cells.proofs.Ranges.{in-deciding, in-read, in-swap, at-26-27, at-29-30, before-1, before-10, before-15, before-26, before-29, past-30}

@@ -1,3 +1,4 @@
+-- Each return by the tests that led to it.
 use mathlib.Core.Path.{sym, _∙_}
 use borrow.Author.Tests.{not-true, not-false, eq-eqb, ne-eqb}
 use Rattle.cells.specs.Questions.{openQuestions}

@@ -1,3 +1,4 @@
+-- The questions of both begins first, then the swap's own.
 use mathlib.Core.Path.{_≡_, refl, sym, ap, _∙_}
 use mathlib.Core.Bool.{Bool, _&&_, not}
 use mathlib.Core.Option.{Option, Option·getD}

@@ -1,3 +1,4 @@
+-- Each arm by its numbers.
 use mathlib.Core.Logic.{inl, inr, ⊎-elim}
 use borrow.Author.Tests.{ne-eqb}
 use borrow.Author.Needs.{needs}
