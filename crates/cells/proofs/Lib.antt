@@ -7,3 +7,11 @@ pub mod Cases
 pub mod Ranges
 pub mod Parts
 pub mod TurnLaw
+pub mod Loops
+pub mod Refusals
+pub mod Fits
+pub mod Search
+pub mod Replies
+pub mod Filling
+pub mod Acts
+pub mod LineKinds

@@ -13,15 +13,9 @@ use Rattle.cells.specs.declared.lines.Access.{Access}
 use Rattle.cells.specs.declared.lines.Access.the-variants.{LoadCell, Load, Store, DecideCas, InstallCas, Allocate, Nothing}
 use Rattle.cells.specs.declared.lines.Next.{Next}
 use Rattle.cells.specs.declared.lines.Next.the-variants.{Go, Done}
-use Rattle.cells.specs.declared.turn.Found.{Found}
-use Rattle.cells.specs.declared.turn.Found.the-variants.{At, Nowhere}
 use Rattle.cells.specs.Record.{noValue, idle}
 use Rattle.cells.specs.Lines.{accessOf, nextOf}
 use Rattle.cells.specs.Pool.{word, setWord, fill}
-
-abbrev pub foundOf : Found → Option ℕ
-foundOf (At b) = some b
-foundOf Nowhere = none
 
 -- MEMORY
 

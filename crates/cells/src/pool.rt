@@ -7,9 +7,7 @@ ghost use Rattle.cells.specs.declared.lines.Access.the-variants.{DecideC
 ghost use Rattle.cells.specs.Pool.{offset, word, setWord, fill};
 ghost use Rattle.cells.specs.Turn.{touched, performed};
 use crate::lines::Field;
-
-// The value that is none.
-pub const NONE: u32 = 4294967295;
+use crate::records::NO_VALUE;
 
 fn offset(field: Field) -> usize
     ensures { λ n. ⌜ (n ≡ offset field) × (n < 5) ⌝ }
@@ -64,7 +62,7 @@ fn put_block(part: &mut [u32], v: u32)
     part[1] = 0;
     part[2] = 0;
     part[3] = v;
-    part[4] = NONE;
+    part[4] = NO_VALUE;
 }
 
 // The hardware CAS of D, from none: 1 where it succeeds, else 0.
@@ -72,7 +70,7 @@ pub fn decide_cas(pool: &mut [u32], block: u32, v: u32) -> u32
     requires { ⌜ 5 * block + 4 < length (now pool) ⌝ }
     ensures { λ r. ⌜ ((c l : ℕ) → touched (now (pool .exit)) c l r ≡ performed (now (pool .entry)) c l none (DecideCas block v)) ⌝ }
 {
-    if load(pool, block, Field::D) == NONE {
+    if load(pool, block, Field::D) == NO_VALUE {
         store(pool, block, Field::D, v);
         1
     } else {

@@ -2,25 +2,22 @@
 ghost use mathlib.Core.Path.{_≡_};
 ghost use lib.ListN.{length};
 ghost use Rattle.cells.specs.Record.{idle};
-ghost use Rattle.cells.specs.Turn.{foundOf, touched, filling, performed, turned, turn, Reaches, There, Ready};
+ghost use Rattle.cells.specs.Blocks.{foundOf};
+ghost use Rattle.cells.specs.Turn.{touched, filling, performed, turned, turn, Reaches, There, Ready};
 use crate::Outcome;
 use crate::Record;
+use crate::blocks::Found;
 use crate::lines::Access;
 use crate::lines::Next;
 use crate::lines::access_of;
 use crate::lines::counted;
 use crate::lines::next_of;
-use crate::pool::NONE;
 use crate::pool::decide_cas;
 use crate::pool::fill;
 use crate::pool::load;
 use crate::pool::store;
-
-// What the search for an unused block answers.
-pub enum Found {
-    At(u32),
-    Nowhere,
-}
+use crate::records::NO_VALUE;
+use crate::records::idle;
 
 // What a turn leaves besides the pool. The task's cell has the current block.
 pub struct Turn {
@@ -110,24 +107,6 @@ fn allocate(pool: &mut [u32], free: Found, current: u32, last: u32, v: u32) -> T
             fill(pool, b, v);
             leave(current, b, b)
         }
-        Found::Nowhere => leave(current, last, NONE),
-    }
-}
-
-fn idle() -> Record
-    ensures { λ r. ⌜ r ≡ idle ⌝ }
-{
-    Record {
-        line: 0,
-        wanted: 0,
-        kind: 0,
-        cell: 0,
-        expected: 0,
-        new: 0,
-        held: 0,
-        taken: 0,
-        loaded: 0,
-        steps: 0,
-        hard: 0,
+        Found::Nowhere => leave(current, last, NO_VALUE),
     }
 }
