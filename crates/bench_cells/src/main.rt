@@ -1,0 +1,172 @@
+// Steps 32 tasks on 16 cells 60,000 times by a fixed random schedule, and prints one line of totals. bench/cells has the
+// same loop in plain Rust.
+use cells::Answer;
+use cells::Finished;
+use cells::Outcome;
+use cells::Record;
+use cells::Reply;
+use cells::State;
+use libc::STDOUT_FILENO;
+use std::num::wrapping_add_u32;
+
+struct Totals {
+    pub finished: u32,
+    pub yes: u32,
+    pub steps: u32,
+    pub hard: u32,
+    pub sum: u32,
+    pub refused: u32,
+}
+
+fn next_seed(seed: u32) -> u32 {
+    ((seed as u64 * 1664525 + 1013904223) % 4294967296) as u32
+}
+
+fn blank() -> State {
+    let r = Record {
+        line: 0,
+        wanted: 0,
+        kind: 0,
+        cell: 0,
+        expected: 0,
+        new: 0,
+        held: 0,
+        taken: 0,
+        loaded: 0,
+        steps: 0,
+        hard: 0,
+    };
+    State {
+        tasks: 0,
+        cells: 0,
+        blocks: 0,
+        last: 0,
+        current: [0; 16],
+        records: [r; 32],
+    }
+}
+
+fn with_finished(t: Totals, f: Finished) -> Totals {
+    let mut n = t;
+    n.finished = wrapping_add_u32(t.finished, 1);
+    n.steps = wrapping_add_u32(t.steps, f.steps);
+    n.hard = wrapping_add_u32(t.hard, f.hard);
+    let a = f.answer;
+    match a {
+        Answer::Value(v) => {
+            n.sum = wrapping_add_u32(t.sum, v);
+        }
+        Answer::Yes => {
+            n.yes = wrapping_add_u32(t.yes, 1);
+        }
+        Answer::No => {}
+    }
+    n
+}
+
+fn with_outcome(t: Totals, o: Outcome) -> Totals {
+    match o {
+        Outcome::Refused(n) => {
+            let mut m = t;
+            m.refused = wrapping_add_u32(t.refused, 1);
+            m
+        }
+        Outcome::Acted => t,
+        Outcome::Ended(f) => with_finished(t, f),
+    }
+}
+
+fn print(n: u32, end: &[u8]) {
+    io::print_decimal(STDOUT_FILENO, n as u64);
+    io::write_all(STDOUT_FILENO, end);
+}
+
+// The state and the schedule between two entries.
+struct Round {
+    pub state: State,
+    pub totals: Totals,
+    pub seed: u32,
+}
+
+fn begin(s: State, pool: &mut [u32], task: u32, start: u32, t: Totals) -> Round {
+    let first = next_seed(start);
+    let second = next_seed(first);
+    let cell = second / 65536 % 16;
+    if first / 65536 % 2 == 0 {
+        let reply = cells::begin_read(s, pool, task, cell);
+        let outcome = reply.outcome;
+        let state = reply.state;
+        return Round {
+            state,
+            totals: with_outcome(t, outcome),
+            seed: second,
+        };
+    }
+    let third = next_seed(second);
+    let fourth = next_seed(third);
+    let reply = cells::begin_swap(s, pool, task, cell, third / 65536 % 4, fourth / 65536 % 4);
+    let outcome = reply.outcome;
+    let state = reply.state;
+    Round {
+        state,
+        totals: with_outcome(t, outcome),
+        seed: fourth,
+    }
+}
+
+// A task without a call begins one.
+fn turn(s: State, pool: &mut [u32], start: u32, t: Totals) -> Round {
+    let seed = next_seed(start);
+    let task = seed / 65536 % 32;
+    let at = task as usize;
+    let r = s.records[at];
+    if r.line == 0 {
+        return begin(s, pool, task, seed, t);
+    }
+    let reply = cells::step(s, pool, task);
+    let outcome = reply.outcome;
+    let state = reply.state;
+    Round {
+        state,
+        totals: with_outcome(t, outcome),
+        seed,
+    }
+}
+
+fn run(pool: &mut [u32], first: Round) -> Totals {
+    let mut r = first;
+    let mut i: u32 = 0;
+    while i < 60000 {
+        r = turn(r.state, pool, r.seed, r.totals);
+        i += 1;
+    }
+    r.totals
+}
+
+fn main() {
+    let mut pool = [0u32; 400];
+    let opened = cells::open(blank(), &mut pool, 32, 16, 80, &[0; 16]);
+    let state = opened.state;
+    let none = Totals {
+        finished: 0,
+        yes: 0,
+        steps: 0,
+        hard: 0,
+        sum: 0,
+        refused: 0,
+    };
+    let t = run(
+        &mut pool,
+        Round {
+            state,
+            totals: none,
+            seed: 1,
+        },
+    );
+    print(t.finished, b" ");
+    print(t.yes, b" ");
+    print(t.steps, b" ");
+    print(t.hard, b" ");
+    print(t.sum, b" ");
+    print(t.refused, b"\n");
+}
