@@ -3,7 +3,7 @@ ghost use mathlib.Core.Path.{_≡_};
 ghost use mathlib.Core.Bool.{_||_};
 ghost use Prim.Native.Nat.{ℕ, _≤_};
 ghost use lib.Dec.{eqb};
-ghost use Rattle.cells.specs.Lines.{l3, l21, deciding, lineOf, accessOf, nextAt, counted, hardware, goto, decide, hold, load, take, answer, readAnswer};
+ghost use Rattle.cells.specs.Lines.{l3, l21, l30, deciding, lineOf, accessOf, nextAt, counted, hardware, goto, decide, hold, load, take, answer, readAnswer};
 use crate::Answer;
 use crate::Finished;
 use crate::Record;
@@ -337,13 +337,18 @@ fn next_install(r: Record, v: u32) -> Next
         26 => answer(r, Answer::Yes),
         27 => decide(r, 28),
         29 => take(r, 30, v),
-        30 => {
-            if v == 1 {
-                answer(r, Answer::Yes)
-            } else {
-                answer(r, Answer::No)
-            }
-        }
+        30 => next_installed(r, v),
         _ => Next::Go(r),
+    }
+}
+
+// Line 30, whose hardware CAS answered v.
+fn next_installed(r: Record, v: u32) -> Next
+    ensures { λ n. ⌜ ((p : ℕ) → n ≡ nextAt l30 p r v) ⌝ }
+{
+    if v == 1 {
+        answer(r, Answer::Yes)
+    } else {
+        answer(r, Answer::No)
     }
 }

@@ -222,8 +222,9 @@ pub fn step_refusal(fits: bool, tasks: u32, r: Record, task: u32) -> u32
     if !fits {
         return 6;
     }
-    if tasks <= task {
-        return 7;
+    if task < tasks {
+        if r.line == 0 { 11 } else { 0 }
+    } else {
+        7
     }
-    if r.line == 0 { 11 } else { 0 }
 }
