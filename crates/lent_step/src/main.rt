@@ -86,9 +86,10 @@ fn print_outcome(outcome: Outcome) {
 fn print_step(k: Kept) {
     let r = k.record;
     let reply = k.reply;
+    let outcome = reply.outcome;
     print(b"line ", r.line);
     io::write_all(1, b": ");
-    print_outcome(reply.outcome);
+    print_outcome(outcome);
     io::write_all(1, b"\n");
 }
 
