@@ -2,7 +2,12 @@
 ghost use mathlib.Core.Path.{_≡_};
 ghost use Rattle.cells.specs.Open.{leaving};
 ghost use Rattle.cells.specs.Lent.{lent, steppedLent};
-use cells::{Answer, Finished, Outcome, Record, Reply, State};
+use cells::Answer;
+use cells::Finished;
+use cells::Outcome;
+use cells::Record;
+use cells::Reply;
+use cells::State;
 
 // A reply, and the record that was lent.
 struct Kept {
@@ -93,9 +98,22 @@ fn print_step(k: Kept) {
     io::write_all(1, b"\n");
 }
 
+// THE STEPS
+
 fn step_and_print(s: State, pool: &mut [u32], task: u32, r: Record) -> Kept {
     let k = lend(s, pool, task, r);
     print_step(k);
+    k
+}
+
+fn ten_steps(s: State, pool: &mut [u32], r: Record) -> Kept {
+    let mut k = step_and_print(s, pool, 0, r);
+    let mut left: u32 = 9;
+    while 0 < left {
+        let reply = k.reply;
+        k = step_and_print(reply.state, pool, 0, k.record);
+        left = left - 1;
+    }
     k
 }
 
@@ -104,23 +122,16 @@ fn main() {
     let values: [u32; 1] = [5];
     let opened = cells::open(unopened(), &mut pool, 2, 1, 5, &values);
     let begun = cells::begin_swap(opened.state, &pool, 0, 0, 5, 7);
-    let mut s = begun.state;
+    let s = begun.state;
     let first = s.records[0];
-    let mut rec = first;
-    print(b"begun at line ", rec.line);
+    print(b"begun at line ", first.line);
     io::write_all(1, b"\n");
-    let mut i = 0;
-    while i < 10 {
-        let k = step_and_print(s, &mut pool, 0, rec);
-        let reply = k.reply;
-        s = reply.state;
-        rec = k.record;
-        i += 1;
-    }
-    step_and_print(s, &mut pool, 0, rec);
-    // Beyond the tasks, with the record as it was begun.
-    let k = step_and_print(s, &mut pool, 40, first);
-    if same(k.record, first) {
+    let k = ten_steps(s, &mut pool, first);
+    let after = k.reply;
+    step_and_print(after.state, &mut pool, 0, k.record);
+    // A task beyond the records, with the record as it was begun.
+    let beyond = step_and_print(after.state, &mut pool, 40, first);
+    if same(beyond.record, first) {
         io::write_all(1, b"the record is as before\n");
     }
 }
