@@ -199,11 +199,10 @@ pub fn step(mut s: State, pool: &mut [u32], task: u32) -> Reply
     };
     let k = r.cell as usize;
     let a = turn::take_turn(pool, task, r, s.current[k], s.last, free);
-    let b = a.current;
     let q = a.record;
     let outcome = a.outcome;
     s.last = a.last;
-    s.current[k] = b;
+    s.current[k] = a.current;
     s.records[t] = q;
     Reply { state: s, outcome }
 }

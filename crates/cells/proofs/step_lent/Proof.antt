@@ -1,5 +1,4 @@
 -- `cells::step_lent` meets its contract: a walk of its MIR, by hand. The borrow of the record is opened, the record is copied out, `lent_turn` is called with the slice, the new record is stored, and the borrow is closed.
--- Assumes nothing.
 use mathlib.Core.Path.{_≡_, refl, ap}
 use Prim.Native.Nat.{ℕ, _<_, _^_}
 use mathlib.Core.List.{[], _∷_, List}
