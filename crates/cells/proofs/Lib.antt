@@ -15,4 +15,5 @@ pub mod Replies
 pub mod Stepping
 pub mod Filling
 pub mod Acts
+pub mod LentLaw
 pub mod LineKinds

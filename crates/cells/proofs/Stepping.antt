@@ -1,5 +1,5 @@
 -- A step that is not refused: what its turn needs, and that with the turn's three places put back it is the step.
-use mathlib.Core.Path.{_≡_, refl, sym, ap, _∙_}
+use mathlib.Core.Path.{_≡_, sym, ap, _∙_}
 use mathlib.Core.Logic.{_⊎_, inl, inr}
 use mathlib.Core.Bool.{Bool, true, false, _&&_, false≢true}
 use mathlib.Core.Option.{Option, none, some}
@@ -15,10 +15,9 @@ use Rattle.cells.specs.Record.{recordAt}
 use Rattle.cells.specs.Questions.{Question, refusal, recordFit, busyTests, recordsFit, fit, fitTests, stepQuestions}
 use Rattle.cells.specs.Blocks.{unused}
 use Rattle.cells.specs.Step.{current, stepped}
-use Rattle.cells.specs.Turn.{Turned, turn, There, Ready}
+use Rattle.cells.specs.Turn.{turn, There, Ready}
 use Rattle.cells.proofs.Tests.{answers, all-yes, all-at, nth}
 use Rattle.cells.proofs.Fits.{sizes}
-use Rattle.cells.proofs.Replies.{asked-below}
 use Rattle.cells.proofs.Search.{unused-below}
 use Rattle.cells.proofs.TurnLaw.{putBack, ran-turn, ready, turn-free}
 

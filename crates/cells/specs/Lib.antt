@@ -7,6 +7,7 @@ pub mod Blocks
 pub mod Open
 pub mod Begin
 pub mod Step
+pub mod Lent
 pub mod Look
 pub mod Paths
 pub mod Turn

@@ -7,6 +7,7 @@ ghost use Rattle.cells.specs.Pool.{word};
 ghost use Rattle.cells.specs.Open.{opened, leaving};
 ghost use Rattle.cells.specs.Begin.{readBegun, swapBegun};
 ghost use Rattle.cells.specs.Step.{stepped};
+ghost use Rattle.cells.specs.Lent.{isRefused, lent, steppedLent};
 ghost use Rattle.cells.specs.Look.{looked, shownValue};
 
 mod blocks;
@@ -198,13 +199,59 @@ pub fn step(mut s: State, pool: &mut [u32], task: u32) -> Reply
     };
     let k = r.cell as usize;
     let a = turn::take_turn(pool, task, r, s.current[k], s.last, free);
-    let b = a.current;
     let q = a.record;
     let outcome = a.outcome;
     s.last = a.last;
-    s.current[k] = b;
+    s.current[k] = a.current;
     s.records[t] = q;
     Reply { state: s, outcome }
+}
+
+fn is_refused(outcome: Outcome) -> bool
+    ensures { λ b. ⌜ b ≡ isRefused outcome ⌝ }
+{
+    match outcome {
+        Outcome::Refused(_) => true,
+        Outcome::Acted => false,
+        Outcome::Ended(_) => false,
+    }
+}
+
+// What a step over a lent record leaves besides the pool.
+struct LentTurn {
+    reply: Reply,
+    record: Record,
+}
+
+fn lent_turn(s: State, pool: &mut [u32], task: u32, r: Record) -> LentTurn
+    ensures { λ n. ⌜ lent (leaving (n .reply .state) (now (pool .exit)) (n .reply .outcome)) (n .record) ≡ steppedLent s (now (pool .entry)) task r ⌝ }
+{
+    let t = task as usize;
+    let mut q = s;
+    // A task beyond the records has none, and is refused.
+    if task < 32 {
+        q.records[t] = r;
+    }
+    let a = step(q, pool, task);
+    let outcome = a.outcome;
+    if is_refused(outcome) {
+        let reply = Reply { state: s, outcome };
+        return LentTurn { reply, record: r };
+    }
+    q = a.state;
+    let record = q.records[t];
+    LentTurn { reply: a, record }
+}
+
+// A step over the task's record, lent: it stands in place of the state's, and afterwards the two are equal. Refused,
+// it is as before.
+pub fn step_lent(s: State, pool: &mut [u32], task: u32, rec: &mut Record) -> Reply
+    ensures { λ n. ⌜ lent (leaving (n .state) (now (pool .exit)) (n .outcome)) (now (rec .exit)) ≡ steppedLent s (now (pool .entry)) task (now (rec .entry)) ⌝ }
+{
+    let r = *rec;
+    let n = lent_turn(s, pool, task, r);
+    *rec = n.record;
+    n.reply
 }
 
 // What a read of the block would find.

@@ -1,0 +1,65 @@
+-- The step over a lent record, from the step of the state that holds it.
+use mathlib.Core.Path.{_≡_, refl, sym, ap, _∙_}
+use mathlib.Core.Logic.{_⊎_, inl, inr}
+use mathlib.Core.Bool.{true, false, not, false≢true}
+use mathlib.Core.List.{List, [], _∷_}
+use Prim.Native.Nat.{ℕ, _≤_, _<_}
+use native.Mathlib.Omega.{arith}
+use lib.ListN.{length, length-map}
+use lib.Seq.{set-out}
+use mir.Val.{Val}
+use denote.Laws.{Is}
+use denote.Struct.Laws as LL
+use Rattle.cells.specs.declared.Record.{Record}
+use Rattle.cells.specs.declared.State.{State}
+use Rattle.cells.specs.declared.Outcome.{Outcome}
+use Rattle.cells.specs.declared.Outcome.the-variants.{Refused, Acted, Ended}
+use Rattle.cells.specs.Record.{isIdle, recordAt}
+use Rattle.cells.specs.Open.{After, leaving}
+use Rattle.cells.specs.Begin.{withRecord}
+use Rattle.cells.specs.Step.{stepped}
+use Rattle.cells.specs.Lent.{isRefused, lent, steppedLent}
+use Rattle.cells.proofs.Acts.{acts, acts-iff, step-acts, step-untouched}
+use Rattle.cells.proofs.Replies.{asked-below}
+use Rattle.cells.proofs.Stepping.{asked}
+use Rattle.cells.proofs.State as S
+use Rattle.cells.proofs.State.Laws as S′
+
+-- a state has 32 records, by its type
+pub has-32 : (s : State) (vs : List Val) → Is S.the-row s vs → length (s .records) ≡ 32
+has-32 s vs g = sym (length-map (s .records) _) ∙ LL.owed S.the-type S′.the-laws s vs g .1 .1 .1 .1 .1 .0 .1 .0 .1
+
+-- a record beyond them is put nowhere
+pub placed : (s : State) (t : ℕ) (r : Record) (q : State) → length (s .records) ≡ 32 → (q ≡ withRecord s t r) ⊎ ((32 ≤ t) × (q ≡ s)) → q ≡ withRecord s t r
+placed s t r q l (inl e) = e
+placed s t r q l (inr (h, e)) =
+    let out : length (s .records) ≤ t = omega arith in
+    e ∙ sym (rw (set-out (s .records) t r out))
+
+acted : (o : Outcome) → isRefused o ≡ false → acts o ≡ true
+acted (Refused n) e = sym e
+acted Acted e = refl
+acted (Ended f) e = refl
+
+module _ (s : State) (p : List ℕ) (t : ℕ) (a : After) (e : a ≡ stepped s p t) where
+  pub below-32 : isRefused (a .outcome) ≡ false → t < 32
+  below-32 h =
+      let q = recordAt (s .records) t in
+      asked-below s p t ((11, not (isIdle q)) ∷ []) (acts-iff (asked s p t) .1 (sym (step-acts s p t) ∙ acted (stepped s p t .outcome) (rw e at h)))
+
+  pool-kept : isRefused (a .outcome) ≡ true → a .pool ≡ p
+  pool-kept h = rw e (go (stepped s p t .outcome) refl (rw e at h))
+    where
+      go : (o : Outcome) → stepped s p t .outcome ≡ o → isRefused o ≡ true → stepped s p t .pool ≡ p
+      go (Refused n) g h = ap (λ (x : After). x .pool) (step-untouched s p t n g)
+      go Acted g h = absurd (false≢true h)
+      go (Ended f) g h = absurd (false≢true h)
+
+module _ (s : State) (p : List ℕ) (t : ℕ) (r : Record) (q : State) (a : After) (i : q ≡ withRecord s t r) (e : a ≡ stepped q p t) where
+  pub lent-refused : isRefused (a .outcome) ≡ true → lent (leaving s (a .pool) (a .outcome)) r ≡ steppedLent s p t r
+  unfolding steppedLent
+  lent-refused h = rw (← i, ← e, h, pool-kept q p t a e h)
+
+  pub lent-acted : isRefused (a .outcome) ≡ false → lent a (recordAt (a .state .records) t) ≡ steppedLent s p t r
+  unfolding steppedLent
+  lent-acted h = rw (← i, ← e, h)

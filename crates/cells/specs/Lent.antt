@@ -1,0 +1,31 @@
+-- A step over a record that the caller lends: it stands in place of the state's record of the task.
+use mathlib.Core.Bool.{Bool, true, false, cond}
+use mathlib.Core.List.{List}
+use Prim.Native.Nat.{ℕ}
+use Rattle.cells.specs.declared.Record.{Record}
+use Rattle.cells.specs.declared.State.{State}
+use Rattle.cells.specs.declared.Outcome.{Outcome}
+use Rattle.cells.specs.declared.Outcome.the-variants.{Refused, Acted, Ended}
+use Rattle.cells.specs.Record.{recordAt}
+use Rattle.cells.specs.Open.{After, leaving}
+use Rattle.cells.specs.Begin.{withRecord}
+use Rattle.cells.specs.Step.{stepped}
+
+abbrev pub isRefused : Outcome → Bool
+isRefused (Refused n) = true
+isRefused Acted = false
+isRefused (Ended f) = false
+
+-- what the entry leaves and answers, and the lent record
+pub record Lent : Type 0 where
+  pub after : After
+  pub «record» : Record
+
+abbrev pub lent : After → Record → Lent
+lent a r = record { after = a; «record» = r }
+
+-- refused: all as handed in, the state without the lent record; otherwise the lent record is the state's
+unfoldable pub steppedLent : State → List ℕ → (task : ℕ) → Record → Lent
+steppedLent s p t r =
+    let a = stepped (withRecord s t r) p t in
+    cond (isRefused (a .outcome)) (lent (leaving s p (a .outcome)) r) (lent a (recordAt (a .state .records) t))

@@ -1,0 +1,137 @@
+// A swap stepped through a record that the caller keeps and lends.
+ghost use mathlib.Core.Path.{_≡_};
+ghost use Rattle.cells.specs.Open.{leaving};
+ghost use Rattle.cells.specs.Lent.{lent, steppedLent};
+use cells::Answer;
+use cells::Finished;
+use cells::Outcome;
+use cells::Record;
+use cells::Reply;
+use cells::State;
+
+// A reply, and the record that was lent.
+struct Kept {
+    reply: Reply,
+    record: Record,
+}
+
+// The record is lent from a local here, so that no other function has a reference to one.
+fn lend(s: State, pool: &mut [u32], task: u32, r: Record) -> Kept
+    ensures { λ n. ⌜ lent (leaving (n .reply .state) (now (pool .exit)) (n .reply .outcome)) (n .record) ≡ steppedLent s (now (pool .entry)) task r ⌝ }
+{
+    let mut rec = r;
+    let reply = cells::step_lent(s, pool, task, &mut rec);
+    Kept { reply, record: rec }
+}
+
+fn unopened() -> State {
+    let r = Record {
+        line: 0,
+        wanted: 0,
+        kind: 0,
+        cell: 0,
+        expected: 0,
+        new: 0,
+        held: 0,
+        taken: 0,
+        loaded: 0,
+        steps: 0,
+        hard: 0,
+    };
+    State {
+        tasks: 0,
+        cells: 0,
+        blocks: 0,
+        last: 0,
+        current: [0; 16],
+        records: [r; 32],
+    }
+}
+
+fn same(a: Record, b: Record) -> bool {
+    let call = (a.kind == b.kind)
+        & ((a.cell == b.cell) & ((a.expected == b.expected) & (a.new == b.new)));
+    let place = (a.line == b.line)
+        & ((a.wanted == b.wanted) & ((a.held == b.held) & (a.taken == b.taken)));
+    call & (place & ((a.loaded == b.loaded) & ((a.steps == b.steps) & (a.hard == b.hard))))
+}
+
+// WHAT IS PRINTED
+
+fn print(text: &[u8], n: u32) {
+    io::write_all(1, text);
+    io::print_decimal(1, n as u64);
+}
+
+fn print_finished(f: Finished) {
+    let answer = f.answer;
+    match answer {
+        Answer::Value(v) => print(b"ended ", v),
+        Answer::Yes => {
+            io::write_all(1, b"ended yes");
+        }
+        Answer::No => {
+            io::write_all(1, b"ended no");
+        }
+    }
+    print(b", steps ", f.steps);
+    print(b", hard ", f.hard);
+}
+
+fn print_outcome(outcome: Outcome) {
+    match outcome {
+        Outcome::Refused(n) => print(b"refused ", n),
+        Outcome::Acted => {
+            io::write_all(1, b"acted");
+        }
+        Outcome::Ended(f) => print_finished(f),
+    }
+}
+
+fn print_step(k: Kept) {
+    let r = k.record;
+    let reply = k.reply;
+    let outcome = reply.outcome;
+    print(b"line ", r.line);
+    io::write_all(1, b": ");
+    print_outcome(outcome);
+    io::write_all(1, b"\n");
+}
+
+// THE STEPS
+
+fn step_and_print(s: State, pool: &mut [u32], task: u32, r: Record) -> Kept {
+    let k = lend(s, pool, task, r);
+    print_step(k);
+    k
+}
+
+fn ten_steps(s: State, pool: &mut [u32], r: Record) -> Kept {
+    let mut k = step_and_print(s, pool, 0, r);
+    let mut left: u32 = 9;
+    while 0 < left {
+        let reply = k.reply;
+        k = step_and_print(reply.state, pool, 0, k.record);
+        left = left - 1;
+    }
+    k
+}
+
+fn main() {
+    let mut pool: [u32; 25] = [0; 25];
+    let values: [u32; 1] = [5];
+    let opened = cells::open(unopened(), &mut pool, 2, 1, 5, &values);
+    let begun = cells::begin_swap(opened.state, &pool, 0, 0, 5, 7);
+    let s = begun.state;
+    let first = s.records[0];
+    print(b"begun at line ", first.line);
+    io::write_all(1, b"\n");
+    let k = ten_steps(s, &mut pool, first);
+    let after = k.reply;
+    step_and_print(after.state, &mut pool, 0, k.record);
+    // A task beyond the records, with the record as it was begun.
+    let beyond = step_and_print(after.state, &mut pool, 40, first);
+    if same(beyond.record, first) {
+        io::write_all(1, b"the record is as before\n");
+    }
+}
