@@ -34,14 +34,18 @@ short s = leb (length s) 65536
 abbrev pub before : ℕ → Bool
 before p = eqb p 40 || eqb p 32
 
+abbrev pub when : Bool → ℕ → Option ℕ
+when true d = some d
+when false d = none
+
 -- d brackets are open and p is the byte before, at first 10: how many are open after b, if b may stand here
 unfoldable pub deep : (d p b : ℕ) → Option ℕ
 deep d p b =
-    cond (eqb b 40) (cond (ltb d 8 && (eqb p 10 || before p)) (some (d + 1)) none)
-    (cond (eqb b 41) (cond (ltb 0 d && not (eqb p 32)) (some (d - 1)) none)
-    (cond (eqb b 32) (cond (ltb 0 d && not (before p)) (some d) none)
-    (cond (eqb b 10) (cond (eqb d 0 && eqb p 41) (some 0) none)
-    (cond (ltb 0 d && not (eqb p 41)) (some d) none))))
+    cond (eqb b 40) (when (ltb d 8 && (eqb p 10 || before p)) (d + 1))
+    (cond (eqb b 41) (when (ltb 0 d && not (eqb p 32)) (d - 1))
+    (cond (eqb b 32) (when (ltb 0 d && not (before p)) d)
+    (cond (eqb b 10) (when (eqb d 0 && eqb p 41) 0)
+    (when (ltb 0 d && not (eqb p 41)) d))))
 
 unfoldable pub shapedAfter : (d p : ℕ) → List ℕ → Bool
 shapedAfter d p [] = eqb p 10
@@ -63,10 +67,143 @@ numbers (suc k) = do
   pure (n ∷ l)
 
 module _ {A B : Type 0} (add : B → A → B) (item : Reader A) (end : Reader (Unit {0})) where
-  -- items up to what ends them, added to those before. Each takes a byte or more: fuel is the text's length.
-  unfoldable pub many : ℕ → B → Reader B
-  many zero l s = none
-  many (suc fuel) l s = elim (end s) [ some (_, r) ↦ some (l, r) | none ↦ onward (item s) (λ a. many fuel (add l a)) ]
+  -- items up to what ends them, added to those before; fuel bounds how many
+  unfoldable pub manyWithin : ℕ → B → Reader B
+  manyWithin zero l s = none
+  manyWithin (suc fuel) l s =
+      elim (end s) [ some (_, r) ↦ some (l, r) | none ↦ onward (item s) (λ a. manyWithin fuel (add l a)) ]
 
-  abbrev pub all : B → Reader B
-  all l s = many (suc (length s)) l s
+  -- each takes a byte or more
+  abbrev pub many : B → Reader B
+  many l s = manyWithin (suc (length s)) l s
+
+abbrev pub space : Reader (Unit {0})
+space = word (bytes " ")
+
+abbrev pub close : Reader (Unit {0})
+close = word (bytes ")")
+
+-- the values of open, up to their bracket
+unfoldable pub values : Reader (List ℕ)
+values s =
+    elim (close s)
+    [ some (_, r) ↦ some ([], r)
+    | none ↦ onward (number s) (λ v. many (λ l v. l ++ (v ∷ [])) (space >> number) close (v ∷ []))
+    ]
+
+-- (open N V B (values)) and its line's end
+unfoldable pub opening : Reader Opening
+opening = do
+  word (bytes "(open")
+  n ← numbers 3
+  word (bytes " (")
+  v ← values
+  word (bytes ")\n")
+  pure (record { tasks = getD n 0 0; cells = getD n 1 0; blocks = getD n 2 0; values = v })
+
+-- the other forms, each a word, its numbers and, of again, forms
+pub data Kind : Type 0 where
+  reading : Kind
+  swapping : Kind
+  stepping : Kind
+  repeating : Kind
+
+abbrev pub means : List ℕ → Kind → Reader Kind
+means w k = word w >> pure k
+
+unfoldable pub keyword : Reader Kind
+keyword s =
+    either (means (bytes "(read") reading s)
+    (either (means (bytes "(swap") swapping s)
+    (either (means (bytes "(step") stepping s)
+    (means (bytes "(again") repeating s)))
+
+abbrev pub arity : Kind → ℕ
+arity reading = 2
+arity swapping = 4
+arity stepping = 1
+arity repeating = 1
+
+mutual
+  pub data Form : Type 0 where
+    act : Act → Form
+    again : ℕ → Forms → Form
+
+  pub data Forms : Type 0 where
+    empty : Forms
+    with : Forms → Form → Forms
+
+-- the rest of a form, after its word and its numbers
+unfoldable pub body : Reader Forms → Kind → List ℕ → Reader Form
+body forms reading n = close >> pure (act (read (getD n 0 0) (getD n 1 0)))
+body forms swapping n = close >> pure (act (swap (getD n 0 0) (getD n 1 0) (getD n 2 0) (getD n 3 0)))
+body forms stepping n = close >> pure (act (step (getD n 0 0)))
+body forms repeating n = forms >>= λ l. pure (again (getD n 0 0) l)
+
+abbrev pub list : Reader Form → Reader Forms
+list form = many with (space >> form) close empty
+
+-- a form at most so many brackets deep
+unfoldable pub form : ℕ → Reader Form
+form zero = λ s. none
+form (suc d) = do
+  k ← keyword
+  n ← numbers (arity k)
+  body (list (form d)) k n
+
+unfoldable pub line : Reader Form
+line = do
+  f ← form 8
+  word (bytes "\n")
+  pure f
+
+abbrev pub finish : Reader (Unit {0})
+finish [] = some (tt, [])
+finish (b ∷ s) = none
+
+abbrev pub lines : Reader Forms
+lines = many with line finish empty
+
+-- 15. Are there at most 65,535 actions after repeating?
+
+-- how many actions forms make
+unfoldable mutual
+  pub count : Form → ℕ
+  count (act a) = 1
+  count (again c l) = c * counts l
+
+  pub counts : Forms → ℕ
+  counts empty = 0
+  counts (with l f) = counts l + count f
+
+module _ {A : Type 0} where
+  -- l, c times; nothing again and again is nothing at once
+  unfoldable pub times : ℕ → List A → List A
+  times c [] = []
+  times zero (a ∷ l) = []
+  times (suc c) (a ∷ l) = (a ∷ l) ++ times c (a ∷ l)
+
+-- the actions of forms, in order
+unfoldable mutual
+  pub actions : Form → List Act
+  actions (act a) = a ∷ []
+  actions (again zero l) = []
+  actions (again (suc c) l) = times (suc c) (actionsOf l)
+
+  pub actionsOf : Forms → List Act
+  actionsOf empty = []
+  actionsOf (with l f) = actionsOf l ++ actions f
+
+-- The first no gives its number.
+unfoldable pub counted : Option ((Opening × Forms) × List ℕ) → Verdict
+counted none = bad 14
+counted (some ((o, l), s)) = elim (leb (counts l) 65535) [ true ↦ session o (actionsOf l) | false ↦ bad 15 ]
+
+unfoldable pub formed : Reader (Opening × Forms)
+formed = do
+  o ← opening
+  l ← lines
+  pure (o, l)
+
+unfoldable pub verdict : List ℕ → Verdict
+verdict s = elim (short s) [ false ↦ bad 12 | true ↦ elim (shaped s) [ false ↦ bad 13 | true ↦ counted (formed s) ] ]
