@@ -1,2 +1,4 @@
 pub mod Session
+pub mod Reading
+pub mod Answers
 pub mod Examples

@@ -30,26 +30,26 @@ short s = leb (length s) 65536
 -- 13. Are brackets balanced and at most 8 deep, the items of a list parted by exactly one space with no other space,
 -- and each line, the last included, just one bracketed form ended by byte 10?
 
--- p, a bracket that opens or a space, stands right before an item
+-- right before an item: a bracket that opens, or a space
 abbrev pub before : ℕ → Bool
 before p = eqb p 40 || eqb p 32
 
-abbrev pub when : Bool → ℕ → Option ℕ
-when true d = some d
-when false d = none
+-- d brackets are open and p is the byte before, at first 10: may b stand here?
+unfoldable pub fits : (d p b : ℕ) → Bool
+fits d p b =
+    cond (eqb b 40) (ltb d 8 && (eqb p 10 || before p))
+    (cond (eqb b 41) (ltb 0 d && not (eqb p 32))
+    (cond (eqb b 32) (ltb 0 d && not (before p))
+    (cond (eqb b 10) (eqb d 0 && eqb p 41)
+    (ltb 0 d && not (eqb p 41)))))
 
--- d brackets are open and p is the byte before, at first 10: how many are open after b, if b may stand here
-unfoldable pub deep : (d p b : ℕ) → Option ℕ
-deep d p b =
-    cond (eqb b 40) (when (ltb d 8 && (eqb p 10 || before p)) (d + 1))
-    (cond (eqb b 41) (when (ltb 0 d && not (eqb p 32)) (d - 1))
-    (cond (eqb b 32) (when (ltb 0 d && not (before p)) d)
-    (cond (eqb b 10) (when (eqb d 0 && eqb p 41) 0)
-    (when (ltb 0 d && not (eqb p 41)) d))))
+-- how many brackets are open after b
+unfoldable pub deeper : (d b : ℕ) → ℕ
+deeper d b = cond (eqb b 40) (d + 1) (cond (eqb b 41) (d - 1) d)
 
 unfoldable pub shapedAfter : (d p : ℕ) → List ℕ → Bool
 shapedAfter d p [] = eqb p 10
-shapedAfter d p (b ∷ s) = elim (deep d p b) [ none ↦ false | some e ↦ shapedAfter e b s ]
+shapedAfter d p (b ∷ s) = fits d p b && shapedAfter (deeper d b) b s
 
 abbrev pub shaped : List ℕ → Bool
 shaped s = shapedAfter 0 10 s
@@ -124,6 +124,13 @@ arity swapping = 4
 arity stepping = 1
 arity repeating = 1
 
+-- a form up to the last of its numbers
+unfoldable pub head : Reader (Kind × List ℕ)
+head = do
+  k ← keyword
+  n ← numbers (arity k)
+  pure (k, n)
+
 mutual
   pub data Form : Type 0 where
     act : Act → Form
@@ -133,7 +140,7 @@ mutual
     empty : Forms
     with : Forms → Form → Forms
 
--- the rest of a form, after its word and its numbers
+-- the rest of a form
 unfoldable pub body : Reader Forms → Kind → List ℕ → Reader Form
 body forms reading n = close >> pure (act (read (getD n 0 0) (getD n 1 0)))
 body forms swapping n = close >> pure (act (swap (getD n 0 0) (getD n 1 0) (getD n 2 0) (getD n 3 0)))
@@ -147,8 +154,7 @@ list form = many with (space >> form) close empty
 unfoldable pub form : ℕ → Reader Form
 form zero = λ s. none
 form (suc d) = do
-  k ← keyword
-  n ← numbers (arity k)
+  (k, n) ← head
   body (list (form d)) k n
 
 unfoldable pub line : Reader Form
