@@ -85,15 +85,15 @@ cases =
     five 2 5 (read 2 1 ∷ []) (Refused 7 ∷ []) ∷
     -- P9: task 1 stores late and its value is decided, so line 25 answers yes; then an inactive block makes a lone swap replace it
     five 2 5
-      (swap 0 0 5 7 ∷ swap 1 0 5 9 ∷ steps 2 0 ∷ steps 7 1 ∷ steps 2 0 ∷ steps 5 1 ∷ steps 3 0 ∷ swap 0 0 9 4 ∷ steps 9 0 ∷ swap 0 0 4 6 ∷ steps 10 0 ∷ [])
-      (done 2 0 Yes 12 1 ∷ done 2 0 No 7 1 ∷ done 2 0 Yes 9 2 ∷ done 2 0 Yes 10 0 ∷ []) ∷
+    (swap 0 0 5 7 ∷ swap 1 0 5 9 ∷ steps 2 0 ∷ steps 7 1 ∷ steps 2 0 ∷ steps 5 1 ∷ steps 3 0 ∷ swap 0 0 9 4 ∷ steps 9 0 ∷ swap 0 0 4 6 ∷ steps 10 0 ∷ [])
+    (done 2 0 Yes 12 1 ∷ done 2 0 No 7 1 ∷ done 2 0 Yes 9 2 ∷ done 2 0 Yes 10 0 ∷ []) ∷
     -- P10
     five 2 5 (swap 0 0 5 7 ∷ swap 1 0 5 9 ∷ steps 2 0 ∷ steps 7 1 ∷ steps 5 0 ∷ steps 10 1 ∷ steps 2 0 ∷ []) (done 2 0 Yes 17 3 ∷ done 2 0 No 9 2 ∷ []) ∷
     -- task 0 stores 7 in a block that was decided for 5: a read of that block decides, and does not return its V
     five 3 7 (swap 0 0 5 7 ∷ swap 1 0 5 9 ∷ read 2 0 ∷ steps 7 0 ∷ steps 1 2 ∷ steps 7 1 ∷ steps 1 0 ∷ steps 5 2 ∷ []) (done 1 0 (Value 5) 6 1 ∷ []) ∷
     -- a task that halts in a read still holds block 0 after the others went through all blocks: it is not taken again
     five 3 7 (read 0 0 ∷ steps 1 0 ∷ (round 5 15 6 ++ (round 6 16 7 ++ (round 7 17 8 ++ (round 8 18 9 ++ (steps 5 0 ∷ []))))))
-      (rounds ++ (rounds ++ (rounds ++ (rounds ++ (done 1 0 (Value 5) 6 1 ∷ []))))) ∷ []
+    (rounds ++ (rounds ++ (rounds ++ (rounds ++ (done 1 0 (Value 5) 6 1 ∷ []))))) ∷ []
 
 abbrev Hold : List Case → Type 0
 Hold [] = Unit {0}

@@ -4,3 +4,14 @@ pub mod Unused
 pub mod Numbers
 pub mod Words
 pub mod Cases
+pub mod Ranges
+pub mod Parts
+pub mod TurnLaw
+pub mod Loops
+pub mod Refusals
+pub mod Fits
+pub mod Search
+pub mod Replies
+pub mod Filling
+pub mod Acts
+pub mod LineKinds

@@ -94,7 +94,7 @@ module _ (s : State) (x : ℕ) (l : x < s .blocks) (e : used s x ≡ false) wher
       go (yes m) = inl (m, omega arith)
       go (no m) = inr (omega arith, omega arith)
 
-after-below : (n b : ℕ) → b < n → after n b < n
+pub after-below : (n b : ℕ) → b < n → after n b < n
 after-below n b h = ⊎-elim (λ y. omega (arith, y .0, y .1)) (λ y. omega (arith, y .0, y .1)) (next n b h)
 
 -- In every fit state, a task whose next line is 29 finds an unused block.

@@ -22,7 +22,7 @@ fields Q x y c v d C = c
 fields Q x y c v d Field.V = v
 fields Q x y c v d D = d
 
-offset-small : (f : Field) → offset f < 5
+pub offset-small : (f : Field) → offset f < 5
 offset-small = fields (λ f. offset f < 5) (lit< tt) (lit< tt) (lit< tt) (lit< tt) (lit< tt)
 
 -- A STORE

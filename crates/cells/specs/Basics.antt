@@ -1,4 +1,4 @@
--- Tests over ranges of numbers, written as loops count.
+-- Tests over ranges of numbers, counting as the code's loops do.
 use mathlib.Core.Bool.{Bool, true, false, _&&_, _||_}
 use mathlib.Core.List.{List, [], _∷_}
 use Prim.Native.Nat.{ℕ, zero, suc, _+_}

@@ -6,6 +6,8 @@ use lib.Dec.{eqb}
 use lib.ListN.{getD}
 use Rattle.cells.specs.declared.Record.{Record}
 use Rattle.cells.specs.declared.State.{State}
+use Rattle.cells.specs.declared.blocks.Found.{Found}
+use Rattle.cells.specs.declared.blocks.Found.the-variants.{At, Nowhere}
 use Rattle.cells.specs.Basics.{anyFrom}
 use Rattle.cells.specs.Record.{isIdle, recordAt}
 use Rattle.cells.specs.Questions.{holds, installs}
@@ -35,3 +37,8 @@ unusedFrom s b (suc k) = cond (used s b) (unusedFrom s (after (s .blocks) b) k) 
 
 unfoldable pub unused : State → Option ℕ
 unused s = unusedFrom s (after (s .blocks) (s .last)) (s .blocks)
+
+-- what a search that ended says
+abbrev pub foundOf : Found → Option ℕ
+foundOf (At b) = some b
+foundOf Nowhere = none

@@ -8,3 +8,5 @@ pub mod Open
 pub mod Begin
 pub mod Step
 pub mod Look
+pub mod Paths
+pub mod Turn

@@ -16,6 +16,9 @@ pub record After : Type 0 where
   pub pool : List ℕ
   pub outcome : Outcome
 
+abbrev pub leaving : State → List ℕ → Outcome → After
+leaving s p o = record { state = s; pool = p; outcome = o }
+
 -- a refusal returns the number alone: state, records and pool stay
 abbrev pub unless : Option ℕ → State → List ℕ → After → After
 unless none s p acted = acted

@@ -37,7 +37,7 @@ unfoldable pub openQuestions : (words tasks cells blocks : ℕ) → List ℕ →
 openQuestions len n v b vs =
     (1, tasksOk n) ∷ (2, cellsOk v) ∷ (3, blocksOk n v b len) ∷ (4, eqb (length vs) v) ∷ (5, not (hasNone vs)) ∷ []
 
--- WHEN A STATE IS FIT: 6. Document 01's word: well-formed.
+-- WHEN A STATE IS FIT: 6. Fit is document 01's word for a well-formed state.
 
 -- a read, or a swap of equal values
 abbrev pub reads : Record → Bool
@@ -80,7 +80,7 @@ ofKind nowhere a b = false
 abbrev pub lineFit : Record → Bool
 lineFit r = ofKind (lineOf r) (reads r) (swaps r)
 
--- a busy task has done its first load
+-- a busy task has done its first load (asked of busy records only)
 abbrev pub holds : Record → Bool
 holds r = not (eqb (r .line) 10 || eqb (r .line) 15)
 

@@ -39,7 +39,7 @@ withCurrent s k b = record { tasks = s .tasks; cells = s .cells; blocks = s .blo
 abbrev pub current : State → ℕ → ℕ
 current s k = getD (s .current) k 0
 
--- where every block is in use nothing is filled, and no block is handed back; no fit state has this
+-- where every block is in use nothing is filled, and no block is handed back; no fit state with a task at line 29 has this
 abbrev pub allocated : Option ℕ → State → List ℕ → ℕ → Memory
 allocated none s p v = memory s p noValue
 allocated (some b) s p v = memory (withLast s b) (fill p b v) b

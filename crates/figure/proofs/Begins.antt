@@ -98,11 +98,14 @@ module _ (w : World) (g : Ghost) (κ : Knowledge) (G : Good w g κ) (t : ℕ) (o
     where
       s : View
       s = before (cellOf op)
+
       n : s .told t ≡ false
       n = upd-same (g .told) t false
+
       by : (k e v : ℕ) (b : Bool) → eqb e v ≡ b → (e ≢ none) × (v ≢ none) → Inv (moved s t (first (cond b 10 15) 2 k e v)) others
       by k e v true z x = quiet s others t l10 (first 10 2 k e v) refl (kept-before (cellOf op)) (mine-read s others t n (not-late (cellOf op)) (first 10 2 k e v))
       by k e v false z x = quiet s others t l15 (first 15 2 k e v) refl (kept-before (cellOf op)) (mine-swap s others t n (not-late (cellOf op)) (first 15 2 k e v) (eqb-false _ _ z) (x .0) (x .1))
+
       go : (p : Op) → valuesFit (firstOf p) ≡ true → Inv (moved s t (firstOf p)) others
       go (read k) v = quiet s others t l10 (firstRead k) refl (kept-before (cellOf op)) (mine-read s others t n (not-late (cellOf op)) (firstRead k))
       go (swap k e v) z = by k e v (eqb e v) refl (values-some e v z)
@@ -119,24 +122,28 @@ module _ (w : World) (g : Ghost) (κ : Knowledge) (G : Good w g κ) (t : ℕ) (o
       go : (j : ℕ) → (j ≡ cellOf op) ⊎ (j ≢ cellOf op) → Inv (view w′ g′ j) others
       go j (inl e) = subst (λ i. Inv (view w′ g′ i) others) (sym e) (subst (λ (v : View). Inv v others) (sym here) begun)
       go j (inr e) = subst (λ (v : View). Inv v others) (sym (there j e)) (kept-before j)
+
       knows : (j u : ℕ) → T (busy (lineOf (on (w′ .records) j u))) → ((v : ℕ) → (u ≢ t) × κ .saw u v → κ′ .saw u v) × ((u ≢ t) × κ .early u → κ′ .early u)
       knows j u b =
-          let d = doing-on w′ j u b .0 in
-          ( (λ v z. grown .saw u _ _ (sym (ap tallyOf (upd-off (w .records) t (firstOf op) u (z .0))) ∙ d) d v (z .1))
-          , (λ z. grown .early u _ _ (sym (ap tallyOf (upd-off (w .records) t (firstOf op) u (z .0))) ∙ d) d (z .1)) )
+          let d = doing-on w′ j u b .0 in (
+            (λ v z. grown .saw u _ _ (sym (ap tallyOf (upd-off (w .records) t (firstOf op) u (z .0))) ∙ d) d v (z .1)),
+            (λ z. grown .early u _ _ (sym (ap tallyOf (upd-off (w .records) t (firstOf op) u (z .0))) ∙ d) d (z .1)),
+          )
 
 -- THE OPENING
 
 pub opening-good : (n v : ℕ) (vs : List ℕ) → ((k : ℕ) → getD vs k 0 ≢ none) → (κ : Knowledge) → Good (opening n v vs) (Sim.fresh (λ k. getD vs k 0)) κ
 unfolding none
-opening-good n v vs ok κ = record
-  { on-path = opening-on-path n v vs
-  ; eager = λ u n z. absurd (let x : _≡_ {A = ℕ} 0 1 = cc in omega arith)
-  ; cells = λ k. record
-      { current = record { low = omega arith; P-some = ok k; v-some = ok k; decided-inactive = λ z. absurd (z refl); decision = λ z. absurd (z refl); phase-is = λ z. (refl, refl) }
-      ; tasks = λ u. rw (on-idle (λ t. idle) k u refl) (idle-task (view (opening n v vs) (Sim.fresh (λ k. getD vs k 0)) k) κ u idle (settled≢late u))
-      ; rivals = λ u x ne e. rw (on-idle (λ t. idle) k u refl, on-idle (λ t. idle) k x refl) record { one-won = λ b. absurd b; no-race = λ b. absurd b }
-      ; apart = λ u x ne. rw (on-idle (λ t. idle) k u refl) (λ b. absurd b) } }
+opening-good n v vs ok κ = record {
+  on-path = opening-on-path n v vs;
+  eager = λ u n z. absurd (let x : _≡_ {A = ℕ} 0 1 = cc in omega arith);
+  cells = λ k. record {
+    current = record { low = omega arith; P-some = ok k; v-some = ok k; decided-inactive = λ z. absurd (z refl); decision = λ z. absurd (z refl); phase-is = λ z. (refl, refl) };
+    tasks = λ u. rw (on-idle (λ t. idle) k u refl) (idle-task (view (opening n v vs) (Sim.fresh (λ k. getD vs k 0)) k) κ u idle (settled≢late u));
+    rivals = λ u x ne e. rw (on-idle (λ t. idle) k u refl, on-idle (λ t. idle) k x refl) record { one-won = λ b. absurd b; no-race = λ b. absurd b };
+    apart = λ u x ne. rw (on-idle (λ t. idle) k u refl) (λ b. absurd b);
+  };
+}
 
 -- a refused action, or any moment: more is known
 pub good-grown : (w : World) (g : Ghost) (κ κ′ : Knowledge) → Good w g κ → Grown doing w w g κ κ′ → Good w g κ′

@@ -60,44 +60,80 @@ module _ (s : View) (κ : Knowledge) (t : ℕ) (x : Wanted) (i : Inv s κ) (e : 
     decided-here u h =
         let r = i .tasks u .decided in
         let c : s .cell .c (held s u) ≢ 0 = rw h (here .task .decided .inactive tt) in
-        record
-          { replaced-decided = λ b z. given; decided-inactive = λ b z. c; before-store = λ b z. y .before-store u b h
-          ; told-value = λ b z g. absurd (given g); told-decided = λ b z g. y .new-is u b h z; late-inactive = λ b z. c
-          ; late-phase = λ b z g. absurd (given g); late-decided = λ b z g. y .expected-is u b h z; inactive = λ b. c; decided = λ b. given
-          ; expected = λ b. absurd (i .tasks u .self .ev-some (lies-in replacing swapping tt (line s u) b) (sym (r .expected b) ∙ rw h d)) }
+        record {
+          replaced-decided = λ b z. given;
+          decided-inactive = λ b z. c;
+          before-store = λ b z. y .before-store u b h;
+          told-value = λ b z g. absurd (given g);
+          told-decided = λ b z g. y .new-is u b h z;
+          late-inactive = λ b z. c;
+          late-phase = λ b z g. absurd (given g);
+          late-decided = λ b z g. y .expected-is u b h z;
+          inactive = λ b. c;
+          decided = λ b. given;
+          expected = λ b. absurd (i .tasks u .self .ev-some (lies-in replacing swapping tt (line s u) b) (sym (r .expected b) ∙ rw h d));
+        }
 
     -- of the others
     decided-far : (u : ℕ) → held s u ≢ q .held → Decided u (line s u) (s .task u) (told u) (s .cell .d (held s u)) (s .cell .c (held s u)) L (q .loaded) settled
     decided-far u h =
         let r = i .tasks u .decided in
         let z : T (stored (line s u)) → s .cell .d (held s u) ≡ none → ⊥ = λ b g. h (undecided s κ i u (lies-in stored holding tt (line s u) b) g ∙ sym is-L) in
-        record
-          { replaced-decided = r .replaced-decided; decided-inactive = r .decided-inactive; before-store = r .before-store
-          ; told-value = λ b g c. absurd (z b c); told-decided = λ b g. r .told-decided b (rw (y .elsewhere u b h) at g); late-inactive = λ b g. r .late-inactive b (rw (y .elsewhere u b h) at g)
-          ; late-phase = λ b g c. absurd (z b c); late-decided = λ b g. r .late-decided b (rw (y .elsewhere u b h) at g); inactive = r .inactive; decided = r .decided; expected = r .expected }
+        record {
+          replaced-decided = r .replaced-decided;
+          decided-inactive = r .decided-inactive;
+          before-store = r .before-store;
+          told-value = λ b g c. absurd (z b c);
+          told-decided = λ b g. r .told-decided b (rw (y .elsewhere u b h) at g);
+          late-inactive = λ b g. r .late-inactive b (rw (y .elsewhere u b h) at g);
+          late-phase = λ b g c. absurd (z b c);
+          late-decided = λ b g. r .late-decided b (rw (y .elsewhere u b h) at g);
+          inactive = r .inactive;
+          decided = r .decided;
+          expected = r .expected;
+        }
 
     task′ : (u : ℕ) → TaskOf done κ u (line s u) (s .task u)
-    task′ u = let k = i .tasks u in record
-      { split = k .split; value = k .value; early = k .early
-      ; self = let r = k .self in record
-          { differ = r .differ; ev-some = r .ev-some; nv-some = r .nv-some; loaded-some = r .loaded-some; other-loaded = r .other-loaded; same-loaded = r .same-loaded
-          ; yes-told = λ b. y .more u (r .yes-told b); told-stored = y .only u }
-      ; decided = upd-cases (λ g. Decided u (line s u) (s .task u) (told u) g (s .cell .c (held s u)) L (q .loaded) settled) (s .cell .d) (q .held) (q .loaded) (held s u) (decided-here u) (decided-far u)
-      ; seen = let r = k .seen in upd-cases (λ g. Seen (line s u) (held s u) (s .task u .loaded) (κ .saw u) g (s .cell .c (held s u)) L) (s .cell .d) (q .held) (q .loaded) (held s u)
-          (λ h. record { active-value = r .active-value; refusing = r .refusing; decision = λ b g. now u (lies-in holding busy tt (line s u) b); replaced = λ b g. absurd (g (h ∙ is-L)) }) (λ h. r)
-      ; planned = record
-          { plan-some = k .planned .plan-some
-          ; plan = λ b. upd-cases (λ g. g ≡ none → s .task u .loaded ≢ q .loaded → s .cell .v L ≡ s .task u .loaded) (s .cell .d) (q .held) (q .loaded) (held s u)
-              (λ h g. absurd (given g)) (λ h g. absurd (h (undecided s κ i u (lies-in (is 2) holding tt (line s u) b) g ∙ sym is-L))) }
-      ; fresh = λ b. rw (upd-off (s .cell .d) (q .held) (q .loaded) (s .task u .taken) (not-taken s κ i u t b (rw e tt))) (k .fresh b)
-      ; owner = λ z. absurd (settled≢late u z) }
+    task′ u = let k = i .tasks u in record {
+      split = k .split;
+      value = k .value;
+      early = k .early;
+      self = let r = k .self in record {
+        differ = r .differ;
+        ev-some = r .ev-some;
+        nv-some = r .nv-some;
+        loaded-some = r .loaded-some;
+        other-loaded = r .other-loaded;
+        same-loaded = r .same-loaded;
+        yes-told = λ b. y .more u (r .yes-told b);
+        told-stored = y .only u;
+      };
+      decided = upd-cases (λ g. Decided u (line s u) (s .task u) (told u) g (s .cell .c (held s u)) L (q .loaded) settled) (s .cell .d) (q .held) (q .loaded) (held s u) (decided-here u) (decided-far u);
+      seen = let r = k .seen in upd-cases (λ g. Seen (line s u) (held s u) (s .task u .loaded) (κ .saw u) g (s .cell .c (held s u)) L) (s .cell .d) (q .held) (q .loaded) (held s u)
+          (λ h. record { active-value = r .active-value; refusing = r .refusing; decision = λ b g. now u (lies-in holding busy tt (line s u) b); replaced = λ b g. absurd (g (h ∙ is-L)) }) (λ h. r);
+      planned = record {
+        plan-some = k .planned .plan-some;
+        plan = λ b. upd-cases (λ g. g ≡ none → s .task u .loaded ≢ q .loaded → s .cell .v L ≡ s .task u .loaded) (s .cell .d) (q .held) (q .loaded) (held s u)
+            (λ h g. absurd (given g)) (λ h g. absurd (h (undecided s κ i u (lies-in (is 2) holding tt (line s u) b) g ∙ sym is-L)));
+      };
+      fresh = λ b. rw (upd-off (s .cell .d) (q .held) (q .loaded) (s .task u .taken) (not-taken s κ i u t b (rw e tt))) (k .fresh b);
+      owner = λ z. absurd (settled≢late u z);
+    }
 
     rest-done : Rest done κ t
-    rest-done = record
-      { rivals = λ u w ne ne′. i .rivals u w; apart = λ u w ne ne′. i .apart u w; tasks = λ u ne. task′ u
-      ; current = let k = i .current in record
-          { low = k .low; P-some = given; v-some = k .v-some; decided-inactive = λ g. rw is-L at (here .task .decided .inactive tt); decision = λ g. now-decided
-          ; phase-is = λ g. absurd (given (sym now-decided ∙ g)) } }
+    rest-done = record {
+      rivals = λ u w ne ne′. i .rivals u w;
+      apart = λ u w ne ne′. i .apart u w;
+      tasks = λ u ne. task′ u;
+      current = let k = i .current in record {
+        low = k .low;
+        P-some = given;
+        v-some = k .v-some;
+        decided-inactive = λ g. rw is-L at (here .task .decided .inactive tt);
+        decision = λ g. now-decided;
+        phase-is = λ g. absurd (given (sym now-decided ∙ g));
+      };
+    }
 
     mine-done : Mine done κ t (l3 x) next
     mine-done =
@@ -126,10 +162,14 @@ module _ (s : View) (κ : Knowledge) (t : ℕ) (x : Wanted) (i : Inv s κ) (e : 
             absurd (are-apart (is 23) stored tt (line s o) (rw (one-winner s κ i u o (lies-in (is 23) won tt (line s u) b) (lies-in stored won tt (line s o) (k .has-stored)) (h ∙ is-L ∙ sym (k .here))) at b) (k .has-stored))
 
     pub same : Telling s t (s .told)
-    same = record
-      { more = λ u b. b; only = λ u. i .tasks u .self .told-stored; elsewhere = λ u b h. refl; before-store = same-before
-      ; new-is = λ u b h z. p ∙ i .tasks u .decided .told-value b z (rw h d)
-      ; expected-is = λ u b h z. p ∙ sym (i .tasks u .owner (i .tasks u .decided .late-phase b z (rw h d)) .expected-is) }
+    same = record {
+      more = λ u b. b;
+      only = λ u. i .tasks u .self .told-stored;
+      elsewhere = λ u b h. refl;
+      before-store = same-before;
+      new-is = λ u b h z. p ∙ i .tasks u .decided .told-value b z (rw h d);
+      expected-is = λ u b h z. p ∙ sym (i .tasks u .owner (i .tasks u .decided .late-phase b z (rw h d)) .expected-is);
+    }
 
   -- it is another: a late swap's
   module _ (p : q .loaded ≢ s .value) where
@@ -154,10 +194,11 @@ module _ (s : View) (κ : Knowledge) (t : ℕ) (x : Wanted) (i : Inv s κ) (e : 
     it-is u b h = one-winner s κ i u (who .0) b (lies-in stored won tt (line s (who .0)) (owner .has-stored)) (h ∙ is-L ∙ sym (owner .here))
 
     pub land : Telling s t (upd (s .told) (who .0) true)
-    land = record
-      { more = λ u b. upd-cases T (s .told) (who .0) true u (λ z. tt) (λ z. b)
-      ; only = λ u b. upd-cases (λ z. T z → T (stored (line s u))) (s .told) (who .0) true u (λ h z. rw h (owner .has-stored)) (λ h. i .tasks u .self .told-stored b)
-      ; new-is = λ u b h z. rw (it-is u (lies-in stored won tt (line s u) b) h) (sym its-new)
-      ; expected-is = λ u b h z. absurd (rw (upd-at (s .told) (who .0) true u (it-is u (lies-in stored won tt (line s u) b) h)) at z)
-      ; elsewhere = λ u b h. upd-off (s .told) (who .0) true u (λ z. h (ap (held s) z ∙ owner .here ∙ sym is-L))
-      ; before-store = λ u b h. absurd (are-apart (is 23) stored tt (line s u) b (rw (it-is u (lies-in (is 23) won tt (line s u) b) h) (owner .has-stored))) }
+    land = record {
+      more = λ u b. upd-cases T (s .told) (who .0) true u (λ z. tt) (λ z. b);
+      only = λ u b. upd-cases (λ z. T z → T (stored (line s u))) (s .told) (who .0) true u (λ h z. rw h (owner .has-stored)) (λ h. i .tasks u .self .told-stored b);
+      new-is = λ u b h z. rw (it-is u (lies-in stored won tt (line s u) b) h) (sym its-new);
+      expected-is = λ u b h z. absurd (rw (upd-at (s .told) (who .0) true u (it-is u (lies-in stored won tt (line s u) b) h)) at z);
+      elsewhere = λ u b h. upd-off (s .told) (who .0) true u (λ z. h (ap (held s) z ∙ owner .here ∙ sym is-L));
+      before-store = λ u b h. absurd (are-apart (is 23) stored tt (line s u) b (rw (it-is u (lies-in (is 23) won tt (line s u) b) h) (owner .has-stored)));
+    }

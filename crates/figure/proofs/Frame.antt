@@ -33,17 +33,17 @@ each : (f : ℕ → Record) (t : ℕ) (q : Record) (Q : ℕ → Record → Type 
 each f t q Q mine theirs u = upd-cases (Q u) f t q u (λ e. subst (λ n. Q n q) (sym e) mine) (theirs u)
 
 pub finish : (s : View) (κ : Knowledge) (t : ℕ) (ℓ : Line) (q : Record) → lineOf q ≡ ℓ → Rest s κ t → Mine s κ t ℓ q → Inv (moved s t q) κ
-finish s κ t ℓ q e r o = record
-  { current = r .current
-  ; tasks = each f t q (λ u p. TaskOf s κ u (lineOf p) p) (rw e (o .task)) (r .tasks)
-  ; rivals = each f t q (λ u p. (w : ℕ) → u ≢ w → p .held ≡ upd f t q w .held → Rival w (lineOf p) (lineOf (upd f t q w)) (s .cell .x (upd f t q w .held)))
+finish s κ t ℓ q e r o = record {
+  current = r .current;
+  tasks = each f t q (λ u p. TaskOf s κ u (lineOf p) p) (rw e (o .task)) (r .tasks);
+  rivals = each f t q (λ u p. (w : ℕ) → u ≢ w → p .held ≡ upd f t q w .held → Rival w (lineOf p) (lineOf (upd f t q w)) (s .cell .x (upd f t q w .held)))
       (each f t q (λ w p. t ≢ w → q .held ≡ p .held → Rival w (lineOf q) (lineOf p) (s .cell .x (p .held))) (λ n. absurd (n refl)) (λ w ne n h. rw e (o .wins w ne h)))
-      (λ u ne. each f t q (λ w p. u ≢ w → held s u ≡ p .held → Rival w (line s u) (lineOf p) (s .cell .x (p .held))) (λ n h. rw e (o .loses u ne h)) (λ w ne′. r .rivals u w ne ne′))
-  ; apart = each f t q (λ u p. (w : ℕ) → u ≢ w → T (is 30 (lineOf p)) → T (is 30 (lineOf (upd f t q w))) → p .taken ≢ upd f t q w .taken)
+      (λ u ne. each f t q (λ w p. u ≢ w → held s u ≡ p .held → Rival w (line s u) (lineOf p) (s .cell .x (p .held))) (λ n h. rw e (o .loses u ne h)) (λ w ne′. r .rivals u w ne ne′));
+  apart = each f t q (λ u p. (w : ℕ) → u ≢ w → T (is 30 (lineOf p)) → T (is 30 (lineOf (upd f t q w))) → p .taken ≢ upd f t q w .taken)
       (each f t q (λ w p. t ≢ w → T (is 30 (lineOf q)) → T (is 30 (lineOf p)) → q .taken ≢ p .taken) (λ n. absurd (n refl)) (λ w ne n. rw e (o .apart w ne)))
       (λ u ne. each f t q (λ w p. u ≢ w → T (is 30 (line s u)) → T (is 30 (lineOf p)) → s .task u .taken ≢ p .taken)
-        (λ n a b h. o .apart u ne (rw e at b) a (sym h)) (λ w ne′. r .apart u w ne ne′))
-  }
+      (λ n a b h. o .apart u ne (rw e at b) a (sym h)) (λ w ne′. r .apart u w ne ne′));
+}
   where
     f : ℕ → Record
     f = s .task
@@ -57,12 +57,12 @@ quiet s κ t ℓ q e i o = finish s κ t ℓ q e (forget s κ t i) o
 
 -- what is known of t at its line
 pub was : (s : View) (κ : Knowledge) (t : ℕ) (ℓ : Line) → line s t ≡ ℓ → Inv s κ → Mine s κ t ℓ (s .task t)
-was s κ t ℓ e i = record
-  { task = rw e at (i .tasks t)
-  ; wins = λ w ne h. rw e at (i .rivals t w (λ p. ne (sym p)) h)
-  ; loses = λ w ne h. rw e at (i .rivals w t ne h)
-  ; apart = λ w ne. rw e at (i .apart t w (λ p. ne (sym p)))
-  }
+was s κ t ℓ e i = record {
+  task = rw e at (i .tasks t);
+  wins = λ w ne h. rw e at (i .rivals t w (λ p. ne (sym p)) h);
+  loses = λ w ne h. rw e at (i .rivals w t ne h);
+  apart = λ w ne. rw e at (i .apart t w (λ p. ne (sym p)));
+}
 
 -- KNOWLEDGE
 
@@ -71,14 +71,22 @@ pub grow : (s : View) (κ κ′ : Knowledge) → ((u : ℕ) → T (busy (line s 
 grow s κ κ′ m i = record { current = i .current; tasks = λ u. more u (line s u) (m u) (i .tasks u); rivals = i .rivals; apart = i .apart }
   where
     more : (u : ℕ) (ℓ : Line) → (T (busy ℓ) → ((v : ℕ) → κ .saw u v → κ′ .saw u v) × (κ .early u → κ′ .early u)) → TaskOf s κ u ℓ (s .task u) → TaskOf s κ′ u ℓ (s .task u)
-    more u ℓ m k = record
-      { self = k .self; split = k .split; value = k .value; decided = k .decided; planned = k .planned; fresh = k .fresh; owner = k .owner
-      ; early = λ a. m (lies-in (is 23) busy tt ℓ a) .1 (k .early a)
-      ; seen = record
-          { active-value = λ a c. m (lies-in checking busy tt ℓ a) .0 _ (k .seen .active-value a c)
-          ; refusing = λ a. m (lies-in (is 22) busy tt ℓ a) .0 _ (k .seen .refusing a)
-          ; decision = λ a d. m (lies-in holding busy tt ℓ a) .0 _ (k .seen .decision a d)
-          ; replaced = λ a h. let r = k .seen .replaced a h in (r .0, m (lies-in holding busy tt ℓ a) .0 _ (r .1), r .2) } }
+    more u ℓ m k = record {
+      self = k .self;
+      split = k .split;
+      value = k .value;
+      decided = k .decided;
+      planned = k .planned;
+      fresh = k .fresh;
+      owner = k .owner;
+      early = λ a. m (lies-in (is 23) busy tt ℓ a) .1 (k .early a);
+      seen = record {
+        active-value = λ a c. m (lies-in checking busy tt ℓ a) .0 _ (k .seen .active-value a c);
+        refusing = λ a. m (lies-in (is 22) busy tt ℓ a) .0 _ (k .seen .refusing a);
+        decision = λ a d. m (lies-in holding busy tt ℓ a) .0 _ (k .seen .decision a d);
+        replaced = λ a h. let r = k .seen .replaced a h in (r .0, m (lies-in holding busy tt ℓ a) .0 _ (r .1), r .2);
+      };
+    }
 
 -- CONSEQUENCES
 

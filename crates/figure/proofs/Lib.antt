@@ -19,3 +19,6 @@ pub mod Marks
 pub mod Quiet
 pub mod Quietly
 pub mod Simulation
+pub mod Reachable
+pub mod Ninth
+pub mod TracedCalls

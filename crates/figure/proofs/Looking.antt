@@ -58,7 +58,7 @@ module _ (s : View) (κ : Knowledge) (t : ℕ) where
   -- a task that is idle asks for nothing, unless its late store is awaited
   pub idle-task : (q : Record) → s .phase ≢ late t → TaskOf s κ t nowhere q
   idle-task q n = record
-    { self = search off; split = search off; value = search off; decided = search off; seen = search off; planned = search off; fresh = search off; early = search off; owner = λ e. absurd (n e) }
+      { self = search off; split = search off; value = search off; decided = search off; seen = search off; planned = search off; fresh = search off; early = search off; owner = λ e. absurd (n e) }
 
   pub idle-mine : (q : Record) → s .phase ≢ late t → Mine s κ t nowhere q
   idle-mine q n = record { task = idle-task q n; wins = λ w ne h. search off; loses = λ w ne h. search off; apart = λ w ne. search off }
@@ -133,45 +133,76 @@ module _ (s : View) (κ : Knowledge) (i : Inv s κ) where
         let p : PhaseIs (late t) (s .cell .c L) (s .cell .v L) (s .cell .d L) (s .value) = subst (λ p. PhaseIs p (s .cell .c L) (s .cell .v L) (s .cell .d L) (s .value)) e (i .current .phase-is) in
         m .task .decided .decided tt (ap (s .cell .d) (o .here) ∙ p .1)
 
-    module _ (now : s .phase ≡ settled → κ .saw t (s .value)) where
-      seen-decision : s .cell .d L ≢ none → κ .saw t (s .cell .d L)
-      seen-decision d = rw (i .current .decision d) (now (decided-settled d))
+    -- THE LINES BEFORE THE STORE: the task's own late store is not awaited
+    module _ (o : s .phase ≢ late t) where
+      module _ (now : s .phase ≡ settled → κ .saw t (s .value)) where
+        seen-decision : s .cell .d L ≢ none → κ .saw t (s .cell .d L)
+        seen-decision d = rw (i .current .decision d) (now (decided-settled d))
 
-      seen-active : (ℓ : Line) → line s t ≡ ℓ → T (holding ℓ) → s .cell .c (q .held) ≡ 0 → κ .saw t (s .cell .v (q .held))
-      seen-active ℓ e h c = rw (active-value t (rw e h) c) (now (active-settled t (rw e h) c))
+        seen-active : (ℓ : Line) → line s t ≡ ℓ → T (holding ℓ) → s .cell .c (q .held) ≡ 0 → κ .saw t (s .cell .v (q .held))
+        seen-active ℓ e h c = rw (active-value t (rw e h) c) (now (active-settled t (rw e h) c))
 
-      pub from10 : Mine s κ t l10 q → Mine s κ t l11 held-now
-      from10 m =
-          let c = i .current in
-          let same : L ≢ L → ⊥ = λ e. e refl in
-          let other : L ≢ L → (n : ℕ) × κ .saw t n × (n ≢ s .cell .d L) = λ e. absurd (e refl) in
-          let o : s .phase ≢ late t = not-late s κ t l10 q (λ x. x) (m .task) in
-          let d = seen-decision in
+        -- at the first line the block held is the current one
+        same : L ≢ L → ⊥
+        same e = e refl
+
+        not-other : L ≢ L → (n : ℕ) × κ .saw t n × (n ≢ s .cell .d L)
+        not-other e = absurd (e refl)
+
+        pub from10 : Mine s κ t l10 q → Mine s κ t l11 held-now
+        from10 m = let c = i .current in search (off, same, not-other, seen-decision)
+
+        pub from15 : Mine s κ t l15 q → Mine s κ t l16 held-now
+        from15 m = let c = i .current in search (off, same, not-other, seen-decision)
+
+        pub from11 : line s t ≡ l11 → Mine s κ t l11 q → Mine s κ t l12 loaded-now
+        from11 e m =
+            let c = seen-active l11 e tt in
+            search off
+
+        pub from20 : line s t ≡ l20 → Mine s κ t l20 q → Mine s κ t l21 loaded-now
+        from20 e m =
+            let c = seen-active l20 e tt in
+            search off
+
+      pub from12 : Mine s κ t l12 q → s .cell .c (q .held) ≢ 0 → Mine s κ t (l1 for13) on
+      from12 m c = search off
+
+      pub from17-27 : Mine s κ t l17 q → Mine s κ t l27 on
+      from17-27 m = search off
+
+      pub from17-18 : Mine s κ t l17 q → s .cell .y (q .held) ≡ 0 → Mine s κ t l18 on
+      from17-18 m y =
+          let loses : (u : ℕ) → u ≢ t → held s u ≡ q .held → Rival t (line s u) l18 (s .cell .x (q .held))
+          = λ u ne h. record { one-won = λ a b. b; no-race = λ a b e. i .tasks u .split .kept a (ap (s .cell .y) h ∙ y) } in
           search off
 
-      pub from15 : Mine s κ t l15 q → Mine s κ t l16 held-now
-      from15 m =
-          let c = i .current in
-          let same : L ≢ L → ⊥ = λ e. e refl in
-          let other : L ≢ L → (n : ℕ) × κ .saw t n × (n ≢ s .cell .d L) = λ e. absurd (e refl) in
-          let o : s .phase ≢ late t = not-late s κ t l15 q (λ x. x) (m .task) in
-          let d = seen-decision in
+      pub from19-27 : Mine s κ t l19 q → Mine s κ t l27 on
+      from19-27 m = search off
+
+      pub from19-20 : Mine s κ t l19 q → s .cell .x (q .held) ≡ t → Mine s κ t l20 on
+      from19-20 m x =
+          let y : s .cell .y (q .held) ≢ 0 = m .task .split .about-to-win tt x in
+          let wins : (u : ℕ) → u ≢ t → q .held ≡ held s u → Rival u l20 (line s u) (s .cell .x (held s u))
+          = λ u ne h. record { one-won = λ a b. m .loses u ne (sym h) .no-race b tt x; no-race = λ a b e. ne (sym e ∙ rw h at x) } in
+          let loses : (u : ℕ) → u ≢ t → held s u ≡ q .held → Rival t (line s u) l20 (s .cell .x (q .held))
+          = λ u ne h. record { one-won = λ a b. m .loses u ne h .no-race a tt x; no-race = λ a b e. b } in
           search off
 
-      pub from11 : line s t ≡ l11 → Mine s κ t l11 q → Mine s κ t l12 loaded-now
-      from11 e m =
-          let o : s .phase ≢ late t = not-late s κ t l11 q (λ x. x) (m .task) in
-          let c = seen-active l11 e tt in
+      pub from21-1 : Mine s κ t l21 q → s .cell .c (q .held) ≢ 0 → Mine s κ t (l1 for28) on
+      from21-1 m c = search off
+
+      pub from21-22 : Mine s κ t l21 q → s .cell .c (q .held) ≡ 0 → q .loaded ≢ q .expected → Mine s κ t l22 on
+      from21-22 m c e =
+          let r : κ .saw t (q .loaded) = m .task .seen .active-value tt c in
           search off
 
-      pub from20 : line s t ≡ l20 → Mine s κ t l20 q → Mine s κ t l21 loaded-now
-      from20 e m =
-          let o : s .phase ≢ late t = not-late s κ t l20 q (λ x. x) (m .task) in
-          let c = seen-active l20 e tt in
+      pub from21-23 : Mine s κ t l21 q → s .cell .c (q .held) ≡ 0 → q .loaded ≡ q .expected → κ .early t → Mine s κ t l23 on
+      from21-23 m c e r =
+          let b : s .cell .d (q .held) ≢ none → s .cell .d (q .held) ≡ q .expected = λ d. absurd (m .task .decided .decided-inactive tt d c) in
           search off
 
-    pub from12 : Mine s κ t l12 q → s .cell .c (q .held) ≢ 0 → Mine s κ t (l1 for13) on
-    from12 m c = let o : s .phase ≢ late t = not-late s κ t l12 q (λ x. x) (m .task) in search off
+    -- THE OTHERS
 
     pub from1 : (x : Wanted) → line s t ≡ l1 x → Mine s κ t (l1 x) q → Mine s κ t (l2 x) loaded-now
     from1 x e m =
@@ -190,44 +221,6 @@ module _ (s : View) (κ : Knowledge) (i : Inv s κ) where
 
     pub from3-28 : Mine s κ t (l3 for28) q → s .cell .d (q .held) ≡ q .expected → Mine s κ t l29 on
     from3-28 m d = let o = decided-not-late for28 m in search off
-
-    pub from17-27 : Mine s κ t l17 q → Mine s κ t l27 on
-    from17-27 m = let o : s .phase ≢ late t = not-late s κ t l17 q (λ x. x) (m .task) in search off
-
-    pub from17-18 : Mine s κ t l17 q → s .cell .y (q .held) ≡ 0 → Mine s κ t l18 on
-    from17-18 m y =
-        let o : s .phase ≢ late t = not-late s κ t l17 q (λ x. x) (m .task) in
-        let loses : (u : ℕ) → u ≢ t → held s u ≡ q .held → Rival t (line s u) l18 (s .cell .x (q .held))
-              = λ u ne h. record { one-won = λ a b. b; no-race = λ a b e. i .tasks u .split .kept a (ap (s .cell .y) h ∙ y) } in
-        search off
-
-    pub from19-27 : Mine s κ t l19 q → Mine s κ t l27 on
-    from19-27 m = let o : s .phase ≢ late t = not-late s κ t l19 q (λ x. x) (m .task) in search off
-
-    pub from19-20 : Mine s κ t l19 q → s .cell .x (q .held) ≡ t → Mine s κ t l20 on
-    from19-20 m x =
-        let o : s .phase ≢ late t = not-late s κ t l19 q (λ x. x) (m .task) in
-        let y : s .cell .y (q .held) ≢ 0 = m .task .split .about-to-win tt x in
-        let wins : (u : ℕ) → u ≢ t → q .held ≡ held s u → Rival u l20 (line s u) (s .cell .x (held s u))
-              = λ u ne h. record { one-won = λ a b. m .loses u ne (sym h) .no-race b tt x; no-race = λ a b e. ne (sym e ∙ rw h at x) } in
-        let loses : (u : ℕ) → u ≢ t → held s u ≡ q .held → Rival t (line s u) l20 (s .cell .x (q .held))
-              = λ u ne h. record { one-won = λ a b. m .loses u ne h .no-race a tt x; no-race = λ a b e. b } in
-        search off
-
-    pub from21-1 : Mine s κ t l21 q → s .cell .c (q .held) ≢ 0 → Mine s κ t (l1 for28) on
-    from21-1 m c = let o : s .phase ≢ late t = not-late s κ t l21 q (λ x. x) (m .task) in search off
-
-    pub from21-22 : Mine s κ t l21 q → s .cell .c (q .held) ≡ 0 → q .loaded ≢ q .expected → Mine s κ t l22 on
-    from21-22 m c e =
-        let o : s .phase ≢ late t = not-late s κ t l21 q (λ x. x) (m .task) in
-        let r : κ .saw t (q .loaded) = m .task .seen .active-value tt c in
-        search off
-
-    pub from21-23 : Mine s κ t l21 q → s .cell .c (q .held) ≡ 0 → q .loaded ≡ q .expected → κ .early t → Mine s κ t l23 on
-    from21-23 m c e r =
-        let o : s .phase ≢ late t = not-late s κ t l21 q (λ x. x) (m .task) in
-        let b : s .cell .d (q .held) ≢ none → s .cell .d (q .held) ≡ q .expected = λ d. absurd (m .task .decided .decided-inactive tt d c) in
-        search off
 
     pub from24-1 : Mine s κ t l24 q → s .cell .c (q .held) ≢ 0 → Mine s κ t (l1 for25) on
     from24-1 m c = let o = still-owner l24 (l1 for25) (q .loaded) (λ z. z) m in search off

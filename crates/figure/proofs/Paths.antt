@@ -4,7 +4,6 @@ use mathlib.Core.Logic.{inl, inr}
 use mathlib.Core.Bool.{cond}
 use mathlib.Core.List.{List, [], _∷_, _++_}
 use Prim.Native.Nat.{ℕ}
-use native.Mathlib.Omega.{arith}
 use lib.Dec.{eqb, eqb→eq}
 use Rattle.cells.specs.declared.Record.{Record}
 use Rattle.cells.specs.declared.Answer.the-variants.{No}
@@ -13,28 +12,20 @@ use Rattle.cells.specs.declared.lines.Next.the-variants.{Go, Done}
 use Rattle.cells.specs.Lines.{Line, for13, for25, for28, l2, l3, l30, nowhere, lineOf, accessAt, nextOf, hardware}
 use Rattle.cells.specs.Begin.{firstSwap}
 use Rattle.history.specs.Basics.{_∈_}
-use Rattle.history.specs.History.{Action, run}
-use Rattle.figure.specs.Figure.{opening, figure}
-use Rattle.figure.specs.Paths.{paths, by25, counts, countsOf, table, Traced, Trace, trace, traces, startTrace}
-use Rattle.figure.specs.Paths as Paths
+use Rattle.history.specs.History.{Action}
+use Rattle.figure.specs.Figure.{opening}
+use Rattle.cells.specs.Paths.{table}
+use Rattle.figure.specs.Paths.{paths, by25, counts, countsOf, Traced, noTrace}
 use Rattle.figure.proofs.LineLaws.{every-line, has, same}
-use Rattle.figure.proofs.Records.{Pending, Complete, steps-on, Sound, trace-sound, trace-world}
+use Rattle.figure.proofs.Records.{CompleteCall, Sound, figureTraces, traces-sound}
 
 -- FINISHED CALLS
 
-pub traces-run : (r : Trace) (l : List Action) → traces r l .world ≡ run figure (r .world) l
-traces-run r [] = refl
-traces-run r (a ∷ l) = traces-run (trace r a) l ∙ ap (λ w. run figure w l) (trace-world r a)
+pub start-sound : (n v : ℕ) (vs : List ℕ) → Sound (opening n v vs) noTrace
+start-sound n v vs = record { pending = λ t. inl (refl, refl); begun = λ t k e. inl refl; complete = λ x i. absurd i }
 
-pub traces-sound : (r : Trace) → Sound r → (l : List Action) → Sound (traces r l)
-traces-sound r s [] = s
-traces-sound r s (a ∷ l) = traces-sound (trace r a) (trace-sound r s a) l
-
-pub opening-sound : (n v : ℕ) (vs : List ℕ) → Sound (startTrace (opening n v vs))
-opening-sound n v vs = record { pending = λ t. inl (refl, refl); complete = λ x i. absurd i }
-
-pub calls-on-paths : (n v : ℕ) (vs : List ℕ) (l : List Action) (x : Traced) → x ∈ traces (startTrace (opening n v vs)) l .done → Complete (x .lines) (x .result)
-calls-on-paths n v vs l = traces-sound (startTrace (opening n v vs)) (opening-sound n v vs) l .complete
+pub calls-on-paths : (n v : ℕ) (vs : List ℕ) (l : List Action) (x : Traced) → x ∈ figureTraces (opening n v vs) noTrace l .done → CompleteCall x
+calls-on-paths n v vs l = traces-sound (opening n v vs) noTrace (start-sound n v vs) l .complete
 
 -- THE TABLE
 
@@ -74,5 +65,5 @@ ending-is : (k : Line) (d : List Line) (l : Line) → ending k (d ++ (l ∷ []))
 ending-is k [] l = refl
 ending-is k (a ∷ d) l = ending-is a d l
 
-pub ninth-only-from : (v : ℕ) (did : List Line) (q : Record) → Pending v did q → did ++ (lineOf q ∷ []) ≡ by25 → (lineOf q ≡ l3 for28) × (q .steps ≡ 14)
-ninth-only-from v did q o e = (sym (ending-is nowhere did (lineOf q)) ∙ ap (ending nowhere) e, omega (arith, steps-on did (lineOf q), ap Paths.steps e, o .steps))
+pub last-line : (did : List Line) (l : Line) → did ++ (l ∷ []) ≡ by25 → l ≡ l3 for28
+last-line did l e = sym (ending-is nowhere did l) ∙ ap (ending nowhere) e

@@ -54,9 +54,15 @@ module _ (m : Cell) (f : ℕ → Record) (t : ℕ) (z : Quiet m f t) where
   -- at the next line, with memory m′
   quiet-at : (m′ : Cell) (ℓ : Line) (r : Record) → lineOf r ≡ ℓ → T (uncontended ℓ) → r .hard ≡ 0 → m′ .c (m′ .current) ≡ 0 → (T (holding ℓ) → r .held ≡ m′ .current)
       → (T (entering ℓ) → m′ .y (m′ .current) ≡ 0) → (T (signed ℓ) → m′ .x (m′ .current) ≡ t) → Quiet m′ (upd f t r) t
-  quiet-at m′ ℓ r e b n c h y x = record
-    { active = c; no-hard = rw upd-same n; line = rw (upd-same f t r, e) b; here = rw (upd-same f t r, e) h; clear = rw (upd-same f t r, e) y; mine = rw (upd-same f t r, e) x
-    ; lonely = λ u ne. rw (upd-off f t r u ne) (z .lonely u ne) }
+  quiet-at m′ ℓ r e b n c h y x = record {
+    active = c;
+    no-hard = rw upd-same n;
+    line = rw (upd-same f t r, e) b;
+    here = rw (upd-same f t r, e) h;
+    clear = rw (upd-same f t r, e) y;
+    mine = rw (upd-same f t r, e) x;
+    lonely = λ u ne. rw (upd-off f t r u ne) (z .lonely u ne);
+  }
 
   -- what is known at the line ℓ
   module _ (ℓ : Line) (e : lineOf q ≡ ℓ) where
@@ -155,13 +161,19 @@ pub others-step : (m : Cell) (f : ℕ → Record) (t u : ℕ) (r : Record) → Q
 others-step m f t u r z ne n n′ =
     let w = same-words m (accessAt (lineOf (f u)) u (f u)) (excluded (swapping (lineOf (f u))) (harmless (accessAt (lineOf (f u)) u (f u))) (every-line (λ l. swapping l || harmless (accessAt l u (f u))) tt (lineOf (f u))) n′) in
     let e = upd-off f u r t ne in
-    record
-      { active = ap₂-at (w .1) (w .0) ∙ z .active; no-hard = rw e (z .no-hard); line = rw e (z .line); here = rw e (λ b. z .here b ∙ sym (w .0)); clear = rw e (λ b. ap₂-at (w .2) (w .0) ∙ z .clear b)
-      ; mine = rw e (λ b. ap₂-at (w .3) (w .0) ∙ z .mine b)
-      ; lonely = λ v nv. upd-cases (λ (x : Record). T (swapping (lineOf x)) → ⊥) f u r v (λ x. n) (λ x. z .lonely v nv) }
+    record {
+      active = ap₂-at (w .1) (w .0) ∙ z .active;
+      no-hard = rw e (z .no-hard);
+      line = rw e (z .line);
+      here = rw e (λ b. z .here b ∙ sym (w .0));
+      clear = rw e (λ b. ap₂-at (w .2) (w .0) ∙ z .clear b);
+      mine = rw e (λ b. ap₂-at (w .3) (w .0) ∙ z .mine b);
+      lonely = λ v nv. upd-cases (λ (x : Record). T (swapping (lineOf x)) → ⊥) f u r v (λ x. n) (λ x. z .lonely v nv);
+    }
   where
     ap₂-at : {g g′ : ℕ → ℕ} {i i′ : ℕ} → g′ ≡ g → i′ ≡ i → g′ i′ ≡ g i
     ap₂-at p q = λ j. p j (q j)
+
     excluded : (a b : Bool) → T (a || b) → (T a → ⊥) → T b
     excluded true b h x = absurd (x tt)
     excluded false b h x = h
@@ -170,5 +182,12 @@ others-step m f t u r z ne n n′ =
 pub others-begin : (m : Cell) (f : ℕ → Record) (t u : ℕ) (r : Record) → Quiet m f t → t ≢ u → (T (swapping (lineOf r)) → ⊥) → Quiet m (upd f u r) t
 others-begin m f t u r z ne n =
     let e = upd-off f u r t ne in
-    record { active = z .active; no-hard = rw e (z .no-hard); line = rw e (z .line); here = rw e (z .here); clear = rw e (z .clear); mine = rw e (z .mine)
-      ; lonely = λ v nv. upd-cases (λ (x : Record). T (swapping (lineOf x)) → ⊥) f u r v (λ x. n) (λ x. z .lonely v nv) }
+    record {
+      active = z .active;
+      no-hard = rw e (z .no-hard);
+      line = rw e (z .line);
+      here = rw e (z .here);
+      clear = rw e (z .clear);
+      mine = rw e (z .mine);
+      lonely = λ v nv. upd-cases (λ (x : Record). T (swapping (lineOf x)) → ⊥) f u r v (λ x. n) (λ x. z .lonely v nv);
+    }

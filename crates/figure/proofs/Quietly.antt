@@ -13,25 +13,24 @@ use Rattle.cells.specs.declared.Record.{Record}
 use Rattle.cells.specs.declared.lines.Next.{Next}
 use Rattle.cells.specs.declared.lines.Next.the-variants.{Go, Done}
 use Rattle.cells.specs.Record.{idle}
-use Rattle.cells.specs.Begin.{firstRead, firstSwap}
 use Rattle.cells.specs.Lines.{Line, l10, l15, lineAt, lineOf, accessOf, accessAt, nextOf, counted, hardware}
 use Rattle.history.specs.Basics.{upd}
 use Rattle.history.specs.History.{Op, read, swap, cellOf}
 use Rattle.history.specs.Demand3.{Unequal}
 use Rattle.history.proofs.Basics.{either, upd-at, upd-same, upd-off}
 use Rattle.history.proofs.Simulation.{Ghost, Knowledge, Tally, QuietStarts, QuietSteps, Free}
-use Rattle.figure.specs.Figure.{Cell, World, withBoth, withRecord, recordAfter, perform, tried, active}
+use Rattle.figure.specs.Figure.{Cell, World, withRecord, recordAfter, perform, tried, active}
 use Rattle.figure.proofs.LineLaws.{Leads, goes, done}
 use Rattle.figure.proofs.Records.{Pending, OnPath, AllOnPath, Accepted, firstOf, led}
 use Rattle.figure.proofs.Tallies.{opOf, tally, tallyOf, doing}
-use Rattle.figure.proofs.Classes.{busy, swapping, marking, lies-in}
+use Rattle.figure.proofs.Classes.{busy, swapping, marking, lies-in, holding, uncontended}
 use Rattle.figure.proofs.Invariant.{none, line}
 use Rattle.figure.proofs.Views.{on, on-in, on-it, on-changed, on-elsewhere, view}
 use Rattle.figure.proofs.Operations.{cell-of, busy-line, busy-doing, is-unequal}
-use Rattle.figure.proofs.Worlds.{Good, pending-at}
+use Rattle.figure.proofs.Worlds.{Good, cellAfter, nextAfter, stepAfter, pending-at}
 use Rattle.figure.proofs.Begins.{was-idle, idle-to, its-cell}
 use Rattle.figure.proofs.Marks.{Marks, marks-kept}
-use Rattle.figure.proofs.Quiet.{Quiet, quiet-step, untried, others-step, others-begin}
+use Rattle.figure.proofs.Quiet.{signed, Quiet, quiet-step, untried, others-step, others-begin}
 
 -- a task is quiet on its own cell
 abbrev pub QuietIn : World → ℕ → Type 0
@@ -58,13 +57,13 @@ module _ (w : World) (g : Ghost) (κ : Knowledge) (G : Good w g κ) (marks : (k 
   k = q .cell
 
   abbrev m : Cell
-  m = perform (w .cell k) (accessOf t q) .cell
+  m = cellAfter w t
 
   abbrev n : Next
-  n = nextOf t q (perform (w .cell k) (accessOf t q) .value)
+  n = nextAfter w t
 
   abbrev w′ : World
-  w′ = withBoth w k m t (recordAfter n)
+  w′ = stepAfter w t
 
   here : on (w .records) k t ≡ q
   here = on-in (w .records) k t refl
@@ -82,7 +81,7 @@ module _ (w : World) (g : Ghost) (κ : Knowledge) (G : Good w g κ) (marks : (k 
     where
       go : (j ≡ k) ⊎ (j ≢ k) → Marks (w′ .cell j) (on (w′ .records) j)
       go (inl e) = subst (λ j. Marks (upd (w .cell) k m j) (on (upd (w .records) t (recordAfter n)) j)) (sym e) (rw (upd-same (w .cell) k m, on-changed (w .records) t (recordAfter n) k (stays .0))
-        (subst (λ (r : Record). let x = perform (w .cell k) (accessOf t r) in Marks (x .cell) (upd (on (w .records) k) t (recordAfter (nextOf t r (x .value))))) here
+          (subst (λ (r : Record). let x = perform (w .cell k) (accessOf t r) in Marks (x .cell) (upd (on (w .records) k) t (recordAfter (nextOf t r (x .value))))) here
           (marks-kept (view w g k) κ t (G .cells k) (marks k) (lineOf (on (w .records) k t)) refl (rw here (busy-line q (o .line))))))
       go (inr e) = rw (upd-off (w .cell) k m j e, on-elsewhere (w .records) t (recordAfter n) j (inl (λ z. e (sym z))) (elsewhere (stays .0))) (marks j)
         where
@@ -98,14 +97,16 @@ module _ (w : World) (g : Ghost) (κ : Knowledge) (G : Good w g κ) (marks : (k 
       same-cell : (recordAfter n .cell ≡ k) ⊎ (recordAfter n ≡ idle) → recordAfter n .cell ≡ k
       same-cell (inl z) = z
       same-cell (inr z) = absurd (let y : recordAfter (Go r) ≡ idle = subst (λ (y : Next). recordAfter y ≡ idle) e z in let x : Opt.none ≡ some a = rw y at d in let u : _≡_ {A = ℕ} 0 1 = cc in omega arith)
+
       stepped : (r : Record) → n ≡ Go r → Quiet m (upd (on (w .records) k) t r) t
       stepped r e = subst (λ (y : Next). Goes y) e
           (subst (λ (p : Record). let x = perform (w .cell k) (accessOf t p) in Goes′ (x .cell) (nextOf t p (x .value))) here
-            (quiet-step (w .cell k) (on (w .records) k) t z (lineOf (on (w .records) k t)) refl (z .line)))
+          (quiet-step (w .cell k) (on (w .records) k) t z (lineOf (on (w .records) k t)) refl (z .line)))
         where
           Goes′ : Cell → Next → Type 0
           Goes′ c (Go r) = Quiet c (upd (on (w .records) k) t r) t
           Goes′ c (Done f) = Unit {0}
+
           Goes : Next → Type 0
           Goes y = Goes′ m y
   own-kept (Done f) e a d z = absurd (let u : _≡_ {A = ℕ} 0 1 = cc in omega arith)
@@ -115,14 +116,15 @@ module _ (w : World) (g : Ghost) (κ : Knowledge) (G : Good w g κ) (marks : (k 
     where
       j : ℕ
       j = w .records u .cell
+
       go : (j ≡ k) ⊎ (j ≢ k) → Quiet (upd (w .cell) k m j) (on (upd (w .records) t (recordAfter n)) j) u
       go (inl e) =
           let y : Quiet (w .cell k) (on (w .records) k) u = subst (λ (j : ℕ). Quiet (w .cell j) (on (w .records) j) u) e z in
           let no-swap : T (swapping (lineOf (on (w .records) k t))) → ⊥ = y .lonely t (λ x. ne (sym x)) in
           subst (λ j. Quiet (upd (w .cell) k m j) (on (upd (w .records) t (recordAfter n)) j) u) (sym e)
-            (rw (upd-same (w .cell) k m, on-changed (w .records) t (recordAfter n) k (stays .0))
-              (subst (λ (p : Record). Quiet (perform (w .cell k) (accessOf t p) .cell) (upd (on (w .records) k) t (recordAfter n)) u) here
-                (others-step (w .cell k) (on (w .records) k) u t (recordAfter n) y ne (λ b. no-swap (rw here (stays .1 b))) no-swap)))
+          (rw (upd-same (w .cell) k m, on-changed (w .records) t (recordAfter n) k (stays .0))
+          (subst (λ (p : Record). Quiet (perform (w .cell k) (accessOf t p) .cell) (upd (on (w .records) k) t (recordAfter n)) u) here
+          (others-step (w .cell k) (on (w .records) k) u t (recordAfter n) y ne (λ b. no-swap (rw here (stays .1 b))) no-swap)))
       go (inr e) = rw (upd-off (w .cell) k m j e, on-elsewhere (w .records) t (recordAfter n) j (inl (λ x. e (sym x))) (elsewhere (stays .0))) z
         where
           elsewhere : (recordAfter n .cell ≡ k) ⊎ (recordAfter n ≡ idle) → (recordAfter n .cell ≢ j) ⊎ (recordAfter n ≡ idle)
@@ -130,9 +132,10 @@ module _ (w : World) (g : Ghost) (κ : Knowledge) (G : Good w g κ) (marks : (k 
           elsewhere (inr x) = inr x
 
   pub step-quietly : QuietSteps doing active QuietIn w w′ t (tried t q)
-  step-quietly = record
-    { untried = λ z. subst (λ (p : Record). hardware (accessAt (lineOf p) t p) ≡ 0) here (untried (w .cell k) (on (w .records) k) t z)
-    ; kept = λ u a d z. go u a d z (either u t) }
+  step-quietly = record {
+    untried = λ z. subst (λ (p : Record). hardware (accessAt (lineOf p) t p) ≡ 0) here (untried (w .cell k) (on (w .records) k) t z);
+    kept = λ u a d z. go u a d z (either u t);
+  }
     where
       go : (u : ℕ) (a : Tally) → doing w′ u ≡ some a → QuietIn w u → (u ≡ t) ⊎ (u ≢ t) → QuietIn w′ u
       go u a d z (inr e) = others-kept u e z
@@ -190,35 +193,49 @@ module _ (w : World) (g : Ghost) (κ : Knowledge) (G : Good w g κ) (marks : (k 
         where
           f : ℕ → Record
           f = on (w .records) (cellOf op)
+
           nobody : (u : ℕ) → T (swapping (lineOf (f u))) → ⊥
           nobody u b = let s = sees (cellOf op) u b in free u (tally (w .records u)) (s .0) (s .1) (s .2)
+
           clear : w .cell (cellOf op) .y (w .cell (cellOf op) .current) ≡ 0
           clear = go (either (w .cell (cellOf op) .y (w .cell (cellOf op) .current)) 0)
             where
               go : (w .cell (cellOf op) .y (w .cell (cellOf op) .current) ≡ 0) ⊎ (w .cell (cellOf op) .y (w .cell (cellOf op) .current) ≢ 0) → w .cell (cellOf op) .y (w .cell (cellOf op) .current) ≡ 0
               go (inl z) = z
               go (inr z) = let x = marks (cellOf op) c z in absurd (nobody (x .who) (lies-in marking swapping tt (lineOf (f (x .who))) (x .marks)))
+
           lonely : (p : Op) (u : ℕ) → u ≢ t → T (swapping (lineOf (upd f t (firstOf p) u))) → ⊥
           lonely p u ne = rw (upd-off f t (firstOf p) u ne) (nobody u)
-          at-first : (p : Op) (r : Record) → firstOf p ≡ r → r .hard ≡ 0 → (lineOf r ≡ l10) ⊎ (lineOf r ≡ l15) → Quiet (w .cell (cellOf op)) (upd f t (firstOf p)) t
-          at-first p r e h (inl z) = record { active = c; lonely = lonely p; no-hard = rw (upd-same f t (firstOf p), e) h; line = rw (upd-same f t (firstOf p), e, z) tt
-            ; here = rw (upd-same f t (firstOf p), e, z) (λ b. absurd b); clear = λ b. clear; mine = rw (upd-same f t (firstOf p), e, z) (λ b. absurd b) }
-          at-first p r e h (inr z) = record { active = c; lonely = lonely p; no-hard = rw (upd-same f t (firstOf p), e) h; line = rw (upd-same f t (firstOf p), e, z) tt
-            ; here = rw (upd-same f t (firstOf p), e, z) (λ b. absurd b); clear = λ b. clear; mine = rw (upd-same f t (firstOf p), e, z) (λ b. absurd b) }
+
+          -- at line 10 or 15 nothing is held yet
+          at-first : (p : Op) (ℓ : Line) → lineOf (firstOf p) ≡ ℓ → T (uncontended ℓ) → (T (holding ℓ) → ⊥) → (T (signed ℓ) → ⊥) → firstOf p .hard ≡ 0 → Quiet (w .cell (cellOf op)) (upd f t (firstOf p)) t
+          at-first p ℓ e b n x h = record {
+            active = c;
+            lonely = lonely p;
+            no-hard = rw (upd-same f t (firstOf p)) h;
+            line = rw (upd-same f t (firstOf p), e) b;
+            here = rw (upd-same f t (firstOf p), e) (λ z. absurd (n z));
+            clear = λ z. clear;
+            mine = rw (upd-same f t (firstOf p), e) (λ z. absurd (x z));
+          }
+
           first-quiet : (p : Op) → Quiet (w .cell (cellOf op)) (upd f t (firstOf p)) t
-          first-quiet (read k) = at-first (read k) (firstRead k) refl refl (inl refl)
-          first-quiet (swap k e n) = at-first (swap k e n) (firstSwap k e n) refl refl (go (eqb e n))
+          first-quiet (read k) = at-first (read k) l10 refl tt (λ z. z) (λ z. z) refl
+          first-quiet (swap k e n) = go (eqb e n) refl
             where
-              go : (x : Bool) → (lineAt (cond x 10 15) 0 ≡ l10) ⊎ (lineAt (cond x 10 15) 0 ≡ l15)
-              go true = inl refl
-              go false = inr refl
+              go : (x : Bool) → eqb e n ≡ x → Quiet (w .cell (cellOf op)) (upd f t (firstOf (swap k e n))) t
+              go true z = at-first (swap k e n) l10 (rw z) tt (λ z. z) (λ z. z) refl
+              go false z = at-first (swap k e n) l15 (rw z) tt (λ z. z) (λ z. z) refl
+
       others : (u : ℕ) (n : Tally) → doing w u ≡ some n → (Unequal op → cellOf op ≢ cellOf (n .op)) → QuietIn w u → QuietIn v′ u
       others u n d apart z = rw (upd-off (w .records) t (firstOf op) u ne) (go (either (w .records u .cell) (cellOf op)))
         where
           ne : u ≢ t
           ne e = let x : Opt.none ≡ some n = sym (ap tallyOf (was-idle w g κ G t op a)) ∙ sym (ap (doing w) e) ∙ d in let y : _≡_ {A = ℕ} 0 1 = cc in omega arith
+
           its : cellOf (n .op) ≡ w .records u .cell
           its = ap (λ (n : Tally). cellOf (n .op)) (some-is (doing w u) (tally (w .records u)) n (busy-doing (w .records u) (is-busy w (G .on-path) u n d)) d) ∙ cell-of (w .records u)
+
           go : (w .records u .cell ≡ cellOf op) ⊎ (w .records u .cell ≢ cellOf op) → Quiet (w .cell (w .records u .cell)) (on (v′ .records) (w .records u .cell)) u
           go (inr e) = rw (on-another (w .records u .cell) e) z
           go (inl e) = subst (λ j. Quiet (w .cell j) (on (v′ .records) j) u) (sym e) (rw on-its-cell

@@ -1,5 +1,5 @@
 -- A pending call stands on one of the thirteen paths, with the counts of the lines that it did; so records are well-formed.
-use mathlib.Core.Path.{_≡_, refl, sym, _∙_, subst}
+use mathlib.Core.Path.{_≡_, refl, sym, ap, _∙_}
 use mathlib.Core.Logic.{_≢_, _⊎_, inl, inr}
 use mathlib.Core.Bool.{Bool, true, false, _&&_, _||_, not, cond, false≢true}
 use mathlib.Core.Option.{Option, none, some}
@@ -9,9 +9,7 @@ use native.Mathlib.Omega.{arith}
 use lib.Dec.{eqb, leb, ltb, T, leb→le, ltb→lt}
 use borrow.Author.Tests.{ltb-true, lt-ltb, ne-eqb}
 use Rattle.cells.specs.declared.Record.{Record}
-use Rattle.cells.specs.declared.Finished.{Finished}
-use Rattle.cells.specs.declared.Outcome.{Outcome}
-use Rattle.cells.specs.declared.Outcome.the-variants.{Refused, Acted, Ended}
+use Rattle.cells.specs.declared.Outcome.the-variants.{Refused, Acted}
 use Rattle.cells.specs.declared.lines.Next.{Next}
 use Rattle.cells.specs.declared.lines.Next.the-variants.{Go, Done}
 use Rattle.cells.specs.Record.{idle, isIdle}
@@ -20,9 +18,9 @@ use Rattle.cells.specs.Questions.{Question, refusal, ofKind, reads, swaps, line
 use Rattle.cells.specs.Begin.{firstRead, firstSwap}
 use Rattle.history.specs.Basics.{upd, _∈_}
 use Rattle.history.specs.History.{Op, read, swap, cellOf, Action, begin, step, run}
-use Rattle.history.proofs.Basics.{either, upd-at, upd-same, upd-off}
-use Rattle.figure.specs.Figure.{Cell, World, withRecord, withBoth, After, leaving, unless, recordAfter, outcomeOf, ran, stepped, begins, opening, figure, perform}
-use Rattle.figure.specs.Paths.{paths, count, Traced, Trace, stepTrace, trace}
+use Rattle.history.proofs.Basics.{either, upd-at, upd-off, upd-cases}
+use Rattle.figure.specs.Figure.{Cell, World, withRecord, withBoth, After, leaving, unless, recordAfter, outcomeOf, ran, stepped, begins, opening, figure, perform, beginEvent, stepEvent, tried}
+use Rattle.figure.specs.Paths.{paths, count, Traced, Trace, didLine, enterLine, traces}
 use Rattle.figure.specs.Paths as Paths
 use Rattle.figure.proofs.LineLaws.{every, every-in, every-line, both, imp, lines, same, before, readPaths, endings, extends-in, hardware-alike, Leads, goes, done, leads}
 
@@ -37,12 +35,12 @@ pub record Pending (v : ℕ) (did : List Line) (q : Record) : Type 0 where
   pub hard : q .hard ≡ count hardware did
   pub lines : did ∈ before (lineOf q)
 
--- a finished call with these lines
-pub record Complete (lines : List Line) (f : Finished) : Type 0 where
+-- a finished call with these lines that reported these counts; whether it was begun as a read
+pub record Complete (reads : Type 0) (lines : List Line) (steps hard : ℕ) : Type 0 where
   pub path : lines ∈ paths
-  pub read-path : f .kind ≡ 1 → lines ∈ readPaths
-  pub steps : f .steps ≡ Paths.steps lines
-  pub hard : f .hard ≡ count hardware lines
+  pub read-path : reads → lines ∈ readPaths
+  pub all-steps : steps ≡ Paths.steps lines
+  pub all-hard : hard ≡ count hardware lines
 
 pub steps-on : (d : List Line) (l : Line) → Paths.steps (d ++ (l ∷ [])) ≡ Paths.steps d + 1
 steps-on [] l = refl
@@ -81,7 +79,7 @@ module _ (v : ℕ) (did : List Line) (q : Record) (o : Pending v did q) where
   -- what its next line makes of it
   abbrev pub Then : Next → Type 0
   Then (Go r) = Pending v (did ++ (lineOf q ∷ [])) r
-  Then (Done f) = Complete (did ++ (lineOf q ∷ [])) f
+  Then (Done f) = Complete (f .kind ≡ 1) (did ++ (lineOf q ∷ [])) (f .steps) (f .hard)
 
   pub one-line : (t x : ℕ) → Then (nextOf t q x)
   one-line t x = go (led t x)
@@ -103,7 +101,7 @@ module _ (v : ℕ) (did : List Line) (q : Record) (o : Pending v did q) where
       }
       go (done h) =
           let m = extends-in (lineOf q) (endings (lineOf q)) h did (o .lines) in
-          record { path = read-paths (lineOf q) _ m; read-path = λ e. rw (reading q e (o .line)) at m; steps = steps; hard = hard }
+          record { path = read-paths (lineOf q) _ m; read-path = λ e. rw (reading q e (o .line)) at m; all-steps = steps; all-hard = hard }
 
   -- bounds, found by computing over all that may stand before a line that passes the test
   bounded : (n x : ℕ) (test : Line → Bool) → T (every (λ l. every (few n x) (before l) || not (test l)) lines) → test (lineOf q) ≡ true → (q .steps < n) × (q .hard ≤ x)
@@ -196,10 +194,32 @@ AllOnPath w = (t : ℕ) → (did : List Line) × OnPath (w .tasks) (w .cells) t 
 pub opening-on-path : (n v : ℕ) (vs : List ℕ) → AllOnPath (opening n v vs)
 opening-on-path n v vs t = ([], inl (refl, refl))
 
--- a trace whose calls keep to the paths: each task with the lines that its pending call did, and every finished call complete
-pub record Sound (r : Trace) : Type 0 where
-  pub pending : (t : ℕ) → OnPath (r .world .tasks) (r .world .cells) t (r .did t) (r .world .records t)
-  pub complete : (x : Traced) → x ∈ r .done → Complete (x .lines) (x .result)
+-- the record is of the operation as begun
+abbrev Begins : Op → Record → Type 0
+Begins op q = (k : ℕ) → op ≡ read k → (q ≡ idle) ⊎ (q .kind ≡ 1)
+
+abbrev pub CompleteCall : Traced → Type 0
+CompleteCall x = Complete ((k : ℕ) × (x .op ≡ read k)) (x .lines) (x .steps) (x .hard)
+
+-- a trace of the figure, now w, whose calls keep to the paths: each task with the lines that its pending call did, and every finished
+-- call complete
+pub record Sound (w : World) (r : Trace) : Type 0 where
+  pub pending : (t : ℕ) → OnPath (w .tasks) (w .cells) t (r .did t) (w .records t)
+  pub begun : (t : ℕ) → Begins (r .op t) (w .records t)
+  pub complete : (x : Traced) → x ∈ r .done → CompleteCall x
+
+-- what holds of the new one and of all before
+pub with-first : {A : Type 0} (P : A → Type 0) (a : A) (l : List A) → P a → ((x : A) → x ∈ l → P x) → (x : A) → x ∈ (a ∷ l) → P x
+with-first P a l h f x (inl e) = rw e h
+with-first P a l h f x (inr i) = f x i
+
+-- two functions changed at one number
+pub upd-both : {A B : Type 0} (P : ℕ → A → B → Type 0) (f : ℕ → A) (g : ℕ → B) (t : ℕ) (a : A) (b : B) → P t a b → ((u : ℕ) → P u (f u) (g u)) → (u : ℕ) → P u (upd f t a u) (upd g t b u)
+upd-both P f g t a b here there u = go (either u t)
+  where
+    go : (u ≡ t) ⊎ (u ≢ t) → P u (upd f t a u) (upd g t b u)
+    go (inl e) = rw (upd-at f t a u e, upd-at g t b u e, e) here
+    go (inr e) = rw (upd-off f t a u e, upd-off g t b u e) (there u)
 
 first-on-path : (w : World) (t : ℕ) (op : Op) → Accepted w t op → Pending (w .cells) [] (firstOf op)
 first-on-path w t (read k) a = record { cell = a .cell; line = refl; values = refl; steps = refl; hard = refl; lines = inl refl }
@@ -209,63 +229,73 @@ first-on-path w t (swap k e n) a = record { cell = a .cell; line = fits (eqb e n
     fits true = (refl, inl refl)
     fits false = (refl, inl refl)
 
-no-lines : (n v t : ℕ) (did : List Line) (q : Record) → OnPath n v t did q → isIdle q ≡ true → did ≡ []
-no-lines n v t did q (inl i) e = i .1
-no-lines n v t did q (inr (m, o)) e = absurd (false≢true (sym (not-idle q (o .line)) ∙ e))
-
-module _ (r : Trace) (s : Sound r) where
-  abbrev w : World
-  w = r .world
+module _ (w : World) (r : Trace) (s : Sound w r) where
+  abbrev now : ℕ → Line
+  now t = lineOf (w .records t)
 
   -- another record for task t, and other lines
-  put : (did' : ℕ → List Line) (t : ℕ) (q : Record) → OnPath (w .tasks) (w .cells) t (did' t) q → ((u : ℕ) → u ≢ t → did' u ≡ r .did u) → (u : ℕ) → OnPath (w .tasks) (w .cells) u (did' u) (upd (w .records) t q u)
-  put did' t q o others u = go (either u t)
-    where
-      go : (u ≡ t) ⊎ (u ≢ t) → OnPath (w .tasks) (w .cells) u (did' u) (upd (w .records) t q u)
-      go (inl e) = rw (upd-at (w .records) t q u e, e) o
-      go (inr e) = rw (upd-off (w .records) t q u e, others u e) (s .pending u)
+  put : (t : ℕ) (q : Record) (did : List Line) → OnPath (w .tasks) (w .cells) t did q → (u : ℕ) → OnPath (w .tasks) (w .cells) u (upd (r .did) t did u) (upd (w .records) t q u)
+  put t q did o = upd-both (OnPath (w .tasks) (w .cells)) (r .did) (w .records) t did q o (s .pending)
 
-  begin-sound : (t : ℕ) (op : Op) {f : After} → Begun w t op f → Sound (record { world = f .world; did = r .did; done = r .done })
+  put-begun : (t : ℕ) (q : Record) → Begins (r .op t) q → (u : ℕ) → Begins (r .op u) (upd (w .records) t q u)
+  put-begun t q b u = upd-cases (Begins (r .op u)) (w .records) t q u (λ e. rw e b) (λ e. s .begun u)
+
+  begin-sound : (t : ℕ) (op : Op) {f : After} → Begun w t op f → Sound (f .world) (enterLine now r (begin t op) (beginEvent (f .outcome)))
   begin-sound t op (refuses n) = s
   begin-sound t op (starts a) = record {
-    pending = put (r .did) t (firstOf op) (inr (a .task, rw (no-lines _ _ t (r .did t) (w .records t) (s .pending t) (a .free)) (first-on-path w t op a))) (λ u e. refl);
+    pending = put t (firstOf op) [] (inr (a .task, first-on-path w t op a));
+    begun = upd-both (λ u. Begins) (r .op) (w .records) t op (firstOf op) (kind op) (s .begun);
     complete = s .complete;
   }
+    where
+      kind : (op : Op) → Begins op (firstOf op)
+      kind (read j) k e = inr refl
+      kind (swap j o n) k e = absurd (let z : _≡_ {A = ℕ} 0 1 = cc in omega arith)
 
   module _ (t : ℕ) (m : t < w .tasks) (o : Pending (w .cells) (r .did t) (w .records t)) where
-    line-sound : (c : Cell) (n : Next) → Then (w .cells) (r .did t) (w .records t) o n → Sound (stepTrace r t (withBoth w (w .records t .cell) c t (recordAfter n)) (outcomeOf n))
-    line-sound c (Go q) k = record { pending = put (upd (r .did) t _) t q (rw upd-same (inr (m, k))) (upd-off (r .did) t _); complete = s .complete }
-    line-sound c (Done f) k = record { pending = put (upd (r .did) t []) t idle (rw upd-same (inl (refl, refl))) (upd-off (r .did) t []); complete = go }
-      where
-        go : (x : Traced) → x ∈ (record { lines = r .did t ++ (lineOf (w .records t) ∷ []); result = f } ∷ r .done) → Complete (x .lines) (x .result)
-        go x (inl e) = rw e k
-        go x (inr i) = s .complete x i
+    abbrev q : Record
+    q = w .records t
 
-  step-sound : (t : ℕ) {f : After} → Stepped w t (r .did t) f → Sound (stepTrace r t (f .world) (f .outcome))
+    is-read : (k : ℕ) → r .op t ≡ read k → q .kind ≡ 1
+    is-read k e = go (s .begun t k e)
+      where
+        go : (q ≡ idle) ⊎ (q .kind ≡ 1) → q .kind ≡ 1
+        go (inl i) = absurd (false≢true (sym (not-idle q (o .line)) ∙ ap isIdle i))
+        go (inr i) = i
+
+    line-sound : (c : Cell) {n : Next} → Leads (lineOf q) (counted q (accessOf t q)) n → Then (w .cells) (r .did t) q o n
+        → Sound (withBoth w (q .cell) c t (recordAfter n)) (enterLine now r (step t) (stepEvent (tried t q) (outcomeOf n)))
+    line-sound c (goes f) k = record { pending = put t _ (didLine now r t) (inr (m, k)); begun = put-begun t _ (λ j e. inr (is-read j e)); complete = s .complete }
+    line-sound c (done f) k = record {
+      pending = put t idle [] (inl (refl, refl));
+      begun = put-begun t idle (λ j e. inl refl);
+      complete = with-first CompleteCall _ (r .done) (record { path = k .path; read-path = λ b. k .read-path (is-read (b .0) (b .1)); all-steps = k .all-steps; all-hard = k .all-hard }) (s .complete);
+    }
+
+  step-sound : (t : ℕ) {f : After} → Stepped w t (r .did t) f → Sound (f .world) (enterLine now r (step t) (stepEvent (tried t (w .records t)) (f .outcome)))
   unfolding ran
   step-sound t (refuses n i) = s
   step-sound t (runs m o) =
       let c = perform (w .cell (w .records t .cell)) (accessOf t (w .records t)) in
-      line-sound t m o (c .cell) (nextOf t (w .records t) (c .value)) (one-line (w .cells) (r .did t) (w .records t) o t (c .value))
+      line-sound t m o (c .cell) (led (w .cells) (r .did t) (w .records t) o t (c .value)) (one-line (w .cells) (r .did t) (w .records t) o t (c .value))
 
-  pub trace-sound : (a : Action) → Sound (trace r a)
-  trace-sound (begin t op) = begin-sound t op (begin-cases w t op)
-  trace-sound (step t) = step-sound t (step-cases w t (r .did t) (s .pending t))
+  pub act-sound : (a : Action) → Sound (figure w a .0) (enterLine now r a (figure w a .1))
+  act-sound (begin t op) = begin-sound t op (begin-cases w t op)
+  act-sound (step t) = step-sound t (step-cases w t (r .did t) (s .pending t))
 
-pub trace-world : (r : Trace) (a : Action) → trace r a .world ≡ figure (r .world) a .0
-trace-world r (begin t op) = refl
-trace-world r (step t) = go (stepped (r .world) t .outcome)
-  where
-    go : (o : Outcome) → stepTrace r t (stepped (r .world) t .world) o .world ≡ stepped (r .world) t .world
-    go (Refused n) = refl
-    go Acted = refl
-    go (Ended f) = refl
+-- the figure's trace
+abbrev pub figureTraces : World → Trace → List Action → Trace
+figureTraces = traces figure (λ w t. lineOf (w .records t))
+
+pub traces-sound : (w : World) (r : Trace) → Sound w r → (l : List Action) → Sound (run figure w l) (figureTraces w r l)
+traces-sound w r s [] = s
+traces-sound w r s (a ∷ l) = traces-sound (figure w a .0) (enterLine (λ t. lineOf (w .records t)) r a (figure w a .1)) (act-sound w r s a) l
 
 pub act-on-path : (w : World) → AllOnPath w → (a : Action) → AllOnPath (figure w a .0)
 act-on-path w p a =
-    let r : Trace = record { world = w; did = λ t. p t .0; done = [] } in
-    let s : Sound r = record { pending = λ t. p t .1; complete = λ x i. absurd i } in
-    subst AllOnPath (trace-world r a) (λ t. (trace r a .did t, trace-sound r s a .pending t))
+    let r : Trace = record { op = λ t. swap 0 0 0; did = λ t. p t .0; done = [] } in
+    let s : Sound w r = record { pending = λ t. p t .1; begun = λ t k e. absurd (let z : _≡_ {A = ℕ} 0 1 = cc in omega arith); complete = λ x i. absurd i } in
+    λ t. (enterLine (λ t. lineOf (w .records t)) r a (figure w a .1) .did t, act-sound w r s a .pending t)
 
 pub run-on-path : (w : World) → AllOnPath w → (l : List Action) → AllOnPath (run figure w l)
 run-on-path w p [] = p

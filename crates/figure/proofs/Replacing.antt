@@ -59,21 +59,41 @@ module _ (s : View) (κ : Knowledge) (t : ℕ) (i : Inv s κ) (e : line s t ≡ 
     other u b (inr z) = i .tasks u .seen .replaced b z
 
     rest-renewed : Rest renewed κ t
-    rest-renewed = record
-      { rivals = λ u w ne ne′. i .rivals u w; apart = λ u w ne ne′. i .apart u w
-      ; current = record
-          { low = made .below; P-some = here .task .self .nv-some tt; v-some = λ z. here .task .self .nv-some tt (sym (made .v-is) ∙ z)
-          ; decided-inactive = λ z. absurd (z (made .d-is)); decision = λ z. absurd (z (made .d-is)); phase-is = rw replaced-settled (λ z. (made .c-is, made .v-is)) }
-      ; tasks = λ u ne. let k = i .tasks u in rw (upd-off (s .told) t true u ne) record
-          { self = k .self; split = k .split; value = k .value; early = k .early
-          ; decided = let r = k .decided in record
-              { replaced-decided = λ b z. all-decided u b; decided-inactive = r .decided-inactive; before-store = r .before-store
-              ; told-value = λ b g z. absurd (all-decided u (lies-in stored holding tt (line s u) b) z); told-decided = r .told-decided; late-inactive = r .late-inactive
-              ; late-phase = r .late-phase; late-decided = r .late-decided; inactive = r .inactive; decided = r .decided; expected = r .expected }
-          ; seen = let r = k .seen in record { active-value = r .active-value; refusing = r .refusing; decision = r .decision; replaced = λ b z. other u b (either (held s u) L) }
-          ; planned = record { plan-some = k .planned .plan-some; plan = λ b z. absurd (all-decided u (lies-in (is 2) holding tt (line s u) b) z) }
-          ; fresh = λ b. let f = k .fresh b in record { below = f .below; other = i .apart u t ne b (rw e tt); v-is = f .v-is; d-is = f .d-is; y-is = f .y-is; c-is = f .c-is }
-          ; owner = λ z. absurd (settled≢late u (sym replaced-settled ∙ z)) } }
+    rest-renewed = record {
+      rivals = λ u w ne ne′. i .rivals u w;
+      apart = λ u w ne ne′. i .apart u w;
+      current = record {
+        low = made .below;
+        P-some = here .task .self .nv-some tt;
+        v-some = λ z. here .task .self .nv-some tt (sym (made .v-is) ∙ z);
+        decided-inactive = λ z. absurd (z (made .d-is));
+        decision = λ z. absurd (z (made .d-is));
+        phase-is = rw replaced-settled (λ z. (made .c-is, made .v-is));
+      };
+      tasks = λ u ne. let k = i .tasks u in rw (upd-off (s .told) t true u ne) record {
+        self = k .self;
+        split = k .split;
+        value = k .value;
+        early = k .early;
+        decided = let r = k .decided in record {
+          replaced-decided = λ b z. all-decided u b;
+          decided-inactive = r .decided-inactive;
+          before-store = r .before-store;
+          told-value = λ b g z. absurd (all-decided u (lies-in stored holding tt (line s u) b) z);
+          told-decided = r .told-decided;
+          late-inactive = r .late-inactive;
+          late-phase = r .late-phase;
+          late-decided = r .late-decided;
+          inactive = r .inactive;
+          decided = r .decided;
+          expected = r .expected;
+        };
+        seen = let r = k .seen in record { active-value = r .active-value; refusing = r .refusing; decision = r .decision; replaced = λ b z. other u b (either (held s u) L) };
+        planned = record { plan-some = k .planned .plan-some; plan = λ b z. absurd (all-decided u (lies-in (is 2) holding tt (line s u) b) z) };
+        fresh = λ b. let f = k .fresh b in record { below = f .below; other = i .apart u t ne b (rw e tt); v-is = f .v-is; d-is = f .d-is; y-is = f .y-is; c-is = f .c-is };
+        owner = λ z. absurd (settled≢late u (sym replaced-settled ∙ z));
+      };
+    }
 
     pub kept-renewed : (q′ : Record) → lineOf q′ ≡ nowhere → Inv (moved renewed t q′) κ
     kept-renewed q′ e′ = finish renewed κ t nowhere q′ e′ rest-renewed (idle-mine renewed κ t q′ (λ z. settled≢late t (sym replaced-settled ∙ z)))
@@ -83,16 +103,25 @@ module _ (s : View) (κ : Knowledge) (t : ℕ) (i : Inv s κ) (e : line s t ≡ 
 -- of a task that holds nothing, nothing is said of any block's words
 module _ (u : ℕ) (ℓ : Line) (q : Record) (κ : Knowledge) (nv next : ℕ) (told : Bool) (L P : ℕ) (phase : Phase) (n : T (holding ℓ) → ⊥) where
   holds-nothing : (x y c v d vL : ℕ) → Split u ℓ x y × Value ℓ nv (q .held) (q .loaded) next v × Decided u ℓ q told d c L P phase × Seen ℓ (q .held) (q .loaded) (κ .saw u) d c L × Planned ℓ (q .loaded) d P vL
-  holds-nothing x y c v d vL =
-      ( record { about-to-win = λ a. absurd (n (lies-in (is 19) holding tt ℓ a)); kept = λ a. absurd (n (lies-in won holding tt ℓ a)) }
-      , record { there = λ a. absurd (n a); some = λ a. absurd (n a); still-loaded = λ a. absurd (n (lies-in loaded holding tt ℓ a)); still-stored = λ a. absurd (n (lies-in stored holding tt ℓ a)) }
-      , record
-          { replaced-decided = λ a. absurd (n a); decided-inactive = λ a. absurd (n a); before-store = λ a. absurd (n (lies-in (is 23) holding tt ℓ a)); told-value = λ a. absurd (n (lies-in stored holding tt ℓ a))
-          ; told-decided = λ a. absurd (n (lies-in stored holding tt ℓ a)); late-inactive = λ a. absurd (n (lies-in stored holding tt ℓ a)); late-phase = λ a. absurd (n (lies-in stored holding tt ℓ a))
-          ; late-decided = λ a. absurd (n (lies-in stored holding tt ℓ a)); inactive = λ a. absurd (n (lies-in contended holding tt ℓ a)); decided = λ a. absurd (n (lies-in (is 3) holding tt ℓ a))
-          ; expected = λ a. absurd (n (lies-in replacing holding tt ℓ a)) }
-      , record { active-value = λ a. absurd (n (lies-in checking holding tt ℓ a)); refusing = λ a. absurd (n (lies-in (is 22) holding tt ℓ a)); decision = λ a. absurd (n a); replaced = λ a. absurd (n a) }
-      , record { plan-some = λ a. absurd (n (lies-in (is 2) holding tt ℓ a)); plan = λ a. absurd (n (lies-in (is 2) holding tt ℓ a)) } )
+  holds-nothing x y c v d vL = (
+    record { about-to-win = λ a. absurd (n (lies-in (is 19) holding tt ℓ a)); kept = λ a. absurd (n (lies-in won holding tt ℓ a)) },
+    record { there = λ a. absurd (n a); some = λ a. absurd (n a); still-loaded = λ a. absurd (n (lies-in loaded holding tt ℓ a)); still-stored = λ a. absurd (n (lies-in stored holding tt ℓ a)) },
+    record {
+      replaced-decided = λ a. absurd (n a);
+      decided-inactive = λ a. absurd (n a);
+      before-store = λ a. absurd (n (lies-in (is 23) holding tt ℓ a));
+      told-value = λ a. absurd (n (lies-in stored holding tt ℓ a));
+      told-decided = λ a. absurd (n (lies-in stored holding tt ℓ a));
+      late-inactive = λ a. absurd (n (lies-in stored holding tt ℓ a));
+      late-phase = λ a. absurd (n (lies-in stored holding tt ℓ a));
+      late-decided = λ a. absurd (n (lies-in stored holding tt ℓ a));
+      inactive = λ a. absurd (n (lies-in contended holding tt ℓ a));
+      decided = λ a. absurd (n (lies-in (is 3) holding tt ℓ a));
+      expected = λ a. absurd (n (lies-in replacing holding tt ℓ a));
+    },
+    record { active-value = λ a. absurd (n (lies-in checking holding tt ℓ a)); refusing = λ a. absurd (n (lies-in (is 22) holding tt ℓ a)); decision = λ a. absurd (n a); replaced = λ a. absurd (n a) },
+    record { plan-some = λ a. absurd (n (lies-in (is 2) holding tt ℓ a)); plan = λ a. absurd (n (lies-in (is 2) holding tt ℓ a)) },
+  )
 
 module _ (s : View) (κ : Knowledge) (t : ℕ) (i : Inv s κ) (e : line s t ≡ l29) (a : Access) (n w : ℕ) where
   abbrev p : Record
@@ -114,12 +143,16 @@ module _ (s : View) (κ : Knowledge) (t : ℕ) (i : Inv s κ) (e : line s t ≡ 
   module _ (b : ℕ) (h : b < m .next) where
     oldX : m′ .x b ≡ m .x b
     oldX = upd-off (m .x) (m .next) _ b (omega arith)
+
     oldY : m′ .y b ≡ m .y b
     oldY = upd-off (m .y) (m .next) _ b (omega arith)
+
     oldC : m′ .c b ≡ m .c b
     oldC = upd-off (m .c) (m .next) _ b (omega arith)
+
     oldV : m′ .v b ≡ m .v b
     oldV = upd-off (m .v) (m .next) _ b (omega arith)
+
     oldD : m′ .d b ≡ m .d b
     oldD = upd-off (m .d) (m .next) _ b (omega arith)
 
@@ -135,7 +168,7 @@ module _ (s : View) (κ : Knowledge) (t : ℕ) (i : Inv s κ) (e : line s t ≡ 
       go : (q .held ≡ m .next) ⊎ (q .held ≢ m .next) → Words u ℓ q (m′ .x (q .held)) (m′ .y (q .held)) (m′ .c (q .held)) (m′ .v (q .held)) (m′ .d (q .held)) (m′ .v (m .current))
       go (inl z) = holds-nothing u ℓ q κ (q .new) (m′ .next) (s .told u) (m .current) (s .value) (s .phase) (λ b. let g : q .held < m .next = k .value .there b in omega arith) _ _ _ _ _ _
       go (inr z) = rw (upd-off (m .x) (m .next) 255 (q .held) z, upd-off (m .y) (m .next) 0 (q .held) z, upd-off (m .c) (m .next) 0 (q .held) z, upd-off (m .v) (m .next) (p .new) (q .held) z, upd-off (m .d) (m .next) _ (q .held) z, oldV (m .current) low)
-        (let v = k .value in (k .split, record { there = λ b. let g : q .held < m .next = v .there b in omega arith; some = v .some; still-loaded = v .still-loaded; still-stored = v .still-stored }, k .decided, k .seen, k .planned))
+          (let v = k .value in (k .split, record { there = λ b. let g : q .held < m .next = v .there b in omega arith; some = v .some; still-loaded = v .still-loaded; still-stored = v .still-stored }, k .decided, k .seen, k .planned))
 
   older : (b nv : ℕ) → Fresh b nv (m .next) (m .v b) (m .d b) (m .y b) (m .c b) (m .current) → Fresh b nv (m′ .next) (m′ .v b) (m′ .d b) (m′ .y b) (m′ .c b) (m .current)
   older b nv f = let g : b < m .next = f .below in rw (oldV b g, oldD b g, oldY b g, oldC b g) record { below = omega arith; other = f .other; v-is = f .v-is; d-is = f .d-is; y-is = f .y-is; c-is = f .c-is }
@@ -144,14 +177,15 @@ module _ (s : View) (κ : Knowledge) (t : ℕ) (i : Inv s κ) (e : line s t ≡ 
   kept-owner u ℓ q k z = rw (oldV (m .current) low) (k .owner z)
 
   rest-grown : Rest grown κ t
-  rest-grown = record
-    { apart = λ u w ne ne′. i .apart u w
-    ; current = let k = i .current in rw (oldC (m .current) low, oldV (m .current) low, oldD (m .current) low) record
-        { low = omega arith; P-some = k .P-some; v-some = k .v-some; decided-inactive = k .decided-inactive; decision = k .decision; phase-is = k .phase-is }
-    ; tasks = λ u ne. let k = i .tasks u in let g = words u (line s u) (s .task u) k in record
-        { self = k .self; split = g .0; value = g .1; decided = g .2; seen = g .3; planned = g .4; early = k .early; fresh = λ b. older (s .task u .taken) (s .task u .new) (k .fresh b); owner = kept-owner u (line s u) (s .task u) k }
-    ; rivals = λ u w ne ne′ z g. let k = i .rivals u w z g in record
-        { one-won = k .one-won; no-race = λ b c. rw (oldX (held s w) (i .tasks w .value .there (lies-in racing holding tt (line s w) c))) (k .no-race b c) } }
+  rest-grown = record {
+    apart = λ u w ne ne′. i .apart u w;
+    current = let k = i .current in rw (oldC (m .current) low, oldV (m .current) low, oldD (m .current) low) record
+        { low = omega arith; P-some = k .P-some; v-some = k .v-some; decided-inactive = k .decided-inactive; decision = k .decision; phase-is = k .phase-is };
+    tasks = λ u ne. let k = i .tasks u in let g = words u (line s u) (s .task u) k in record
+        { self = k .self; split = g .0; value = g .1; decided = g .2; seen = g .3; planned = g .4; early = k .early; fresh = λ b. older (s .task u .taken) (s .task u .new) (k .fresh b); owner = kept-owner u (line s u) (s .task u) k };
+    rivals = λ u w ne ne′ z g. let k = i .rivals u w z g in record
+        { one-won = k .one-won; no-race = λ b c. rw (oldX (held s w) (i .tasks w .value .there (lies-in racing holding tt (line s w) c))) (k .no-race b c) };
+  }
 
   mine-grown : Mine grown κ t l30 next
   unfolding none
@@ -161,12 +195,13 @@ module _ (s : View) (κ : Knowledge) (t : ℕ) (i : Inv s κ) (e : line s t ≡ 
       let g = words t l29 p (k .task) in
       let d = g .2 in
       let f : Fresh (m .next) (p .new) (m′ .next) (m′ .v (m .next)) (m′ .d (m .next)) (m′ .y (m .next)) (m′ .c (m .next)) (m .current)
-            = record { below = omega arith; other = λ z. omega (arith, low); v-is = upd-same (m .v) (m .next) (p .new); d-is = upd-same (m .d) (m .next) _; y-is = upd-same (m .y) (m .next) 0; c-is = upd-same (m .c) (m .next) 0 } in
-      record
-        { task = record { self = search off; split = search off; value = let v = g .1 in search off; decided = search off; seen = let v = g .3 in search off; planned = search off; early = search off; fresh = λ b. f; owner = λ z. absurd (o z) }
-        ; wins = λ u ne z. record { one-won = λ b. absurd b; no-race = λ b. absurd b }
-        ; loses = λ u ne z. record { one-won = λ b c. c; no-race = λ b c. absurd c }
-        ; apart = λ u ne b c z. let l : s .task u .taken < m .next = i .tasks u .fresh c .below in omega arith }
+      = record { below = omega arith; other = λ z. omega (arith, low); v-is = upd-same (m .v) (m .next) (p .new); d-is = upd-same (m .d) (m .next) _; y-is = upd-same (m .y) (m .next) 0; c-is = upd-same (m .c) (m .next) 0 } in
+      record {
+        task = record { self = search off; split = search off; value = let v = g .1 in search off; decided = search off; seen = let v = g .3 in search off; planned = search off; early = search off; fresh = λ b. f; owner = λ z. absurd (o z) };
+        wins = λ u ne z. record { one-won = λ b. absurd b; no-race = λ b. absurd b };
+        loses = λ u ne z. record { one-won = λ b c. c; no-race = λ b c. absurd c };
+        apart = λ u ne b c z. let l : s .task u .taken < m .next = i .tasks u .fresh c .below in omega arith;
+      }
 
   pub kept-grown : lineOf next ≡ l30 → Inv (moved grown t next) κ
   kept-grown e′ = finish grown κ t l30 next e′ rest-grown mine-grown

@@ -4,24 +4,23 @@ use mathlib.Core.Logic.{_≢_}
 use mathlib.Core.List.{List}
 use Prim.Native.Nat.{ℕ}
 use lib.ListN.{getD}
-use Rattle.cells.specs.declared.Record.{Record}
 use Rattle.cells.specs.declared.lines.Next.{Next}
 use Rattle.cells.specs.declared.lines.Next.the-variants.{Go, Done}
 use Rattle.cells.specs.Record.{noValue, idle}
-use Rattle.cells.specs.Lines.{Line, accessOf, nextOf}
+use Rattle.cells.specs.Lines.{Line}
 use Rattle.history.specs.History.{Op, Action, begin, step}
-use Rattle.history.specs.Demand3.{Meets}
-use Rattle.history.proofs.Simulation.{Ghost, Knowledge, Forward, Quietly, QuietSteps, activeAfter}
+use Rattle.history.specs.Demand3.{Meets, activeAfter}
+use Rattle.history.proofs.Simulation.{Ghost, Knowledge, Forward, Quietly, QuietSteps}
 use Rattle.history.proofs.Simulation as Sim
 use Rattle.history.proofs.Meets.{meets}
-use Rattle.figure.specs.Figure.{Cell, World, withBoth, After, recordAfter, outcomeOf, ran, opening, perform, beginEvent, stepEvent, tried, figure, active, answerOf}
+use Rattle.figure.specs.Figure.{World, withBoth, After, recordAfter, outcomeOf, ran, opening, beginEvent, stepEvent, tried, figure, active, answerOf}
 use Rattle.figure.proofs.Records.{Pending, AllOnPath, Begun, starts, begin-cases, Stepped, runs, step-cases, act-on-path}
 use Rattle.figure.proofs.Tallies.{tally, doing, follows, within}
 use Rattle.figure.proofs.Invariant.{none, line}
 use Rattle.figure.proofs.Steps.{Step, Reason, Out}
 use Rattle.figure.proofs.Views.{on, view}
 use Rattle.figure.proofs.Operations.{busy-line, busy-doing}
-use Rattle.figure.proofs.Worlds.{Good, out, moveOf, may, kept-all, why}
+use Rattle.figure.proofs.Worlds.{Good, cellAfter, nextAfter, stepAfter, out, moveOf, may, kept-all, why}
 use Rattle.figure.proofs.Begins.{begun-good, opening-good, good-grown}
 use Rattle.figure.proofs.Marks.{Marks}
 use Rattle.figure.proofs.Quietly.{QuietIn, stays, marks-after, step-quietly, begun-marks, begin-quietly}
@@ -37,35 +36,25 @@ pub record Invariant (v : ℕ) (w : World) (g : Ghost) (κ : Knowledge) : Type 0
 module _ (v : ℕ) (w : World) (g : Ghost) (κ : Knowledge) (i : Invariant v w g κ) where
   -- a step of task t
   module _ (t : ℕ) (did : List Line) (o : Pending (w .cells) did (w .records t)) where
-    abbrev q : Record
-    q = w .records t
-
-    abbrev k : ℕ
-    k = q .cell
-
-    abbrev m : Cell
-    m = perform (w .cell k) (accessOf t q) .cell
-
-    abbrev n : Next
-    n = nextOf t q (perform (w .cell k) (accessOf t q) .value)
-
-    abbrev w′ : World
-    w′ = withBoth w k m t (recordAfter n)
-
-    abbrev moves : (x : Step (view w g k) κ t m (recordAfter n)) → AllOnPath w′ → Sim.Moves doing (Invariant v) w w′ g κ t
-    moves x p = record { now = tally q; was = busy-doing q (busy-line q (o .line)); move = moveOf w g κ (i .good) t did o (x .change); may = may w g κ (i .good) t did o (x .change) (x .can)
-      ; keeps = λ κ′ grown. record { size = i .size; good = kept-all w g κ (i .good) t did o m (recordAfter n) (stays w g κ (i .good) (i .marks) t did o .0) (x .change) (x .can) (x .kept) p κ′ grown; marks = marks-after w g κ (i .good) (i .marks) t did o } }
+    abbrev moves : (x : Step (view w g (w .records t .cell)) κ t (cellAfter w t) (recordAfter (nextAfter w t))) → AllOnPath (stepAfter w t) → Sim.Moves doing (Invariant v) w (stepAfter w t) g κ t
+    moves x p = record {
+      now = tally (w .records t);
+      was = busy-doing (w .records t) (busy-line (w .records t) (o .line));
+      move = moveOf w g κ (i .good) t did o (x .change);
+      may = may w g κ (i .good) t did o (x .change) (x .can);
+      keeps = λ κ′ grown. record { size = i .size; good = kept-all w g κ (i .good) t did o (cellAfter w t) (recordAfter (nextAfter w t)) (stays w g κ (i .good) (i .marks) t did o .0) (x .change) (x .can) (x .kept) p κ′ grown; marks = marks-after w g κ (i .good) (i .marks) t did o };
+    }
 
     -- the line's move, and why it may answer
-    line-forward : (x : Next) → n ≡ x → Out (view w g k) κ t m x → AllOnPath w′ → Forward doing (Invariant v) w g κ (step t) (withBoth w k m t (recordAfter x)) (stepEvent (tried t q) (outcomeOf x))
-    line-forward (Go r) e x p = subst (λ (y : Next). Sim.Moves doing (Invariant v) w (withBoth w k m t (recordAfter y)) g κ t) e (moves (subst (λ (y : Next). Step (view w g k) κ t m (recordAfter y)) (sym e) x) p)
-    line-forward (Done f) e x p = subst (λ (y : Next). (z : Step (view w g k) κ t m (recordAfter y)) × Reason (view w g k) κ t (f .answer) (z .change) → Sim.Answers doing (Invariant v) w (withBoth w k m t (recordAfter y)) g κ t (answerOf (f .answer))) e
+    line-forward : (x : Next) → nextAfter w t ≡ x → Out (view w g (w .records t .cell)) κ t (cellAfter w t) x → AllOnPath (stepAfter w t) → Forward doing (Invariant v) w g κ (step t) (withBoth w (w .records t .cell) (cellAfter w t) t (recordAfter x)) (stepEvent (tried t (w .records t)) (outcomeOf x))
+    line-forward (Go r) e x p = subst (λ (y : Next). Sim.Moves doing (Invariant v) w (withBoth w (w .records t .cell) (cellAfter w t) t (recordAfter y)) g κ t) e (moves (subst (λ (y : Next). Step (view w g (w .records t .cell)) κ t (cellAfter w t) (recordAfter y)) (sym e) x) p)
+    line-forward (Done f) e x p = subst (λ (y : Next). (z : Step (view w g (w .records t .cell)) κ t (cellAfter w t) (recordAfter y)) × Reason (view w g (w .records t .cell)) κ t (f .answer) (z .change) → Sim.Answers doing (Invariant v) w (withBoth w (w .records t .cell) (cellAfter w t) t (recordAfter y)) g κ t (answerOf (f .answer))) e
         (λ z. record { moves = moves (z .0) p; why = why w g κ (i .good) t did o (Invariant v) (f .answer) (z .0 .change) (z .1) }) x
 
   step-forward : (t : ℕ) (did : List Line) {f : After} → Stepped w t did f → AllOnPath (f .world) → Forward doing (Invariant v) w g κ (step t) (f .world) (stepEvent (tried t (w .records t)) (f .outcome))
   unfolding ran
   step-forward t did (Stepped.refuses x e) p = tt
-  step-forward t did (runs x o) p = line-forward t did o (n t did o) refl (out w g κ (i .good) t did o) p
+  step-forward t did (runs x o) p = line-forward t did o (nextAfter w t) refl (out w g κ (i .good) t did o) p
 
   begin-forward : (t : ℕ) (op : Op) {f : After} → Begun w t op f → AllOnPath (f .world) → Forward doing (Invariant v) w g κ (begin t op) (f .world) (beginEvent (f .outcome))
   begin-forward t op (Begun.refuses x) p = tt
@@ -80,7 +69,7 @@ module _ (v : ℕ) (w : World) (g : Ghost) (κ : Knowledge) (i : Invariant v w g
   step-quiet : (t : ℕ) (did : List Line) {f : After} → Stepped w t did f → Quietly doing active QuietIn w (step t) (f .world) (stepEvent (tried t (w .records t)) (f .outcome))
   unfolding ran
   step-quiet t did (Stepped.refuses x e) = tt
-  step-quiet t did (runs x o) = go (n t did o) (step-quietly w g κ (i .good) (i .marks) t did o)
+  step-quiet t did (runs x o) = go (nextAfter w t) (step-quietly w g κ (i .good) (i .marks) t did o)
     where
       go : (y : Next) {w″ : World} → QuietSteps doing active QuietIn w w″ t (tried t (w .records t)) → Quietly doing active QuietIn w (step t) w″ (stepEvent (tried t (w .records t)) (outcomeOf y))
       go (Go r) z = z
@@ -99,14 +88,18 @@ module _ (v : ℕ) (w : World) (g : Ghost) (κ : Knowledge) (i : Invariant v w g
 module _ (n v : ℕ) (vs : List ℕ) (some-values : (k : ℕ) → getD vs k 0 ≢ noValue) where
   pub simulation : Sim.Simulation figure (opening n v vs) active v (λ k. getD vs k 0)
   unfolding none
-  simulation = record
-    { doing = doing; Inv = Invariant v; Quiet = QuietIn; idle = λ t. refl
-    ; opened = λ κ. record { size = refl; good = opening-good n v vs some-values κ; marks = λ k c y. absurd (y refl) }
-    ; grow = λ w g κ κ′ i grown. record { size = i .size; good = good-grown w g κ κ′ (i .good) grown; marks = i .marks }
-    ; within = λ w g κ i. within w (i .good .on-path)
-    ; follows = λ w g κ i a. subst (λ (size : ℕ). Sim.Follows doing size w a (figure w a .0) (figure w a .1)) (i .size) (follows w (i .good .on-path) a)
-    ; forward = λ w g κ i. forward v w g κ i
-    ; quietly = λ w g κ i. quietly v w g κ i }
+  simulation = record {
+    doing = doing;
+    Inv = Invariant v;
+    Quiet = QuietIn;
+    idle = λ t. refl;
+    opened = λ κ. record { size = refl; good = opening-good n v vs some-values κ; marks = λ k c y. absurd (y refl) };
+    grow = λ w g κ κ′ i grown. record { size = i .size; good = good-grown w g κ κ′ (i .good) grown; marks = i .marks };
+    within = λ w g κ i. within w (i .good .on-path);
+    follows = λ w g κ i a. subst (λ (size : ℕ). Sim.Follows doing size w a (figure w a .0) (figure w a .1)) (i .size) (follows w (i .good .on-path) a);
+    forward = λ w g κ i. forward v w g κ i;
+    quietly = λ w g κ i. quietly v w g κ i;
+  }
 
   -- demand 3, of figure 2 with a new block each time: from any opening whose starting values are other than none, for every list of
   -- actions, the calls can be linearized, keep their bounds, and attempt no hardware CAS without contention

@@ -162,26 +162,33 @@ module _ (s : View) (κ : Knowledge) (t : ℕ) (i : Inv s κ) (eager : s .phase 
     where
       a : Access
       a = accessAt (l2 x) t q
+
       r : Record
       r = at (counted q (accessAt (l2 x) t q)) 3 (q .wanted) (q .held) (q .taken) (q .loaded)
+
       seen : (v : ℕ) → v ≡ q .loaded → (u : ℕ) → T (busy (line s u)) → plus κ settled v .saw u (q .loaded)
       seen v z u b = inr (refl, sym z)
+
       go : (q .loaded ≡ s .value) ⊎ (q .loaded ≢ s .value) → Step s κ t (store m (q .held) D (q .loaded)) r
-      go (inl p) = record
-        { change = settle; can = tt
-        ; kept = subst (λ v. Inv (record { cell = store m (q .held) D (q .loaded); task = upd (s .task) t r; value = v; told = s .told; phase = settled }) (plus κ settled (s .value))) p
+      go (inl p) = record {
+        change = settle;
+        can = tt;
+        kept = subst (λ v. Inv (record { cell = store m (q .held) D (q .loaded); task = upd (s .task) t r; value = v; told = s .told; phase = settled }) (plus κ settled (s .value))) p
             (Deciding.kept-done s (plus κ settled (s .value)) t x (more settled (s .value)) e d a 3 (q .wanted) (s .told)
-              (Deciding.same s (plus κ settled (s .value)) t x (more settled (s .value)) e d a 3 (q .wanted) p) (seen (s .value) (sym p)) (after-2 q x e)) }
+            (Deciding.same s (plus κ settled (s .value)) t x (more settled (s .value)) e d a 3 (q .wanted) p) (seen (s .value) (sym p)) (after-2 q x e));
+      }
       go (inr p) =
           let o = Deciding.who s κ t x i e d a 3 (q .wanted) p in
           let k = Deciding.owner s κ t x i e d a 3 (q .wanted) p in
           let new = Deciding.its-new s κ t x i e d a 3 (q .wanted) p in
           let κ′ = plus κ settled (s .task (o .0) .new) in
-          record
-            { change = land (o .0); can = (o .1, sym (k .expected-is), lies-in stored swapping tt (line s (o .0)) (k .has-stored))
-            ; kept = subst (λ v. Inv (record { cell = store m (q .held) D (q .loaded); task = upd (s .task) t r; value = v; told = upd (s .told) (o .0) true; phase = settled }) κ′) (sym new)
+          record {
+            change = land (o .0);
+            can = (o .1, sym (k .expected-is), lies-in stored swapping tt (line s (o .0)) (k .has-stored));
+            kept = subst (λ v. Inv (record { cell = store m (q .held) D (q .loaded); task = upd (s .task) t r; value = v; told = upd (s .told) (o .0) true; phase = settled }) κ′) (sym new)
                 (Deciding.kept-done s κ′ t x (more settled (s .task (o .0) .new)) e d a 3 (q .wanted) (upd (s .told) (o .0) true)
-                  (Deciding.land s κ t x i e d a 3 (q .wanted) p) (seen (s .task (o .0) .new) new) (after-2 q x e)) }
+                (Deciding.land s κ t x i e d a 3 (q .wanted) p) (seen (s .task (o .0) .new) new) (after-2 q x e));
+          }
 
   -- LINE 23
 
@@ -197,37 +204,45 @@ module _ (s : View) (κ : Knowledge) (t : ℕ) (i : Inv s κ) (eager : s .phase 
     where
       a : Access
       a = accessAt l23 t q
+
       r : Record
       r = at (counted q (accessAt l23 t q)) 24 (q .wanted) (q .held) (q .taken) (q .loaded)
+
       go : (m .c (q .held) ≡ 0) ⊎ (m .c (q .held) ≢ 0) → (m .d (q .held) ≡ none) ⊎ (m .d (q .held) ≢ none) → Step s κ t (store m (q .held) Field.V (q .new)) r
-      go (inl c) d = record
-        { change = act
-        ; can = (Storing.untold s κ t i e a 24 (q .wanted), Storing.live-settled s κ t i e a 24 (q .wanted) c, Storing.live-right s κ t i e a 24 (q .wanted) c, rw e tt)
-        ; kept = Storing.kept-live s (plus κ (s .phase) (q .new)) t (more (s .phase) (q .new)) e a 24 (q .wanted) c refl }
+      go (inl c) d = record {
+        change = act;
+        can = (Storing.untold s κ t i e a 24 (q .wanted), Storing.live-settled s κ t i e a 24 (q .wanted) c, Storing.live-right s κ t i e a 24 (q .wanted) c, rw e tt);
+        kept = Storing.kept-live s (plus κ (s .phase) (q .new)) t (more (s .phase) (q .new)) e a 24 (q .wanted) c refl;
+      }
       go (inr c) (inl d) =
           let h = undecided s κ i t (rw e tt) d in
           let f = frozen-of (s .phase) (i .current .phase-is) refl (rw h at c) (rw h at d) (Storing.none-awaited s κ t i e a 24 (q .wanted) h) in
           let x = known l23 e .task in
-          record
-            { change = delay
-            ; can = (Storing.untold s κ t i e a 24 (q .wanted), f .0, x .early tt)
-            ; kept = Storing.kept-delayed s (plus κ (late t) (s .value)) t (more (late t) (s .value)) e a 24 (q .wanted) c (late t)
+          record {
+            change = delay;
+            can = (Storing.untold s κ t i e a 24 (q .wanted), f .0, x .early tt);
+            kept = Storing.kept-delayed s (plus κ (late t) (s .value)) t (more (late t) (s .value)) e a 24 (q .wanted) c (late t)
                 (λ u ne. ((λ z. absurd (Storing.none-awaited s κ t i e a 24 (q .wanted) h u z)), λ z. absurd (ne (late-is t u z))))
-                (rw h at c, rw h at d) (λ z. refl) (λ z. (h, sym (x .self .same-loaded tt) ∙ sym (x .value .still-loaded tt) ∙ ap (m .v) h ∙ f .1)) (λ z g. f .1) refl }
+                (rw h at c, rw h at d) (λ z. refl) (λ z. (h, sym (x .self .same-loaded tt) ∙ sym (x .value .still-loaded tt) ∙ ap (m .v) h ∙ f .1)) (λ z g. f .1) refl;
+          }
         where
           late-is : (t u : ℕ) → late t ≡ late u → u ≡ t
           late-is t u z = cc
-      go (inr c) (inr d) = record
-        { change = still; can = tt
-        ; kept = Storing.kept-delayed s κ⁺ t i⁺ e a 24 (q .wanted) c (s .phase)
+      go (inr c) (inr d) = record {
+        change = still;
+        can = tt;
+        kept = Storing.kept-delayed s κ⁺ t i⁺ e a 24 (q .wanted) c (s .phase)
             (λ u ne. ((λ z. z), λ z. (z, λ h. Storing.none-awaited s κ t i e a 24 (q .wanted) (sym h) u z)))
-            (phase-stays (s .phase) (i .current .phase-is) refl) (λ z. absurd (d z)) (λ z. absurd (unawaited l23 e (λ x. x) z)) (λ z h. absurd (d (ap (m .d) h ∙ z))) refl }
+            (phase-stays (s .phase) (i .current .phase-is) refl) (λ z. absurd (d z)) (λ z. absurd (unawaited l23 e (λ x. x) z)) (λ z h. absurd (d (ap (m .d) h ∙ z))) refl;
+      }
         where
           V′ : ℕ → ℕ
           V′ = upd (m .v) (q .held) (q .new)
+
           -- V of the current block changes only where it is decided
           v-stays : m .d (m .current) ≡ none → V′ (m .current) ≡ m .v (m .current)
           v-stays z = upd-off (m .v) (q .held) (q .new) (m .current) (λ h. d (ap (m .d) (sym h) ∙ z))
+
           phase-stays : (p : Phase) → PhaseIs p (m .c (m .current)) (m .v (m .current)) (m .d (m .current)) (s .value) → s .phase ≡ p → PhaseIs p (m .c (m .current)) (V′ (m .current)) (m .d (m .current)) (s .value)
           phase-stays settled z g = λ n. (z n .0, v-stays n ∙ z n .1)
           phase-stays frozen z g = (z .0, z .1, v-stays (z .1) ∙ z .2)
@@ -243,23 +258,29 @@ module _ (s : View) (κ : Knowledge) (t : ℕ) (i : Inv s κ) (eager : s .phase 
           let h = active-current s κ i t (rw e tt) c in
           let p = active-settled s κ i t (rw e tt) c in
           let d = rw h at (active-undecided s κ i t (rw e tt) c) in
-          record
-            { change = freeze; can = p
-            ; kept = keeps27 s (plus κ frozen (s .value)) t (more frozen (s .value)) (accessAt l27 t q) 1 28 e refl frozen
+          record {
+            change = freeze;
+            can = p;
+            kept = keeps27 s (plus κ frozen (s .value)) t (more frozen (s .value)) (accessAt l27 t q) 1 28 e refl frozen
                 ((λ z. omega (arith, sym (upd-at (m .c) (q .held) 1 (m .current) (sym h)) ∙ z)), d, value-of (s .phase) _ _ _ _ (i .current .phase-is) (rw h at c) d)
-                (λ u. ((λ z. absurd (settled≢late u (sym p ∙ z))), λ z. absurd (frozen≢late u z))) }
+                (λ u. ((λ z. absurd (settled≢late u (sym p ∙ z))), λ z. absurd (frozen≢late u z)));
+          }
         where
           frozen≢late : (u : ℕ) → frozen ≡ late u → ⊥
           frozen≢late u z = let x : _≡_ {A = ℕ} 0 1 = cc in omega arith
-      go (inr c) = record
-        { change = still; can = tt
-        ; kept = keeps27 s κ⁺ t i⁺ (accessAt l27 t q) 1 28 e refl (s .phase) (phase-stays (s .phase) (i .current .phase-is)) (λ u. ((λ z. z), λ z. z)) }
+      go (inr c) = record {
+        change = still;
+        can = tt;
+        kept = keeps27 s κ⁺ t i⁺ (accessAt l27 t q) 1 28 e refl (s .phase) (phase-stays (s .phase) (i .current .phase-is)) (λ u. ((λ z. z), λ z. z));
+      }
         where
           -- an active current block is not the stepper's
           c-stays : m .c (m .current) ≡ 0 → upd (m .c) (q .held) 1 (m .current) ≡ 0
           c-stays z = upd-off (m .c) (q .held) 1 (m .current) (λ h. c (ap (m .c) (sym h) ∙ z)) ∙ z
+
           c-some : m .c (m .current) ≢ 0 → upd (m .c) (q .held) 1 (m .current) ≢ 0
           c-some z = upd-cases (λ n. n ≢ 0) (m .c) (q .held) 1 (m .current) (λ h g. omega arith) (λ h. z)
+
           phase-stays : (p : Phase) → PhaseIs p (m .c (m .current)) (m .v (m .current)) (m .d (m .current)) (s .value) → PhaseIs p (upd (m .c) (q .held) 1 (m .current)) (m .v (m .current)) (m .d (m .current)) (s .value)
           phase-stays settled z = λ n. (c-stays (z n .0), z n .1)
           phase-stays frozen z = (c-some (z .0), z .1, z .2)
@@ -268,10 +289,11 @@ module _ (s : View) (κ : Knowledge) (t : ℕ) (i : Inv s κ) (eager : s .phase 
   -- LINE 30
 
   abbrev installs : line s t ≡ l30 → held s t ≡ m .current → Step s κ t (install m (q .taken)) idle
-  installs e h = record
-    { change = act
-    ; can = (untold l30 e tt (λ x. x), Replacing.replaced-settled s κ t i e h, Replacing.replaced-right s κ t i e h, rw e tt)
-    ; kept = Replacing.kept-renewed s (plus κ (s .phase) (q .new)) t (more (s .phase) (q .new)) e h (λ u b. inr (Replacing.replaced-settled s κ t i e h, refl)) idle refl }
+  installs e h = record {
+    change = act;
+    can = (untold l30 e tt (λ x. x), Replacing.replaced-settled s κ t i e h, Replacing.replaced-right s κ t i e h, rw e tt);
+    kept = Replacing.kept-renewed s (plus κ (s .phase) (q .new)) t (more (s .phase) (q .new)) e h (λ u b. inr (Replacing.replaced-settled s κ t i e h, refl)) idle refl;
+  }
 
   -- ALL LINES
 
@@ -288,57 +310,61 @@ module _ (s : View) (κ : Knowledge) (t : ℕ) (i : Inv s κ) (eager : s .phase 
   each (l3 for25) e b =
       let k = known (l3 for25) e .task in
       by-test (Out s κ t m) (eqb (m .d (q .held)) (q .new)) _ _
-      (λ z. (leaves (decided-not-late s κ i t (accessAt (l3 for25) t q) 0 0 for25 (known (l3 for25) e)),
-        acted (T-of (s .told t) (λ n. k .self .differ tt (sym (k .decided .late-decided tt n (k .decided .decided tt)) ∙ eqb-true _ _ z))) (rw e tt) refl))
+      (λ z. (
+        leaves (decided-not-late s κ i t (accessAt (l3 for25) t q) 0 0 for25 (known (l3 for25) e)),
+        acted (T-of (s .told t) (λ n. k .self .differ tt (sym (k .decided .late-decided tt n (k .decided .decided tt)) ∙ eqb-true _ _ z))) (rw e tt) refl,
+      ))
       (λ z. looks (l1 for28) _ refl (from3-25 s κ⁺ i⁺ t (accessAt (l3 for25) t q) 1 28 (at-line (l3 for25) e) (eqb-false _ _ z)))
   each (l3 for28) e b =
       let k = known (l3 for28) e .task in
       by-test (Out s κ t m) (eqb (m .d (q .held)) (q .expected)) _ _
       (λ z. looks l29 _ refl (from3-28 s κ⁺ i⁺ t (accessAt (l3 for28) t q) 29 (q .wanted) (at-line (l3 for28) e) (eqb-true _ _ z)))
       (λ z. (leaves (unawaited (l3 for28) e (λ x. x)), declines-it (l3 for28) e tt tt (λ x. x) (m .d (q .held)) (k .seen .decision tt (k .decided .decided tt)) (eqb-false _ _ z)))
-  each l10 e b = looks l11 _ refl (from10 s κ⁺ i⁺ t (accessAt l10 t q) 11 (q .wanted) now (at-line l10 e))
-  each l11 e b = looks l12 _ refl (from11 s κ⁺ i⁺ t (accessAt l11 t q) 12 (q .wanted) now e (at-line l11 e))
+  each l10 e b = looks l11 _ refl (from10 s κ⁺ i⁺ t (accessAt l10 t q) 11 (q .wanted) (unawaited l10 e (λ x. x)) now (at-line l10 e))
+  each l11 e b = looks l12 _ refl (from11 s κ⁺ i⁺ t (accessAt l11 t q) 12 (q .wanted) (unawaited l11 e (λ x. x)) now e (at-line l11 e))
   each l12 e b =
       let k = known l12 e .task in
       by-test (Out s κ t m) (eqb (m .c (q .held)) 0) _ _
       (λ z. reads-it l12 e tt tt (λ x. x) (q .loaded) (k .seen .active-value tt (eqb-true _ _ z)) (k .self .loaded-some tt))
-      (λ z. looks (l1 for13) _ refl (from12 s κ⁺ i⁺ t (accessAt l12 t q) 1 13 (at-line l12 e) (eqb-false _ _ z)))
-  each l15 e b = looks l16 _ refl (from15 s κ⁺ i⁺ t (accessAt l15 t q) 16 (q .wanted) now (at-line l15 e))
+      (λ z. looks (l1 for13) _ refl (from12 s κ⁺ i⁺ t (accessAt l12 t q) 1 13 (unawaited l12 e (λ x. x)) (at-line l12 e) (eqb-false _ _ z)))
+  each l15 e b = looks l16 _ refl (from15 s κ⁺ i⁺ t (accessAt l15 t q) 16 (q .wanted) (unawaited l15 e (λ x. x)) now (at-line l15 e))
   each l16 e b = record { change = still; can = tt; kept = keeps16 s κ⁺ t i⁺ (accessAt l16 t q) 17 (q .wanted) e refl }
   each l17 e b =
       by-test (Out s κ t m) (eqb (m .y (q .held)) 0) _ _
-      (λ z. looks l18 _ refl (from17-18 s κ⁺ i⁺ t (accessAt l17 t q) 18 (q .wanted) (at-line l17 e) (eqb-true _ _ z)))
-      (λ z. looks l27 _ refl (from17-27 s κ⁺ i⁺ t (accessAt l17 t q) 27 (q .wanted) (at-line l17 e)))
+      (λ z. looks l18 _ refl (from17-18 s κ⁺ i⁺ t (accessAt l17 t q) 18 (q .wanted) (unawaited l17 e (λ x. x)) (at-line l17 e) (eqb-true _ _ z)))
+      (λ z. looks l27 _ refl (from17-27 s κ⁺ i⁺ t (accessAt l17 t q) 27 (q .wanted) (unawaited l17 e (λ x. x)) (at-line l17 e)))
   each l18 e b = record { change = still; can = tt; kept = keeps18 s κ⁺ t i⁺ (accessAt l18 t q) 19 (q .wanted) e refl }
   each l19 e b =
       by-test (Out s κ t m) (eqb (m .x (q .held)) t) _ _
-      (λ z. looks l20 _ refl (from19-20 s κ⁺ i⁺ t (accessAt l19 t q) 20 (q .wanted) (at-line l19 e) (eqb-true _ _ z)))
-      (λ z. looks l27 _ refl (from19-27 s κ⁺ i⁺ t (accessAt l19 t q) 27 (q .wanted) (at-line l19 e)))
-  each l20 e b = looks l21 _ refl (from20 s κ⁺ i⁺ t (accessAt l20 t q) 21 (q .wanted) now e (at-line l20 e))
+      (λ z. looks l20 _ refl (from19-20 s κ⁺ i⁺ t (accessAt l19 t q) 20 (q .wanted) (unawaited l19 e (λ x. x)) (at-line l19 e) (eqb-true _ _ z)))
+      (λ z. looks l27 _ refl (from19-27 s κ⁺ i⁺ t (accessAt l19 t q) 27 (q .wanted) (unawaited l19 e (λ x. x)) (at-line l19 e)))
+  each l20 e b = looks l21 _ refl (from20 s κ⁺ i⁺ t (accessAt l20 t q) 21 (q .wanted) (unawaited l20 e (λ x. x)) now e (at-line l20 e))
   each l21 e b =
       by-test (Out s κ t m) (eqb (m .c (q .held)) 0) _ _
       (λ c. by-test (Out s κ t m) (eqb (q .loaded) (q .expected)) _ _
-        (λ z. looks l23 _ refl (from21-23 s κ⁺ i⁺ t (accessAt l21 t q) 23 (q .wanted) (at-line l21 e) (eqb-true _ _ c) (eqb-true _ _ z) (eager (active-settled s κ i t (rw e tt) (eqb-true _ _ c)))))
-        (λ z. looks l22 _ refl (from21-22 s κ⁺ i⁺ t (accessAt l21 t q) 22 (q .wanted) (at-line l21 e) (eqb-true _ _ c) (eqb-false _ _ z))))
-      (λ c. looks (l1 for28) _ refl (from21-1 s κ⁺ i⁺ t (accessAt l21 t q) 1 28 (at-line l21 e) (eqb-false _ _ c)))
+      (λ z. looks l23 _ refl (from21-23 s κ⁺ i⁺ t (accessAt l21 t q) 23 (q .wanted) (unawaited l21 e (λ x. x)) (at-line l21 e) (eqb-true _ _ c) (eqb-true _ _ z) (eager (active-settled s κ i t (rw e tt) (eqb-true _ _ c)))))
+      (λ z. looks l22 _ refl (from21-22 s κ⁺ i⁺ t (accessAt l21 t q) 22 (q .wanted) (unawaited l21 e (λ x. x)) (at-line l21 e) (eqb-true _ _ c) (eqb-false _ _ z))))
+      (λ c. looks (l1 for28) _ refl (from21-1 s κ⁺ i⁺ t (accessAt l21 t q) 1 28 (unawaited l21 e (λ x. x)) (at-line l21 e) (eqb-false _ _ c)))
   each l22 e b =
-      let k = known l22 e .task in
-      (record { change = still; can = tt; kept = keeps-leaving s κ⁺ t i⁺ (accessAt l22 t q) 0 0 l22 e tt (unawaited l22 e (λ x. x)) idle refl },
-        declines-it l22 e tt tt (λ x. x) (q .loaded) (k .seen .refusing tt) (k .self .other-loaded tt))
+      let k = known l22 e .task in (
+        record { change = still; can = tt; kept = keeps-leaving s κ⁺ t i⁺ (accessAt l22 t q) 0 0 l22 e tt (unawaited l22 e (λ x. x)) idle refl },
+        declines-it l22 e tt tt (λ x. x) (q .loaded) (k .seen .refusing tt) (k .self .other-loaded tt),
+      )
   each l23 e b = stores e
   each l24 e b =
       by-test (Out s κ t m) (eqb (m .c (q .held)) 0) _ _
       (λ z. looks l26 _ refl (from24-26 s κ⁺ i⁺ t (accessAt l24 t q) 26 (q .wanted) (at-line l24 e) (eqb-true _ _ z)))
       (λ z. looks (l1 for25) _ refl (from24-1 s κ⁺ i⁺ t (accessAt l24 t q) 1 25 (at-line l24 e) (eqb-false _ _ z)))
   each l26 e b =
-      let k = known l26 e .task in
-      (record { change = still; can = tt; kept = keeps-leaving s κ⁺ t i⁺ (accessAt l26 t q) 0 0 l26 e tt (λ z. T-not (s .told t) (k .owner z .not-told) (k .self .yes-told tt)) idle refl },
-        acted (k .self .yes-told tt) (rw e tt) refl)
+      let k = known l26 e .task in (
+        record { change = still; can = tt; kept = keeps-leaving s κ⁺ t i⁺ (accessAt l26 t q) 0 0 l26 e tt (λ z. T-not (s .told t) (k .owner z .not-told) (k .self .yes-told tt)) idle refl },
+        acted (k .self .yes-told tt) (rw e tt) refl,
+      )
   each l27 e b = freezes e
   each l29 e b = record { change = still; can = tt; kept = Replacing.kept-grown s κ⁺ t i⁺ e (accessAt l29 t q) 30 (q .wanted) refl }
   each l30 e b =
       let k = known l30 e .task in
       by-test (Does l30) (eqb (m .current) (q .held)) (memory (install m (q .taken)) 1) (memory m 0) (λ z. (installs e (sym (eqb-true _ _ z)), acts refl))
       (λ z. let r = k .seen .replaced tt (λ h. eqb-false _ _ z (sym h)) in
-        (leaves (unawaited l30 e (λ x. x)), declines-it l30 e tt tt (λ x. x) (r .0) (r .1) (λ g. r .2 (g ∙ sym (k .decided .expected tt)))))
+      (leaves (unawaited l30 e (λ x. x)), declines-it l30 e tt tt (λ x. x) (r .0) (r .1) (λ g. r .2 (g ∙ sym (k .decided .expected tt)))))
   each nowhere e b = absurd b

@@ -13,7 +13,7 @@ use Rattle.history.proofs.Basics.{upd-at, upd-same, upd-off, upd-cases}
 use Rattle.history.proofs.Simulation.{Phase, settled, late, Knowledge}
 use Rattle.figure.specs.Figure.{store}
 use Rattle.figure.proofs.Classes.{is, holding, won, loaded, stored, contended, lies-in, are-apart}
-use Rattle.figure.proofs.Invariant.{none, View, Value, Fresh, Owner, PhaseIs, line, held, Inv}
+use Rattle.figure.proofs.Invariant.{none, View, Value, Fresh, Owner, Rival, PhaseIs, line, held, Inv}
 use Rattle.figure.proofs.Frame.{moved, Rest, Mine, finish, was, undecided, active-undecided, active-current, one-winner, not-taken}
 use Rattle.figure.proofs.Looking.{off, same-wins, same-loses, active-settled, active-value}
 
@@ -41,11 +41,12 @@ module _ (s : View) (κ : Knowledge) (t : ℕ) (i : Inv s κ) (e : line s t ≡ 
   untold = not-T (s .told t) (here .task .self .told-stored tt)
 
   value′ : (u : ℕ) → u ≢ t → Value (line s u) (s .task u .new) (held s u) (s .task u .loaded) (s .cell .next) (V′ (held s u))
-  value′ u ne = let r = i .tasks u .value in record
-    { there = r .there
-    ; some = λ b. upd-cases (λ x. x ≢ none) (s .cell .v) (q .held) (q .new) (held s u) (λ h. here .task .self .nv-some tt) (λ h. r .some b)
-    ; still-loaded = λ b. upd-cases (λ x. x ≡ s .task u .loaded) (s .cell .v) (q .held) (q .new) (held s u) (λ h. absurd (nobody u ne h (lies-in loaded won tt (line s u) b))) (λ h. r .still-loaded b)
-    ; still-stored = λ b. upd-cases (λ x. x ≡ s .task u .new) (s .cell .v) (q .held) (q .new) (held s u) (λ h. absurd (nobody u ne h (lies-in stored won tt (line s u) b))) (λ h. r .still-stored b) }
+  value′ u ne = let r = i .tasks u .value in record {
+    there = r .there;
+    some = λ b. upd-cases (λ x. x ≢ none) (s .cell .v) (q .held) (q .new) (held s u) (λ h. here .task .self .nv-some tt) (λ h. r .some b);
+    still-loaded = λ b. upd-cases (λ x. x ≡ s .task u .loaded) (s .cell .v) (q .held) (q .new) (held s u) (λ h. absurd (nobody u ne h (lies-in loaded won tt (line s u) b))) (λ h. r .still-loaded b);
+    still-stored = λ b. upd-cases (λ x. x ≡ s .task u .new) (s .cell .v) (q .held) (q .new) (held s u) (λ h. absurd (nobody u ne h (lies-in stored won tt (line s u) b))) (λ h. r .still-stored b);
+  }
 
   fresh′ : (u : ℕ) → T (is 30 (line s u)) → Fresh (s .task u .taken) (s .task u .new) (s .cell .next) (V′ (s .task u .taken)) (s .cell .d (s .task u .taken)) (s .cell .y (s .task u .taken)) (s .cell .c (s .task u .taken)) L
   fresh′ u b = rw (upd-off (s .cell .v) (q .held) (q .new) (s .task u .taken) (not-taken s κ i u t b (rw e tt))) (i .tasks u .fresh b)
@@ -58,6 +59,12 @@ module _ (s : View) (κ : Knowledge) (t : ℕ) (i : Inv s κ) (e : line s t ≡ 
 
   some-now : V′ (q .held) ≢ none
   some-now z = here .task .self .nv-some tt (sym stored-now ∙ z)
+
+  still-wins : (w : ℕ) → w ≢ t → q .held ≡ held s w → Rival w l24 (line s w) (s .cell .x (held s w))
+  still-wins = same-wins s κ t l23 l24 q (λ x. tt) here
+
+  still-loses : (w : ℕ) → w ≢ t → held s w ≡ q .held → Rival t (line s w) l24 (s .cell .x (q .held))
+  still-loses = same-loses s κ t l23 l24 q (λ x. tt) (λ x. x) here
 
   -- nobody's late store is awaited on the winner's own block
   pub none-awaited : q .held ≡ L → (u : ℕ) → s .phase ≢ late u
@@ -89,34 +96,53 @@ module _ (s : View) (κ : Knowledge) (t : ℕ) (i : Inv s κ) (e : line s t ≡ 
     none-stored u ne b d = nobody u ne (undecided s κ i u (lies-in stored holding tt (line s u) b) d ∙ sym is-L) (lies-in stored won tt (line s u) b)
 
     rest-live : Rest live κ t
-    rest-live = record
-      { rivals = λ u w ne ne′. i .rivals u w; apart = λ u w ne ne′. i .apart u w
-      ; current = let k = i .current in record
-          { low = k .low; P-some = here .task .self .nv-some tt; v-some = v-some′; decided-inactive = k .decided-inactive; decision = λ d. absurd (d (rw is-L at open-d))
-          ; phase-is = rw live-settled (λ d. (rw is-L at c, upd-at (s .cell .v) (q .held) (q .new) L (sym is-L))) }
-      ; tasks = λ u ne. let k = i .tasks u in rw (upd-off (s .told) t true u ne) record
-          { self = k .self; split = k .split; value = value′ u ne; seen = k .seen; fresh = fresh′ u; early = k .early
-          ; decided = let r = k .decided in record
-              { replaced-decided = r .replaced-decided; decided-inactive = r .decided-inactive; before-store = r .before-store
-              ; told-value = λ b z d. absurd (none-stored u ne b d); told-decided = r .told-decided; late-inactive = r .late-inactive
-              ; late-phase = r .late-phase; late-decided = r .late-decided; inactive = r .inactive; decided = r .decided; expected = r .expected }
-          ; planned = record
-              { plan-some = k .planned .plan-some
-              ; plan = λ b d. absurd (k .decided .inactive (lies-in (is 2) contended tt (line s u) b) (ap (s .cell .c) (undecided s κ i u (lies-in (is 2) holding tt (line s u) b) d ∙ sym is-L) ∙ c)) }
-          ; owner = λ z. absurd (none-awaited is-L u z) } }
+    rest-live = record {
+      rivals = λ u w ne ne′. i .rivals u w;
+      apart = λ u w ne ne′. i .apart u w;
+      current = let k = i .current in record {
+        low = k .low;
+        P-some = here .task .self .nv-some tt;
+        v-some = v-some′;
+        decided-inactive = k .decided-inactive;
+        decision = λ d. absurd (d (rw is-L at open-d));
+        phase-is = rw live-settled (λ d. (rw is-L at c, upd-at (s .cell .v) (q .held) (q .new) L (sym is-L)));
+      };
+      tasks = λ u ne. let k = i .tasks u in rw (upd-off (s .told) t true u ne) record {
+        self = k .self;
+        split = k .split;
+        value = value′ u ne;
+        seen = k .seen;
+        fresh = fresh′ u;
+        early = k .early;
+        decided = let r = k .decided in record {
+          replaced-decided = r .replaced-decided;
+          decided-inactive = r .decided-inactive;
+          before-store = r .before-store;
+          told-value = λ b z d. absurd (none-stored u ne b d);
+          told-decided = r .told-decided;
+          late-inactive = r .late-inactive;
+          late-phase = r .late-phase;
+          late-decided = r .late-decided;
+          inactive = r .inactive;
+          decided = r .decided;
+          expected = r .expected;
+        };
+        planned = record {
+          plan-some = k .planned .plan-some;
+          plan = λ b d. absurd (k .decided .inactive (lies-in (is 2) contended tt (line s u) b) (ap (s .cell .c) (undecided s κ i u (lies-in (is 2) holding tt (line s u) b) d ∙ sym is-L) ∙ c));
+        };
+        owner = λ z. absurd (none-awaited is-L u z);
+      };
+    }
 
     mine-live : Mine live κ t l24 next
     mine-live =
         let m = here in
-        let wins = same-wins s κ t l23 l24 q (λ x. tt) m in
-        let loses = same-loses s κ t l23 l24 q (λ x. tt) (λ x. x) m in
-        let v = stored-now in
-        let v′ = some-now in
         let told : T (upd (s .told) t true t) = rw upd-same tt in
         let only : T (not (upd (s .told) t true t)) → ⊥ = λ x. rw upd-same at x in
         let d = open-d in
         let o : s .phase ≢ late t = none-awaited is-L t in
-        search off
+        search (off, stored-now, some-now, still-wins, still-loses)
 
     pub kept-live : lineOf next ≡ l24 → Inv (moved live t next) κ
     kept-live e′ = finish live κ t l24 next e′ rest-live mine-live
@@ -130,35 +156,49 @@ module _ (s : View) (κ : Knowledge) (t : ℕ) (i : Inv s κ) (e : line s t ≡ 
     delayed = record { cell = store (s .cell) (q .held) Field.V (q .new); task = s .task; value = s .value; told = s .told; phase = p }
 
     rest-delayed : Rest delayed κ t
-    rest-delayed = record
-      { rivals = λ u w ne ne′. i .rivals u w; apart = λ u w ne ne′. i .apart u w
-      ; current = let k = i .current in record { low = k .low; P-some = k .P-some; v-some = v-some′; decided-inactive = k .decided-inactive; decision = k .decision; phase-is = is-p }
-      ; tasks = λ u ne. let k = i .tasks u in record
-          { self = k .self; split = k .split; value = value′ u ne; seen = k .seen; fresh = fresh′ u; early = k .early
-          ; decided = let r = k .decided in record
-              { replaced-decided = r .replaced-decided; decided-inactive = r .decided-inactive; before-store = r .before-store
-              ; told-value = r .told-value; told-decided = r .told-decided; late-inactive = r .late-inactive
-              ; late-phase = λ b z d. lates u ne .0 (r .late-phase b z d); late-decided = r .late-decided; inactive = r .inactive; decided = r .decided; expected = r .expected }
-          ; planned = record
-              { plan-some = k .planned .plan-some
-              ; plan = λ b d z. upd-cases (λ x. x ≡ s .task u .loaded) (s .cell .v) (q .held) (q .new) L
-                  (λ h. let z′ = k .planned .plan b d z in absurd (z (sym z′ ∙ plan-p (rw (undecided s κ i u (lies-in (is 2) holding tt (line s u) b) d) at d) (sym h))))
-                  (λ h. k .planned .plan b d z) }
-          ; owner = λ z. let x = lates u ne .1 z in let o = k .owner (x .0) in record
-              { has-stored = o .has-stored; here = o .here; not-told = o .not-told; expected-is = o .expected-is; new-is = o .new-is ∙ sym (upd-off (s .cell .v) (q .held) (q .new) L (x .1)) } } }
+    rest-delayed = record {
+      rivals = λ u w ne ne′. i .rivals u w;
+      apart = λ u w ne ne′. i .apart u w;
+      current = let k = i .current in record { low = k .low; P-some = k .P-some; v-some = v-some′; decided-inactive = k .decided-inactive; decision = k .decision; phase-is = is-p };
+      tasks = λ u ne. let k = i .tasks u in record {
+        self = k .self;
+        split = k .split;
+        value = value′ u ne;
+        seen = k .seen;
+        fresh = fresh′ u;
+        early = k .early;
+        decided = let r = k .decided in record {
+          replaced-decided = r .replaced-decided;
+          decided-inactive = r .decided-inactive;
+          before-store = r .before-store;
+          told-value = r .told-value;
+          told-decided = r .told-decided;
+          late-inactive = r .late-inactive;
+          late-phase = λ b z d. lates u ne .0 (r .late-phase b z d);
+          late-decided = r .late-decided;
+          inactive = r .inactive;
+          decided = r .decided;
+          expected = r .expected;
+        };
+        planned = record {
+          plan-some = k .planned .plan-some;
+          plan = λ b d z. upd-cases (λ x. x ≡ s .task u .loaded) (s .cell .v) (q .held) (q .new) L
+              (λ h. let z′ = k .planned .plan b d z in absurd (z (sym z′ ∙ plan-p (rw (undecided s κ i u (lies-in (is 2) holding tt (line s u) b) d) at d) (sym h))))
+              (λ h. k .planned .plan b d z);
+        };
+        owner = λ z. let x = lates u ne .1 z in let o = k .owner (x .0) in record
+            { has-stored = o .has-stored; here = o .here; not-told = o .not-told; expected-is = o .expected-is; new-is = o .new-is ∙ sym (upd-off (s .cell .v) (q .held) (q .new) L (x .1)) };
+      };
+    }
 
     mine-delayed : Mine delayed κ t l24 next
     mine-delayed =
         let m = here in
-        let wins = same-wins s κ t l23 l24 q (λ x. tt) m in
-        let loses = same-loses s κ t l23 l24 q (λ x. tt) (λ x. x) m in
-        let v = stored-now in
-        let v′ = some-now in
         let nt : T (s .told t) → ⊥ = T-not (s .told t) untold in
         let d : s .cell .d (q .held) ≢ none → s .cell .d (q .held) ≡ q .expected = m .task .decided .before-store tt in
         let o : p ≡ late t → Owner l24 next (s .told t) L (s .value) (V′ L)
-              = λ z. let x = owner-p z in record { has-stored = tt; here = x .0; not-told = untold; new-is = sym (upd-at (s .cell .v) (q .held) (q .new) L (sym (x .0))); expected-is = x .1 } in
-        search off
+        = λ z. let x = owner-p z in record { has-stored = tt; here = x .0; not-told = untold; new-is = sym (upd-at (s .cell .v) (q .held) (q .new) L (sym (x .0))); expected-is = x .1 } in
+        search (off, stored-now, some-now, still-wins, still-loses)
 
     pub kept-delayed : lineOf next ≡ l24 → Inv (moved delayed t next) κ
     kept-delayed e′ = finish delayed κ t l24 next e′ rest-delayed mine-delayed

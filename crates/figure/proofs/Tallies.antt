@@ -99,7 +99,7 @@ module _ (w : World) where
       rest = put t idle none refl;
       steps = add-one (q .steps);
       hard = refl;
-      few = rw (end .hard) (by-kind q (λ op. count hardware (did ++ (lineOf q ∷ [])) ≤ mostHard op) (λ e. few 1 readPaths tt (end .read-path e)) (few 3 paths tt (end .path)));
+      few = rw (end .all-hard) (by-kind q (λ op. count hardware (did ++ (lineOf q ∷ [])) ≤ mostHard op) (λ e. few 1 readPaths tt (end .read-path e)) (few 3 paths tt (end .path)));
     }
 
   step-follows : (t : ℕ) (did : List Line) {f : After} → Stepped w t did f → Follows doing (w .cells) w (step t) (f .world) (stepEvent (tried t (w .records t)) (f .outcome))

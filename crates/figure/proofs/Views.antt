@@ -73,6 +73,7 @@ module _ (f : ℕ → Record) (t : ℕ) (q : Record) where
       off : (p : ℕ → Record) (u : ℕ) → (p u .cell ≢ j) ⊎ (p u ≡ idle) → on p j u ≡ idle
       off p u (inl z) = on-out p j u z
       off p u (inr z) = on-idle p j u z
+
       go : (u : ℕ) → (u ≡ t) ⊎ (u ≢ t) → on (upd f t q) j u ≡ on f j u
       go u (inl e) = off (upd f t q) u (subst (λ (r : Record). (r .cell ≢ j) ⊎ (r ≡ idle)) (sym (upd-at f t q u e)) h′) ∙ sym (off f u (subst (λ n. (f n .cell ≢ j) ⊎ (f n ≡ idle)) (sym e) h))
       go u (inr e) = on-other j u e

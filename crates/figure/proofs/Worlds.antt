@@ -9,6 +9,7 @@ use lib.Dec.{T}
 use Rattle.cells.specs.declared.Record.{Record}
 use Rattle.cells.specs.declared.Answer as Code
 use Rattle.cells.specs.declared.Answer.the-variants as CodeAnswer
+use Rattle.cells.specs.declared.lines.Next.{Next}
 use Rattle.cells.specs.Record.{idle}
 use Rattle.cells.specs.Lines.{Line, lineOf, accessOf, nextOf, readAnswer}
 use Rattle.history.specs.Basics.{upd}
@@ -17,7 +18,7 @@ use Rattle.history.specs.Linearization.{reply, apply}
 use Rattle.history.proofs.Basics.{either, upd-at, upd-same, upd-off}
 use Rattle.history.proofs.Simulation as Sim
 use Rattle.history.proofs.Simulation.{Phase, settled, frozen, late, Ghost, Knowledge, Tally, Move, shift, Grown, May, Why}
-use Rattle.figure.specs.Figure.{Cell, World, withBoth, perform, answerOf}
+use Rattle.figure.specs.Figure.{Cell, World, withBoth, recordAfter, perform, answerOf}
 use Rattle.figure.proofs.Records.{Pending, AllOnPath, OnPath}
 use Rattle.figure.proofs.Tallies.{opOf, tally, tallyOf, doing}
 use Rattle.figure.proofs.Classes.{busy, swapping, stored, lies-in}
@@ -46,6 +47,16 @@ pending-at w p u b = go (p u .1)
     go (inl i) = absurd (rw (i .0) at b)
     go (inr o) = (p u .0, o .1)
 
+-- what the next line of task t makes of its cell, what follows, and the figure afterwards
+abbrev pub cellAfter : World → ℕ → Cell
+cellAfter w t = perform (w .cell (w .records t .cell)) (accessOf t (w .records t)) .cell
+
+abbrev pub nextAfter : World → ℕ → Next
+nextAfter w t = nextOf t (w .records t) (perform (w .cell (w .records t .cell)) (accessOf t (w .records t)) .value)
+
+abbrev pub stepAfter : World → ℕ → World
+stepAfter w t = withBoth w (w .records t .cell) (cellAfter w t) t (recordAfter (nextAfter w t))
+
 -- A STEP OF TASK t
 
 module _ (w : World) (g : Ghost) (κ : Knowledge) (G : Good w g κ) (t : ℕ) (did : List Line) (o : Pending (w .cells) did (w .records t)) where
@@ -73,7 +84,7 @@ module _ (w : World) (g : Ghost) (κ : Knowledge) (G : Good w g κ) (t : ℕ) (d
   on-k : cellOf op ≡ k
   on-k = cell-of q
 
-  pub out : let m = perform (w .cell k) (accessOf t q) in Out s κ t (m .cell) (nextOf t q (m .value))
+  pub out : Out s κ t (cellAfter w t) (nextAfter w t)
   out = subst (λ (r : Record). let m = perform (w .cell k) (accessOf t r) in Out s κ t (m .cell) (nextOf t r (m .value))) here
       (each s κ t (G .cells k) (λ z. G .eager t (tally q) (busy-doing q is-busy) (ap (g .phase) on-k ∙ z)) (line s t) refl (rw its-line is-busy))
 
@@ -205,6 +216,7 @@ module _ (w : World) (g : Ghost) (κ : Knowledge) (G : Good w g κ) (t : ℕ) (d
         -- a task that is busy on cell j now
         knows : (j u : ℕ) → T (busy (lineOf (on (w′ .records) j u))) → ((v : ℕ) → κ .saw u v → κ′ .saw u v) × (κ .early u → κ′ .early u)
         knows j u b = let d = doing-on w′ j u b in let n = was-doing u _ (d .0) in ((λ v. grown .saw u (n .0) _ (n .1) (d .0) v), grown .early u (n .0) _ (n .1) (d .0))
+
         sees : (u : ℕ) → T (busy (lineOf (on (w′ .records) k u))) → (v : ℕ) → plus κ (phaseAfter s t x) (valueAfter s t x) .saw u v → κ′ .saw u v
         sees u b v (inl z) = knows k u b .0 v z
         sees u b v (inr z) =
@@ -212,13 +224,14 @@ module _ (w : World) (g : Ghost) (κ : Knowledge) (G : Good w g κ) (t : ℕ) (d
             let n = was-doing u _ (d .0) in
             let i : cellOf (opOf (w′ .records u)) ≡ k = cell-of (w′ .records u) ∙ d .1 in
             subst (κ′ .saw u) (ap (g′ x .cells) i ∙ value-here x c ∙ sym (z .1)) (grown .sees u (n .0) _ (n .1) (d .0) (ap (g′ x .phase) i ∙ phase-here x ∙ z .0))
+
         go : (j : ℕ) → (j ≡ k) ⊎ (j ≢ k) → Inv (view w′ (g′ x) j) κ′
         go j (inl e) = subst (λ i. Inv (view w′ (g′ x) i) κ′) (sym e)
             (Frame.grow (view w′ (g′ x) k) (plus κ (phaseAfter s t x) (valueAfter s t x)) κ′ (λ u b. (sees u b, knows k u b .1)) (subst (λ (v : View). Inv v (plus κ (phaseAfter s t x) (valueAfter s t x))) (sym view-here) kept))
         go j (inr e) =
             Frame.grow (view w′ (g′ x) j) κ κ′ (λ u b. knows j u b)
             (subst (λ (v : View). Inv v κ) (sym (view-there j e))
-              (told-changed (view w g j) κ (g′ x .told) (told-there j e x c) (λ u z. lies-in stored busy tt (line (view w g j) u) (G .cells j .tasks u .owner z .has-stored)) (G .cells j)))
+            (told-changed (view w g j) κ (g′ x .told) (told-there j e x c) (λ u z. lies-in stored busy tt (line (view w g j) u) (G .cells j .tasks u .owner z .has-stored)) (G .cells j)))
 
   -- WHY IT MAY ANSWER
 

@@ -25,7 +25,7 @@ use Rattle.cells.specs.Questions.{Question, refusal, beginQuestions, swapQuesti
 use Rattle.cells.specs.Begin.{firstRead, firstSwap}
 use Rattle.cells.specs.Look.{shownValue, shown}
 use Rattle.history.specs.Basics.{upd}
-use Rattle.history.specs.History.{Op, read, swap, Action, begin, step, Answer, Value, Yes, No, Event, refused, begun, going, answered, run}
+use Rattle.history.specs.History.{Op, read, swap, Action, begin, step, Answer, Value, Yes, No, Event, refused, begun, going, answered}
 
 -- MEMORY
 
@@ -59,11 +59,16 @@ install m b = record { current = b; next = m .next; x = m .x; y = m .y; c = m .c
 -- a new block, filled with the value
 abbrev pub allocate : Cell → ℕ → Cell
 allocate m n = record {
-  current = m .current; next = suc (m .next);
-  x = upd (m .x) (m .next) (fresh n X); y = upd (m .y) (m .next) (fresh n Y); c = upd (m .c) (m .next) (fresh n C);
-  v = upd (m .v) (m .next) (fresh n Field.V); d = upd (m .d) (m .next) (fresh n D) }
+  current = m .current;
+  next = suc (m .next);
+  x = upd (m .x) (m .next) (fresh n X);
+  y = upd (m .y) (m .next) (fresh n Y);
+  c = upd (m .c) (m .next) (fresh n C);
+  v = upd (m .v) (m .next) (fresh n Field.V);
+  d = upd (m .d) (m .next) (fresh n D);
+}
 
--- what an access makes of the task's cell, and the value that it answers
+-- what an access makes of the task's own cell (so the cell's number is not looked at), and the value that it answers
 pub record Memory : Type 0 where
   pub cell : Cell
   pub value : ℕ
@@ -129,8 +134,11 @@ begins w t (swap k e n) = unless (refusal (swapQuestions (w .tasks) (w .cells) (
 -- cell k's first block, number 0, has its starting value
 abbrev pub opening : (tasks cells : ℕ) → List ℕ → World
 opening n v vs = record {
-  tasks = n; cells = v; records = λ t. idle;
-  cell = λ k. record { current = 0; next = 1; x = λ b. fresh (getD vs k 0) X; y = λ b. fresh (getD vs k 0) Y; c = λ b. fresh (getD vs k 0) C; v = λ b. fresh (getD vs k 0) Field.V; d = λ b. fresh (getD vs k 0) D } }
+  tasks = n;
+  cells = v;
+  records = λ t. idle;
+  cell = λ k. record { current = 0; next = 1; x = λ b. fresh (getD vs k 0) X; y = λ b. fresh (getD vs k 0) Y; c = λ b. fresh (getD vs k 0) C; v = λ b. fresh (getD vs k 0) Field.V; d = λ b. fresh (getD vs k 0) D };
+}
 
 unfoldable pub looked : World → ℕ → Looked
 looked w k = let m = w .cell k in let b = m .current in shown (refusal (lookQuestions (w .cells) k)) (shownValue (m .c b) (m .v b) (m .d b))
@@ -142,12 +150,12 @@ answerOf (CodeAnswer.Value v) = Value v
 answerOf CodeAnswer.Yes = Yes
 answerOf CodeAnswer.No = No
 
--- of an outcome, where the line's access attempts x hardware CAS
 abbrev pub beginEvent : Outcome → Event
 beginEvent (Refused r) = refused r
 beginEvent Acted = begun
 beginEvent (Ended f) = answered 0 (answerOf (f .answer)) (f .steps) (f .hard)
 
+-- the access of the step's line attempts x hardware CAS
 abbrev pub stepEvent : ℕ → Outcome → Event
 stepEvent x (Refused r) = refused r
 stepEvent x Acted = going x

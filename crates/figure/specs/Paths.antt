@@ -1,15 +1,13 @@
 -- The complete paths of figure 2, and the lines that a call did.
+use mathlib.Core.Path.{_≡_}
 use mathlib.Core.List.{List, [], _∷_, _++_}
 use Prim.Native.Nat.{ℕ, _+_}
-use Rattle.cells.specs.declared.Finished.{Finished}
-use Rattle.cells.specs.declared.Outcome.{Outcome}
-use Rattle.cells.specs.declared.Outcome.the-variants.{Refused, Acted, Ended}
 use Rattle.cells.specs.declared.lines.Access.{Access}
 use Rattle.cells.specs.Record.{idle}
-use Rattle.cells.specs.Lines.{Line, Wanted, for13, for25, for28, l1, l2, l3, l10, l11, l12, l15, l16, l17, l18, l19, l20, l21, l22, l23, l24, l26, l27, l29, l30, lineOf, accessAt, loads, stores, hardware}
-use Rattle.history.specs.Basics.{upd}
-use Rattle.history.specs.History.{Op, Action, begin, step}
-use Rattle.figure.specs.Figure.{World, begins, stepped}
+use Rattle.cells.specs.Paths.{table}
+use Rattle.cells.specs.Lines.{Line, Wanted, for13, for25, for28, l1, l2, l3, l10, l11, l12, l15, l16, l17, l18, l19, l20, l21, l22, l23, l24, l26, l27, l29, l30, accessAt, loads, stores, hardware}
+use Rattle.history.specs.Basics.{upd, _∈_}
+use Rattle.history.specs.History.{Op, read, Action, begin, step, Answer, Event, refused, begun, going, answered}
 
 -- THE THIRTEEN PATHS
 
@@ -58,6 +56,13 @@ paths =
     by17 ∷ by19 ∷ by21 ∷ by25 ∷
     (by17 ++ replace) ∷ (by19 ++ replace) ∷ (by21 ++ replace) ∷ (by25 ++ replace) ∷ []
 
+-- the twelve others
+abbrev pub reached : List (List Line)
+reached =
+    readActive ∷ readDecided ∷ noFrom22 ∷ yesFrom26 ∷ yesFrom25 ∷
+    by17 ∷ by19 ∷ by21 ∷
+    (by17 ++ replace) ∷ (by19 ++ replace) ∷ (by21 ++ replace) ∷ (by25 ++ replace) ∷ []
+
 -- COUNTS
 
 -- how often an access of the lines is of the kind that the test counts; what an access is does not depend on task and record
@@ -77,38 +82,50 @@ abbrev pub countsOf : List (List Line) → List (List ℕ)
 countsOf [] = []
 countsOf (p ∷ ps) = counts p ∷ countsOf ps
 
--- document 01's table
-abbrev pub table : List (List ℕ)
-table =
-    (3 ∷ 3 ∷ 0 ∷ 0 ∷ []) ∷ (6 ∷ 5 ∷ 0 ∷ 1 ∷ []) ∷ (8 ∷ 5 ∷ 3 ∷ 0 ∷ []) ∷ (10 ∷ 6 ∷ 4 ∷ 0 ∷ []) ∷ (12 ∷ 8 ∷ 3 ∷ 1 ∷ []) ∷
-    (7 ∷ 4 ∷ 2 ∷ 1 ∷ []) ∷ (9 ∷ 5 ∷ 3 ∷ 1 ∷ []) ∷ (10 ∷ 7 ∷ 2 ∷ 1 ∷ []) ∷ (15 ∷ 10 ∷ 3 ∷ 2 ∷ []) ∷
-    (9 ∷ 4 ∷ 2 ∷ 2 ∷ []) ∷ (11 ∷ 5 ∷ 3 ∷ 2 ∷ []) ∷ (12 ∷ 7 ∷ 2 ∷ 2 ∷ []) ∷ (17 ∷ 10 ∷ 3 ∷ 3 ∷ []) ∷ []
+-- THE LINES THAT A CALL DID, in any machine that takes actions and gives events
 
--- THE LINES THAT A CALL DID
-
--- a finished call: its lines in order, and what it reported
+-- a finished call: what it is as begun, its lines in order, and what its last step reported
 pub record Traced : Type 0 where
+  pub op : Op
   pub lines : List Line
-  pub result : Finished
+  pub answer : Answer
+  pub steps : ℕ
+  pub hard : ℕ
 
--- the figure with, for each task, the lines of its pending call so far; and the finished calls
+-- of each task its last call as begun, and the lines of its pending one so far; the finished calls
 pub record Trace : Type 0 where
-  pub world : World
+  pub op : ℕ → Op
   pub did : ℕ → List Line
   pub done : List Traced
 
-abbrev pub stepTrace : Trace → ℕ → World → Outcome → Trace
-stepTrace r t w (Refused n) = record { world = w; did = r .did; done = r .done }
-stepTrace r t w Acted = record { world = w; did = upd (r .did) t (r .did t ++ (lineOf (r .world .records t) ∷ [])); done = r .done }
-stepTrace r t w (Ended f) = record { world = w; did = upd (r .did) t []; done = record { lines = r .did t ++ (lineOf (r .world .records t) ∷ []); result = f } ∷ r .done }
+abbrev pub noTrace : Trace
+noTrace = record { op = λ t. read 0; did = λ t. []; done = [] }
 
-abbrev pub trace : Trace → Action → Trace
-trace r (begin t op) = record { world = begins (r .world) t op .world; did = r .did; done = r .done }
-trace r (step t) = stepTrace r t (stepped (r .world) t .world) (stepped (r .world) t .outcome)
+-- `next`: the line that each task's next step runs
+module _ (next : ℕ → Line) (r : Trace) where
+  abbrev pub didLine : ℕ → List Line
+  didLine t = r .did t ++ (next t ∷ [])
 
-abbrev pub traces : Trace → List Action → Trace
-traces r [] = r
-traces r (a ∷ l) = traces (trace r a) l
+  -- a begin that is accepted starts with no line; an accepted step adds its line; a refused action changes nothing
+  abbrev pub enterLine : Action → Event → Trace
+  enterLine a (refused n) = r
+  enterLine (begin t op) begun = record { op = upd (r .op) t op; did = upd (r .did) t []; done = r .done }
+  enterLine (begin t op) (going x) = r
+  enterLine (begin t op) (answered x a n h) = r
+  enterLine (step t) begun = r
+  enterLine (step t) (going x) = record { op = r .op; did = upd (r .did) t (didLine t); done = r .done }
+  enterLine (step t) (answered x a n h) = record { op = r .op; did = upd (r .did) t []; done = record { op = r .op t; lines = didLine t; answer = a; steps = n; hard = h } ∷ r .done }
 
-abbrev pub startTrace : World → Trace
-startTrace w = record { world = w; did = λ t. []; done = [] }
+-- the trace of a list of actions, from a state and what is traced already
+module _ {S : Type 0} (act : S → Action → S × Event) (next : S → ℕ → Line) where
+  abbrev pub traces : S → Trace → List Action → Trace
+  traces s r [] = r
+  traces s r (a ∷ l) = traces (act s a .0) (enterLine (next s) r a (act s a .1)) l
+
+-- a finished call whose counts are the lines that it did
+pub record Counted (x : Traced) : Type 0 where
+  pub path : x .lines ∈ reached
+  pub read-path : (k : ℕ) → x .op ≡ read k → x .lines ∈ (readActive ∷ readDecided ∷ [])
+  pub all-steps : x .steps ≡ steps (x .lines)
+  pub all-hard : x .hard ≡ count hardware (x .lines)
+  pub row : counts (x .lines) ∈ table

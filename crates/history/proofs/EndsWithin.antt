@@ -9,7 +9,7 @@ use lib.ListN.{replicate}
 use Rattle.history.specs.Basics.{_∈_}
 use Rattle.history.specs.History.{Action, step, Event, refused, going, answered, history, run, Call, Finished, Calls, noCalls, advance, advanced, closed, enter, enterAll, callsOf}
 use Rattle.history.specs.History.{Allowed, WellFormed}
-use Rattle.history.specs.Demand3.{most, Meets}
+use Rattle.history.specs.Demand3.{most, Meets, Finishes}
 use Rattle.history.proofs.Basics.{upd-same}
 use Rattle.history.proofs.Tracks.{clash}
 
@@ -26,20 +26,12 @@ last-allowed size b [] x w = w .0
 last-allowed size b (y ∷ h) x w = last-allowed size (enter b (y .0) (y .1)) h x (w .1)
 
 module _ {S : Type 0} (machine : S → Action → S × Event) (start : S) where
-  abbrev pub callsAfter : List Action → Calls
+  abbrev callsAfter : List Action → Calls
   callsAfter l = callsOf (history machine start l)
-
-  -- so many more steps of task t, at most `most`, finish its call c
-  pub record Finishes (l : List Action) (t : ℕ) (c : Call) (most : ℕ) : Type 0 where
-    pub steps : ℕ
-    pub few : steps ≤ most
-    pub end : Finished
-    pub done : end ∈ callsAfter (l ++ replicate steps (step t)) .finished
-    pub is : end .call .start ≡ c .start
 
   module _ {Active : List Action → ℕ → Type 0} {size : ℕ} {values : ℕ → ℕ} (meets : Meets machine start Active size values) where
     -- each further step is accepted, and the bound leaves room for no more than k that do not end the call
-    within : (k : ℕ) (l : List Action) (t : ℕ) (c : Call) → callsAfter l .pending t ≡ some c → most (c .start .op) ≤ c .steps + k → Finishes l t c k
+    within : (k : ℕ) (l : List Action) (t : ℕ) (c : Call) → callsAfter l .pending t ≡ some c → most (c .start .op) ≤ c .steps + k → Finishes machine start l t c k
     within zero l t c h m = absurd (omega (arith, meets l .bounds .unended t c h .0))
     within (suc k) l t c h m = go (machine (run machine start l) (step t) .1)
         (ap callsOf (history-snoc machine start l (step t)) ∙ calls-snoc noCalls (history machine start l) (step t, machine (run machine start l) (step t) .1))
@@ -54,13 +46,13 @@ module _ {S : Type 0} (machine : S → Action → S × Event) (start : S) where
         b' = callsAfter (l ++ (step t ∷ []))
 
         go : (e : Event) → b' ≡ enter b (step t) e → Allowed size b (step t) e →
-            ((d : Call) → b' .pending t ≡ some d → most (d .start .op) ≤ d .steps + k → Finishes (l ++ (step t ∷ [])) t d k) → Finishes l t c (suc k)
+            ((d : Call) → b' .pending t ≡ some d → most (d .start .op) ≤ d .steps + k → Finishes machine start (l ++ (step t ∷ [])) t d k) → Finishes machine start l t c (suc k)
         go (refused r) q f rec = absurd (clash f h)
         go (going x) q f rec =
             let r = rec (advance b x c) (ap (λ (b : Calls). b .pending t) q ∙ (upd-same (b .pending) t (advanced b x (b .pending t)) ∙ ap (advanced b x) h)) (omega arith) in
             record {
               steps = suc (r .steps);
-              few = omega (arith, r .few);
+              at-most = omega (arith, r .at-most);
               end = r .end;
               is = r .is;
               done = subst (λ l. r .end ∈ callsAfter l .finished) (append-assoc l (step t ∷ []) (replicate (r .steps) (step t))) (r .done);
@@ -69,12 +61,12 @@ module _ {S : Type 0} (machine : S → Action → S × Event) (start : S) where
             let e : Finished = record { call = advance b x c; answer = a; steps = n; hard = o } in
             record {
               steps = 1;
-              few = omega arith;
+              at-most = omega arith;
               end = e;
               is = refl;
               done = subst (λ d. e ∈ d) (sym (ap (λ (b : Calls). b .finished) q ∙ ap (λ z. closed (advanced b x z) a n o (b .finished)) h)) (inl refl);
             }
 
     -- from anywhere in any list, at most so many further steps of its task finish a pending call
-    pub ends-within : (l : List Action) (t : ℕ) (c : Call) → callsAfter l .pending t ≡ some c → Finishes l t c (most (c .start .op))
+    pub ends-within : (l : List Action) (t : ℕ) (c : Call) → callsAfter l .pending t ≡ some c → Finishes machine start l t c (most (c .start .op))
     ends-within l t c h = within (most (c .start .op)) l t c h (omega arith)

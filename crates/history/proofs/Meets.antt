@@ -3,8 +3,8 @@ use mathlib.Core.Path.{_≡_, refl, sym, ap, _∙_}
 use mathlib.Core.List.{List, [], _∷_, _++_}
 use Prim.Native.Nat.{ℕ}
 use Rattle.history.specs.History.{Action, Event, history, run, Calls, noCalls, enter, enterAll, WellFormed}
-use Rattle.history.specs.Demand3.{Meets}
-use Rattle.history.proofs.Simulation.{Simulation, activeAfter}
+use Rattle.history.specs.Demand3.{Meets, activeAfter}
+use Rattle.history.proofs.Simulation.{Simulation}
 use Rattle.history.proofs.Tracks.{clash, tallied, tallyOf, Tracks, Change, refuses, starts, goes, ends, Tracked, tracked}
 use Rattle.history.proofs.MovesOne.{Dated, dated-on, moves-one}
 use Rattle.history.proofs.Counts.{Within, AllEnded, ended-next, bounds-of}

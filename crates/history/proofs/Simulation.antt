@@ -3,11 +3,10 @@ use mathlib.Core.Path.{_≡_}
 use mathlib.Core.Logic.{_≢_, Lift}
 use mathlib.Core.Bool.{Bool, true, false, not}
 use mathlib.Core.Option.{Option, none, some}
-use mathlib.Core.List.{List}
 use Prim.Native.Nat.{ℕ, suc, _+_, _≤_, _<_}
 use lib.Dec.{T}
 use Rattle.history.specs.Basics.{upd}
-use Rattle.history.specs.History.{Op, cellOf, Action, begin, step, Event, refused, begun, going, answered, Answer, Yes, run}
+use Rattle.history.specs.History.{Op, cellOf, Action, begin, step, Event, refused, begun, going, answered, Answer, Yes}
 use Rattle.history.specs.Linearization.{reply, after, apply}
 use Rattle.history.specs.Demand3.{most, mostHard, Unequal}
 
@@ -190,7 +189,3 @@ pub record Simulation {S : Type 0} (machine : S → Action → S × Event) (star
   pub follows : (s : S) (g : Ghost) (κ : Knowledge) → Inv s g κ → (a : Action) → Follows doing size s a (machine s a .0) (machine s a .1)
   pub forward : (s : S) (g : Ghost) (κ : Knowledge) → Inv s g κ → (a : Action) → Forward doing Inv s g κ a (machine s a .0) (machine s a .1)
   pub quietly : (s : S) (g : Ghost) (κ : Knowledge) → Inv s g κ → (a : Action) → Quietly doing active Quiet s a (machine s a .0) (machine s a .1)
-
--- cell k's block is active after the actions l
-abbrev pub activeAfter : {S : Type 0} → (S → Action → S × Event) → S → (S → ℕ → Type 0) → List Action → ℕ → Type 0
-activeAfter machine start active l k = active (run machine start l) k

@@ -2,10 +2,11 @@
 use mathlib.Core.Path.{_≡_}
 use mathlib.Core.Logic.{_≢_, _⊎_}
 use mathlib.Core.Option.{some}
-use mathlib.Core.List.{List}
+use mathlib.Core.List.{List, _++_}
 use Prim.Native.Nat.{ℕ, _≤_, _<_}
+use lib.ListN.{replicate}
 use Rattle.history.specs.Basics.{_∈_}
-use Rattle.history.specs.History.{Op, read, swap, cellOf, Action, Event, history, Call, Finished, Calls, noCalls, callsOf, CallOf, WellFormed}
+use Rattle.history.specs.History.{Op, read, swap, cellOf, Action, step, Event, history, run, Call, Finished, Calls, noCalls, callsOf, CallOf, WellFormed}
 use Rattle.history.specs.Linearization.{Point, Linearizes}
 
 -- BOUNDS
@@ -38,7 +39,13 @@ Alone b c end = (d : Call) (n : ℕ) → CallOf b d n → Unequal (d .start .op)
 abbrev pub NoHardware : (List Action → ℕ → Type 0) → Calls → Type 0
 NoHardware Active b = (c : Call) (n : ℕ) → CallOf b c n → Active (c .start .before) (cellOf (c .start .op)) → Alone b c n → c .hard ≡ 0
 
--- DEMAND 3
+-- cell k's block is active in the machine that was fed the actions l
+abbrev pub activeAfter : {S : Type 0} → (S → Action → S × Event) → S → (S → ℕ → Type 0) → List Action → ℕ → Type 0
+activeAfter machine start active l k = active (run machine start l) k
+
+-- DEMAND 3. It speaks of histories alone. A machine that refuses every begin meets it, and so does one that acts at once and then idles:
+-- demand 1 ties refusals to the questions, and demand 2 each step to a line. `tried` is the machine's own word: in `pool` and `figure` it
+-- is read off the access of the step's line.
 
 pub record Demand3 (Active : List Action → ℕ → Type 0) (size : ℕ) (values : ℕ → ℕ) (h : List (Action × Event)) : Type 0 where
   pub well-formed : WellFormed size noCalls h
@@ -50,3 +57,13 @@ pub record Demand3 (Active : List Action → ℕ → Type 0) (size : ℕ) (value
 -- a machine meets it from a state: every list of actions
 abbrev pub Meets : {S : Type 0} → (S → Action → S × Event) → S → (List Action → ℕ → Type 0) → ℕ → (ℕ → ℕ) → Type 0
 Meets act s Active size values = (l : List Action) → Demand3 Active size values (history act s l)
+
+-- WHAT A PLANNER READS FROM IT
+
+-- after the actions l, so many more steps of task t, at most `few`, finish its call c
+pub record Finishes {S : Type 0} (machine : S → Action → S × Event) (start : S) (l : List Action) (t : ℕ) (c : Call) (few : ℕ) : Type 0 where
+  pub steps : ℕ
+  pub at-most : steps ≤ few
+  pub end : Finished
+  pub done : end ∈ callsOf (history machine start (l ++ replicate steps (step t))) .finished
+  pub is : end .call .start ≡ c .start

@@ -15,9 +15,8 @@ use Rattle.cells.specs.Record.{noValue}
 use Rattle.cells.specs.Questions.{refusal, hasNone, openQuestions}
 use Rattle.cells.proofs.Tests.{nth, answers, all-yes, none-of}
 use Rattle.history.specs.History.{Action, Event, history, Call, callsOf}
-use Rattle.history.specs.Demand3.{most, Demand3, Meets}
-use Rattle.history.proofs.Simulation.{activeAfter}
-use Rattle.history.proofs.EndsWithin.{Finishes, ends-within}
+use Rattle.history.specs.Demand3.{most, Demand3, Meets, Finishes, activeAfter}
+use Rattle.history.proofs.EndsWithin.{ends-within}
 use Rattle.figure.specs.Figure.{figure, opening, active}
 use Rattle.figure.proofs.Simulation.{figure-meets-demand-3}
 use Rattle.refinement.specs.Pool.{Pool, pool}

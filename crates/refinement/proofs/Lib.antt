@@ -9,3 +9,6 @@ pub mod Opening
 pub mod Refines
 pub mod LoneRead
 pub mod Demand3
+pub mod Traces
+pub mod Counts
+pub mod NoNone

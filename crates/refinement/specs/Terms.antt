@@ -1,4 +1,4 @@
--- The terms of the theorems: a fresh opening, records but for block numbers, and a read that runs alone.
+-- The terms of the theorems: a fresh opening, records equal apart from block numbers, and a read that runs alone.
 use mathlib.Core.Bool.{Bool}
 use mathlib.Core.Option.{Option, none, some}
 use mathlib.Core.List.{List, [], _∷_}

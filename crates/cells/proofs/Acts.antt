@@ -1,0 +1,123 @@
+-- Each entry acts exactly when every question is answered yes; where it does not act, state and pool stay.
+use mathlib.Core.Path.{_≡_, refl, sym, ap, _∙_}
+use mathlib.Core.Logic.{_↔_}
+use mathlib.Core.Bool.{Bool, true, false, false≢true}
+use mathlib.Core.Option.{Option, none, some}
+use mathlib.Core.List.{List, [], _∷_}
+use Prim.Native.Nat.{ℕ}
+use lib.ListN.{length}
+use Rattle.cells.specs.declared.Record.{Record}
+use Rattle.cells.specs.declared.State.{State}
+use Rattle.cells.specs.declared.Outcome.{Outcome}
+use Rattle.cells.specs.declared.Outcome.the-variants.{Refused, Acted, Ended}
+use Rattle.cells.specs.declared.Looked.{Looked}
+use Rattle.cells.specs.declared.Looked.the-variants.{NotShown, Shown}
+use Rattle.cells.specs.declared.lines.Field.{Field}
+use Rattle.cells.specs.declared.lines.Field.the-variants.{C, D}
+use Rattle.cells.specs.declared.lines.Next.{Next}
+use Rattle.cells.specs.declared.lines.Next.the-variants.{Go, Done}
+use Rattle.cells.specs.Basics.{ands}
+use Rattle.cells.specs.Record.{recordAt}
+use Rattle.cells.specs.Lines.{accessOf, nextOf}
+use Rattle.cells.specs.Pool.{word}
+use Rattle.cells.specs.Questions.{Question, refusal, fit, openQuestions, beginQuestions, swapQuestions, stepQuestions, lookQuestions}
+use Rattle.cells.specs.Open.{After, leaving, unless, openState, openPool, opened}
+use Rattle.cells.specs.Begin.{started, firstRead, firstSwap, readBegun, swapBegun}
+use Rattle.cells.specs.Step.{Memory, current, perform, followed, ran, stepped}
+use Rattle.cells.specs.Look.{shownValue, shown, looked}
+use Rattle.cells.proofs.Tests.{answers, all-yes}
+
+abbrev pub acts : Outcome → Bool
+acts (Refused n) = false
+acts Acted = true
+acts (Ended f) = true
+
+abbrev pub shows : Looked → Bool
+shows (NotShown n) = false
+shows (Shown v) = true
+
+-- QUESTIONS
+
+all-none : (l : List Question) → ands (answers l) ≡ true → refusal l ≡ none
+all-none [] e = refl
+all-none ((n, true) ∷ l) e = all-none l e
+all-none ((n, false) ∷ l) e = absurd (false≢true e)
+
+-- nothing is refused exactly when every question is answered yes
+pub acts-iff : (l : List Question) → (refusal l ≡ none) ↔ (ands (answers l) ≡ true)
+acts-iff l = (all-yes l, all-none l)
+
+-- what is left where the first no has the number n
+abbrev pub Untouched : State → List ℕ → After → Type 0
+Untouched s p a = (n : ℕ) → a .outcome ≡ Refused n → a ≡ leaving s p (Refused n)
+
+module _ (s : State) (p : List ℕ) (a : After) (acted : acts (a .outcome) ≡ true) where
+  asked : (l : List Question) → acts (unless (refusal l) s p a .outcome) ≡ ands (answers l)
+  asked [] = acted
+  asked ((n, true) ∷ l) = asked l
+  asked ((n, false) ∷ l) = refl
+
+  untouched : (o : Option ℕ) → Untouched s p (unless o s p a)
+  untouched none n e = absurd (false≢true (sym (ap acts e) ∙ acted))
+  untouched (some m) n e = ap (leaving s p) e
+
+-- THE ENTRIES
+
+module _ (s : State) (p : List ℕ) (n v b : ℕ) (vs : List ℕ) where
+  pub open-acts : acts (opened s p n v b vs .outcome) ≡ ands (answers (openQuestions (length p) n v b vs))
+  unfolding opened
+  open-acts = asked s p (leaving (openState n v b) (openPool p vs) Acted) refl (openQuestions (length p) n v b vs)
+
+  pub open-untouched : Untouched s p (opened s p n v b vs)
+  unfolding opened
+  open-untouched = untouched s p (leaving (openState n v b) (openPool p vs) Acted) refl (refusal (openQuestions (length p) n v b vs))
+
+module _ (s : State) (p : List ℕ) (t : ℕ) where
+  abbrev own : Record
+  own = recordAt (s .records) t
+
+  module _ (k : ℕ) where
+    pub read-acts : acts (readBegun s p t k .outcome) ≡ ands (answers ((6, fit s p) ∷ beginQuestions (s .tasks) (s .cells) own t k))
+    unfolding readBegun
+    read-acts = asked s p (started s p t (firstRead k)) refl ((6, fit s p) ∷ beginQuestions (s .tasks) (s .cells) own t k)
+
+    pub read-untouched : Untouched s p (readBegun s p t k)
+    unfolding readBegun
+    read-untouched = untouched s p (started s p t (firstRead k)) refl (refusal ((6, fit s p) ∷ beginQuestions (s .tasks) (s .cells) own t k))
+
+  module _ (k e n : ℕ) where
+    pub swap-acts : acts (swapBegun s p t k e n .outcome) ≡ ands (answers ((6, fit s p) ∷ swapQuestions (s .tasks) (s .cells) own t k e n))
+    unfolding swapBegun
+    swap-acts = asked s p (started s p t (firstSwap k e n)) refl ((6, fit s p) ∷ swapQuestions (s .tasks) (s .cells) own t k e n)
+
+    pub swap-untouched : Untouched s p (swapBegun s p t k e n)
+    unfolding swapBegun
+    swap-untouched = untouched s p (started s p t (firstSwap k e n)) refl (refusal ((6, fit s p) ∷ swapQuestions (s .tasks) (s .cells) own t k e n))
+
+  follows : (m : Memory) (x : Next) → acts (followed m t x .outcome) ≡ true
+  follows m (Go r) = refl
+  follows m (Done f) = refl
+
+  runs : acts (ran s p t own .outcome) ≡ true
+  unfolding ran
+  runs = let m = perform s p (accessOf t own) in follows m (nextOf t own (m .value))
+
+  pub step-acts : acts (stepped s p t .outcome) ≡ ands (answers ((6, fit s p) ∷ stepQuestions (s .tasks) own t))
+  unfolding stepped
+  step-acts = asked s p (ran s p t own) runs ((6, fit s p) ∷ stepQuestions (s .tasks) own t)
+
+  pub step-untouched : Untouched s p (stepped s p t)
+  unfolding stepped
+  step-untouched = untouched s p (ran s p t own) runs (refusal ((6, fit s p) ∷ stepQuestions (s .tasks) own t))
+
+-- a look hands back no state and no pool
+shown-as : (l : List Question) (v : ℕ) → shows (shown (refusal l) v) ≡ ands (answers l)
+shown-as [] v = refl
+shown-as ((n, true) ∷ l) v = shown-as l v
+shown-as ((n, false) ∷ l) v = refl
+
+pub look-shows : (s : State) (p : List ℕ) (k : ℕ) → shows (looked s p k) ≡ ands (answers ((6, fit s p) ∷ lookQuestions (s .cells) k))
+unfolding looked
+look-shows s p k =
+    let b = current s k in
+    shown-as ((6, fit s p) ∷ lookQuestions (s .cells) k) (shownValue (word p b C) (word p b Field.V) (word p b D))

@@ -1,0 +1,63 @@
+-- From the number that the code refuses with to what an entry leaves.
+use mathlib.Core.Path.{_≡_, refl, sym, _∙_}
+use mathlib.Core.Logic.{_⊎_, inl, inr}
+use mathlib.Core.Bool.{Bool, true, false, _&&_, and-eq-true-iff, false≢true}
+use mathlib.Core.Option.{none, Option·getD}
+use mathlib.Core.List.{List, _∷_}
+use Prim.Native.Nat.{ℕ, _*_, _≤_, _<_}
+use native.Mathlib.Omega.{arith}
+use lib.Dec.{ltb}
+use lib.ListN.{getD, length}
+use borrow.Author.Tests.{ltb-true, eqb-true}
+use Rattle.cells.specs.declared.Record.{Record}
+use Rattle.cells.specs.declared.State.{State}
+use Rattle.cells.specs.declared.Outcome.the-variants.{Refused}
+use Rattle.cells.specs.Questions.{Question, refusal, fit, openQuestions}
+use Rattle.cells.specs.Open.{After, leaving, unless}
+use Rattle.cells.proofs.Tests.{answers, all-yes, nth, within-true, blocks-true}
+use Rattle.cells.proofs.Refusals.{numbered, unrefused, refused}
+use Rattle.cells.proofs.Fits.{sizes}
+
+module _ (l : List Question) (n : ℕ) (e : n ≡ Option·getD (refusal l) 0) where
+  pub is-refused : (n ≡ 0 → ⊥) → (s : State) (p : List ℕ) (a : After) → leaving s p (Refused n) ≡ unless (refusal l) s p a
+  is-refused h s p a = rw (refused (refusal l) (λ z. h (e ∙ z)), ← e)
+
+  pub is-allowed : n ≡ 0 → numbered l ≡ true → refusal l ≡ none
+  is-allowed z h = unrefused l h (sym e ∙ z)
+
+yes-at : (l : List Question) → refusal l ≡ none → (k : ℕ) → getD (answers l) k true ≡ true
+yes-at l e = nth (answers l) (all-yes l e)
+
+-- the record is asked about only of a task of a fit state
+pub asked-of : (x f y : Bool) (q r : Record) (l : Record → List Question) → x ≡ f → (((x && y) ≡ true) × (q ≡ r)) ⊎ ((x && y) ≡ false)
+    → refusal ((6, x) ∷ (7, y) ∷ l q) ≡ refusal ((6, f) ∷ (7, y) ∷ l r)
+asked-of x f y q r l h d = go x y d ∙ rw h
+  where
+    go : (x y : Bool) → (((x && y) ≡ true) × (q ≡ r)) ⊎ ((x && y) ≡ false) → refusal ((6, x) ∷ (7, y) ∷ l q) ≡ refusal ((6, x) ∷ (7, y) ∷ l r)
+    go x y (inl w) = rw (w .1)
+    go false y (inr e) = refl
+    go true false (inr e) = refl
+    go true true (inr e) = absurd (false≢true (sym e))
+
+module _ (s : State) (p : List ℕ) (t : ℕ) where
+  pub task-below : (x : Bool) → x ≡ fit s p → (x && ltb t (s .tasks)) ≡ true → t < 32
+  task-below x h e =
+      let q = and-eq-true-iff x (ltb t (s .tasks)) .0 e in
+      let z = sizes s p (sym h ∙ q .0) in
+      omega (arith, ltb-true t (s .tasks) (q .1))
+
+  pub asked-below : (l : List Question) → refusal ((6, fit s p) ∷ (7, ltb t (s .tasks)) ∷ l) ≡ none → t < 32
+  asked-below l e =
+      let yes = yes-at ((6, fit s p) ∷ (7, ltb t (s .tasks)) ∷ l) e in
+      task-below (fit s p) refl (rw (yes 0) (yes 1))
+
+-- what an opening that is not refused has been told
+pub opens : (p vs : List ℕ) (n v b : ℕ) → refusal (openQuestions (length p) n v b vs) ≡ none
+    → (1 ≤ v) × (length vs ≤ 16) × (5 * length vs ≤ length p)
+unfolding openQuestions
+opens p vs n v b e =
+    let yes = yes-at (openQuestions (length p) n v b vs) e in
+    let z = within-true v 1 16 (yes 1) in
+    let f = blocks-true n v b (length p) (yes 2) in
+    let q = eqb-true (length vs) v (yes 3) in
+    (omega (arith, z .0), omega (arith, z .1), omega (arith, f .0, f .1))

@@ -1,0 +1,61 @@
+-- The code's number is that of the definition's questions: by it the entry refuses or acts.
+use mathlib.Core.Path.{_≡_, refl}
+use mathlib.Core.Option.{none}
+use native.Mathlib.Omega.{arith}
+use lib.ListN.{length}
+use denote.Ref.{now}
+use Rattle.cells.specs.Questions.{refusal, openQuestions}
+use Rattle.cells.specs.Open.{opened, openState, openPool, leaving}
+use Rattle.cells.specs.declared.Outcome.the-variants.{Acted}
+use Rattle.cells.proofs.Replies.{is-refused, is-allowed, opens}
+use borrow.Author.Needs.{needs}
+use Rattle.cells.proofs.open.Statement.{statement}
+use Rattle.cells.proofs.open.Tie as tie
+
+told : (c : tie.Else1) → let e = c .before .before .before .before .args in refusal (openQuestions (length (now (e .pool))) (e .tasks) (e .cells) (e .blocks) (now (e .values))) ≡ none
+unfolding openQuestions
+told c =
+    let e = c .before .before .before .before .args in
+    is-allowed (openQuestions (length (now (e .pool))) (e .tasks) (e .cells) (e .blocks) (now (e .values))) _ (c .before .open-refusal .ensures) (c .if1 .left) refl
+
+open-refusal-requires : tie.Need-open-refusal-requires
+open-refusal-requires c κs = search needs
+
+returns : tie.Need-returns
+unfolding opened
+returns c =
+    let e = c .before .before .before .before .args in
+    is-refused (openQuestions (length (now (e .pool))) (e .tasks) (e .cells) (e .blocks) (now (e .values))) _ (c .before .open-refusal .ensures) (c .if1 .taken) (e .s) (now (e .pool))
+    (leaving (openState (e .tasks) (e .cells) (e .blocks)) (openPool (now (e .pool)) (now (e .values))) Acted)
+
+clear-requires : tie.Need-clear-requires
+clear-requires c κs = search needs
+
+fill-blocks-requires : tie.Need-fill-blocks-requires
+fill-blocks-requires c κs =
+    let e = c .before .before .before .before .before .before .before .before .before .args in
+    let z = opens (now (e .pool)) (now (e .values)) (e .tasks) (e .cells) (e .blocks) (told (c .before .before .before .before .before)) in
+    let l = c .before .before .before .clear .kept .0 in
+    (z .1, omega (arith, z .2))
+
+open-state-requires : tie.Need-open-state-requires
+open-state-requires c κs = let e = c .before .before .before .before .before .before .before .before .before .before .before .before .args in opens (now (e .pool)) (now (e .values)) (e .tasks) (e .cells) (e .blocks) (told (c .before .before .before .before .before .before .before .before)) .0
+
+same-length : tie.Need-same-length
+same-length c = search needs
+
+returns-2 : tie.Need-returns-2
+unfolding opened
+returns-2 c = rw (told (c .before .before .before .before .before .before .before .before .before), c .before .before .before .fill-blocks .ensures, c .before .before .before .before .before .before .before .clear .ensures, c .open-state .ensures)
+
+pub open-spec : {M : Type 1} → statement M
+open-spec =
+    tie.close
+    (tie.spec
+    open-refusal-requires
+    returns
+    clear-requires
+    fill-blocks-requires
+    open-state-requires
+    same-length
+    returns-2)

@@ -1,0 +1,85 @@
+-- A busy task's next line, told numbers only: the current block of its cell, the block taken last, and what the search for an
+-- unused block answers. It is what Step.ran does (proofs/TurnLaw.antt).
+use mathlib.Core.Bool.{cond}
+use mathlib.Core.Option.{Option, none, some}
+use mathlib.Core.List.{List}
+use Prim.Native.Nat.{ℕ, _+_, _*_, _≤_, _<_}
+use lib.Dec.{eqb}
+use Rattle.cells.specs.declared.Record.{Record}
+use Rattle.cells.specs.declared.Outcome.{Outcome}
+use Rattle.cells.specs.declared.Outcome.the-variants.{Acted, Ended}
+use Rattle.cells.specs.declared.lines.Field.the-variants.{D}
+use Rattle.cells.specs.declared.lines.Access.{Access}
+use Rattle.cells.specs.declared.lines.Access.the-variants.{LoadCell, Load, Store, DecideCas, InstallCas, Allocate, Nothing}
+use Rattle.cells.specs.declared.lines.Next.{Next}
+use Rattle.cells.specs.declared.lines.Next.the-variants.{Go, Done}
+use Rattle.cells.specs.Record.{noValue, idle}
+use Rattle.cells.specs.Lines.{accessOf, nextOf}
+use Rattle.cells.specs.Pool.{word, setWord, fill}
+
+-- MEMORY
+
+-- what an access leaves, and the value that it answers
+pub record Touched : Type 0 where
+  pub pool : List ℕ
+  pub current : ℕ
+  pub last : ℕ
+  pub value : ℕ
+
+abbrev pub touched : List ℕ → (current last value : ℕ) → Touched
+touched p c l v = record { pool = p; current = c; last = l; value = v }
+
+abbrev pub filling : Option ℕ → List ℕ → (current last v : ℕ) → Touched
+filling none p c l v = touched p c l noValue
+filling (some b) p c l v = touched (fill p b v) c b b
+
+abbrev pub performed : List ℕ → (current last : ℕ) → Option ℕ → Access → Touched
+performed p c l f (LoadCell k) = touched p c l c
+performed p c l f (Load b g) = touched p c l (word p b g)
+performed p c l f (Store b g v) = touched (setWord p b g v) c l 0
+performed p c l f (DecideCas b v) = cond (eqb (word p b D) noValue) (touched (setWord p b D v) c l 1) (touched p c l 0)
+performed p c l f (InstallCas k b n) = cond (eqb c b) (touched p n l 1) (touched p c l 0)
+performed p c l f (Allocate v) = filling f p c l v
+performed p c l f Nothing = touched p c l 0
+
+-- THE TURN
+
+pub record Turned : Type 0 where
+  pub «record» : Record
+  pub current : ℕ
+  pub last : ℕ
+  pub pool : List ℕ
+  pub outcome : Outcome
+
+abbrev pub turned : Record → (current last : ℕ) → List ℕ → Outcome → Turned
+turned r c l p o = record { «record» = r; current = c; last = l; pool = p; outcome = o }
+
+abbrev pub ending : Touched → Next → Turned
+ending m (Go r) = turned r (m .current) (m .last) (m .pool) Acted
+ending m (Done f) = turned idle (m .current) (m .last) (m .pool) (Ended f)
+
+unfoldable pub turn : (pool : List ℕ) (task : ℕ) (r : Record) (current last : ℕ) (free : Option ℕ) → Turned
+turn p t r c l f = let m = performed p c l f (accessOf t r) in ending m (nextOf t r (m .value))
+
+-- WHAT MEMORY NEEDS
+
+-- the block that an access names is among the words
+abbrev pub Reaches : (words : ℕ) → Access → Type 0
+Reaches n (LoadCell k) = Prim.Unit
+Reaches n (Load b f) = 5 * b + 4 < n
+Reaches n (Store b f v) = 5 * b + 4 < n
+Reaches n (DecideCas b v) = 5 * b + 4 < n
+Reaches n (InstallCas k b m) = Prim.Unit
+Reaches n (Allocate v) = Prim.Unit
+Reaches n Nothing = Prim.Unit
+
+-- so is the unused block
+abbrev pub There : (words : ℕ) → Option ℕ → Type 0
+There n none = Prim.Unit
+There n (some b) = 5 * b + 4 < n
+
+-- what a turn needs of its record
+pub record Ready (words task : ℕ) (r : Record) : Type 0 where
+  pub reaches : Reaches words (accessOf task r)
+  pub steps : r .steps ≤ 16
+  pub hard : r .hard ≤ 3

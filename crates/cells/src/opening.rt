@@ -1,0 +1,45 @@
+// What an opening that is not refused leaves.
+ghost use mathlib.Core.Path.{_≡_};
+ghost use Prim.Native.Nat.{_*_, _≤_};
+ghost use lib.ListN.{length, replicate};
+ghost use Rattle.cells.specs.Open.{filled, openState};
+use crate::State;
+use crate::pool::fill;
+use crate::records::idle;
+
+pub fn open_state(tasks: u32, cells: u32, blocks: u32) -> State
+    requires { ⌜ 1 ≤ cells ⌝ }
+    ensures { λ s. ⌜ s ≡ openState tasks cells blocks ⌝ }
+{
+    let r = idle();
+    State {
+        tasks,
+        cells,
+        blocks,
+        last: cells - 1,
+        current: [0, 1, 2, 3, 4, 5, 6, 7, 8, 9, 10, 11, 12, 13, 14, 15],
+        records: [r; 32],
+    }
+}
+
+pub fn clear(pool: &mut [u32])
+    ensures { λ _. ⌜ now (pool .exit) ≡ replicate (length (now (pool .entry))) 0 ⌝ }
+{
+    let mut i: usize = 0;
+    while i < pool.len() {
+        pool[i] = 0;
+        i = i + 1;
+    }
+}
+
+// Block k gets the k-th value.
+pub fn fill_blocks(pool: &mut [u32], values: &[u32])
+    requires { ⌜ (length (now values) ≤ 16) × (5 * length (now values) ≤ length (now pool)) ⌝ }
+    ensures { λ _. ⌜ now (pool .exit) ≡ filled (now (pool .entry)) (now (values .entry)) 0 ⌝ }
+{
+    let mut k: usize = 0;
+    while k < values.len() {
+        fill(pool, k as u32, values[k]);
+        k = k + 1;
+    }
+}

@@ -1,0 +1,112 @@
+// A busy task's next line, told numbers only, so that nothing copies the state.
+ghost use mathlib.Core.Path.{_≡_};
+ghost use lib.ListN.{length};
+ghost use Rattle.cells.specs.Record.{idle};
+ghost use Rattle.cells.specs.Blocks.{foundOf};
+ghost use Rattle.cells.specs.Turn.{touched, filling, performed, turned, turn, Reaches, There, Ready};
+use crate::Outcome;
+use crate::Record;
+use crate::blocks::Found;
+use crate::lines::Access;
+use crate::lines::Next;
+use crate::lines::access_of;
+use crate::lines::counted;
+use crate::lines::next_of;
+use crate::pool::decide_cas;
+use crate::pool::fill;
+use crate::pool::load;
+use crate::pool::store;
+use crate::records::NO_VALUE;
+use crate::records::idle;
+
+// What a turn leaves besides the pool. The task's cell has the current block.
+pub struct Turn {
+    pub record: Record,
+    pub current: u32,
+    pub last: u32,
+    pub outcome: Outcome,
+}
+
+// What an access leaves besides the pool, and the value that it answers.
+pub struct Touch {
+    pub current: u32,
+    pub last: u32,
+    pub value: u32,
+}
+
+pub fn take_turn(
+    pool: &mut [u32],
+    task: u32,
+    r: Record,
+    current: u32,
+    last: u32,
+    free: Found,
+) -> Turn
+    requires { ⌜ Ready (length (now pool)) task r × There (length (now pool)) (foundOf free) ⌝ }
+    ensures { λ n. ⌜ turned (n .record) (n .current) (n .last) (now (pool .exit)) (n .outcome) ≡ turn (now (pool .entry)) task r current last (foundOf free) ⌝ }
+{
+    let a = access_of(task, r);
+    let m = perform(pool, a, current, last, free);
+    let next = next_of(task, counted(r, a), m.value);
+    match next {
+        Next::Go(q) => Turn {
+            record: q,
+            current: m.current,
+            last: m.last,
+            outcome: Outcome::Acted,
+        },
+        Next::Done(f) => Turn {
+            record: idle(),
+            current: m.current,
+            last: m.last,
+            outcome: Outcome::Ended(f),
+        },
+    }
+}
+
+fn perform(pool: &mut [u32], a: Access, current: u32, last: u32, free: Found) -> Touch
+    requires { ⌜ Reaches (length (now pool)) a × There (length (now pool)) (foundOf free) ⌝ }
+    ensures { λ m. ⌜ touched (now (pool .exit)) (m .current) (m .last) (m .value) ≡ performed (now (pool .entry)) current last (foundOf free) a ⌝ }
+{
+    match a {
+        Access::LoadCell(_) => leave(current, last, current),
+        Access::Load(b, f) => leave(current, last, load(pool, b, f)),
+        Access::Store(b, f, v) => {
+            store(pool, b, f, v);
+            leave(current, last, 0)
+        }
+        Access::DecideCas(b, v) => leave(current, last, decide_cas(pool, b, v)),
+        Access::InstallCas(_, from, to) => {
+            if current == from {
+                leave(to, last, 1)
+            } else {
+                leave(current, last, 0)
+            }
+        }
+        Access::Allocate(v) => allocate(pool, free, current, last, v),
+        Access::Nothing => leave(current, last, 0),
+    }
+}
+
+fn leave(current: u32, last: u32, value: u32) -> Touch
+    ensures { λ m. ⌜ m ≡ record { current = current; last = last; value = value } ⌝ }
+{
+    Touch {
+        current,
+        last,
+        value,
+    }
+}
+
+fn allocate(pool: &mut [u32], free: Found, current: u32, last: u32, v: u32) -> Touch
+    requires { ⌜ There (length (now pool)) (foundOf free) ⌝ }
+    ensures { λ m. ⌜ touched (now (pool .exit)) (m .current) (m .last) (m .value) ≡ filling (foundOf free) (now (pool .entry)) current last v ⌝ }
+{
+    match free {
+        Found::At(b) => {
+            fill(pool, b, v);
+            leave(current, b, b)
+        }
+        Found::Nowhere => leave(current, last, NO_VALUE),
+    }
+}

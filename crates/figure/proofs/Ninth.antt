@@ -1,0 +1,238 @@
+-- "No from 28 by 25" is not reached: a swap that line 25 did not answer came late, so the decision is the value that it expects, and
+-- stays so; then line 28 finds it and goes on to 29.
+use mathlib.Core.Path.{_≡_, refl, sym, ap, subst, _∙_}
+use mathlib.Core.Logic.{_≢_, _⊎_, inl, inr}
+use mathlib.Core.Bool.{Bool, true, false, not, _||_, false≢true}
+use mathlib.Core.List.{List, [], _∷_, _++_}
+use Prim.Native.Nat.{ℕ, _<_}
+use native.Mathlib.Omega.{arith}
+use lib.Dec.{eqb, T, not-T}
+use lib.ListN.{getD, take, drop}
+use borrow.Author.Tests.{eqb-true, eqb-false, eq-eqb}
+use Rattle.cells.specs.declared.Record.{Record}
+use Rattle.cells.specs.declared.Finished.{Finished}
+use Rattle.cells.specs.declared.lines.Field.{Field}
+use Rattle.cells.specs.declared.lines.Field.the-variants.{X, Y, C, D}
+use Rattle.cells.specs.declared.lines.Access.{Access}
+use Rattle.cells.specs.declared.lines.Access.the-variants.{LoadCell, Load, Store, DecideCas, InstallCas, Allocate, Nothing}
+use Rattle.cells.specs.declared.lines.Next.{Next}
+use Rattle.cells.specs.declared.lines.Next.the-variants.{Go, Done}
+use Rattle.cells.specs.Record.{noValue, idle}
+use Rattle.cells.specs.Pool.{offset}
+use Rattle.cells.specs.Lines.{Line, for25, for28, l1, l2, l3, l29, l30, lineOf, accessAt, accessOf, counted, nextAt, nextOf}
+use Rattle.history.specs.Basics.{upd, _∈_}
+use Rattle.history.specs.History.{Op, Action, begin, step, run}
+use Rattle.history.proofs.Basics.{upd-same, upd-off, upd-cases}
+use Rattle.figure.specs.Figure.{Cell, World, withBoth, After, store, install, memory, Memory, perform, recordAfter, outcomeOf, ran, beginEvent, stepEvent, tried, opening, figure}
+use Rattle.figure.specs.Paths.{paths, reached, by25, Traced, Trace, noTrace, didLine, enterLine}
+use Rattle.figure.proofs.LineLaws.{every, every-in, every-line, has, same, same-is, imp, before}
+use Rattle.figure.proofs.Records.{OnPath, Sound, with-first, upd-both, firstOf, Begun, starts, begin-cases, Stepped, runs, step-cases, act-sound, figureTraces}
+use Rattle.figure.proofs.Paths.{start-sound, last-line}
+use Rattle.figure.proofs.Classes.{holding, swapping}
+use Rattle.figure.proofs.Invariant.{none, TaskOf}
+use Rattle.figure.proofs.Steps.{by-test}
+use Rattle.figure.proofs.Views.{on-in, view}
+use Rattle.figure.proofs.Reachable.{trivial, Reachable, next-reachable, opening-reachable}
+
+-- CALLS THAT LINE 25 DID NOT ANSWER
+
+abbrev through25 : List Line → Bool
+through25 did = has same did (l3 for25)
+
+-- the lines after that
+abbrev later : List Line
+later = l1 for28 ∷ l2 for28 ∷ l3 for28 ∷ l29 ∷ l30 ∷ []
+
+among : (ys : List Line) (x : Line) → T (has same ys x) → x ∈ ys
+among [] x h = absurd h
+among (y ∷ ys) x h = go (same x y) (same-is x y) (among ys x) h
+  where
+    go : (b : Bool) → (T b → x ≡ y) → (T (has same ys x) → x ∈ ys) → T (b || has same ys x) → x ∈ (y ∷ ys)
+    go true here there h = inl (here tt)
+    go false here there h = inr (there h)
+
+-- found by computing over all that may stand before a line
+comes-later : (ℓ : Line) (did : List Line) → did ∈ before ℓ → through25 did ≡ true → ℓ ∈ later
+comes-later ℓ did m h = among later ℓ (imp (through25 did) (has same later ℓ)
+    (every-in (λ d. has same later ℓ || not (through25 d)) (before ℓ) (every-line (λ ℓ. every (λ d. has same later ℓ || not (through25 d)) (before ℓ)) tt ℓ) did m) h)
+
+-- with one more line
+one-more : (did : List Line) (ℓ : Line) → through25 (did ++ (ℓ ∷ [])) ≡ true → (through25 did ≡ true) ⊎ (ℓ ≡ l3 for25)
+one-more [] ℓ h = inr (sym (same-is (l3 for25) ℓ (it-is (same (l3 for25) ℓ) h)))
+  where
+    it-is : (b : Bool) → (b || false) ≡ true → T b
+    it-is true h = tt
+    it-is false h = absurd (false≢true h)
+one-more (a ∷ did) ℓ h = go (same (l3 for25) a) (one-more did ℓ) h
+  where
+    go : (b : Bool) → (through25 (did ++ (ℓ ∷ [])) ≡ true → (through25 did ≡ true) ⊎ (ℓ ≡ l3 for25)) → (b || through25 (did ++ (ℓ ∷ []))) ≡ true → ((b || through25 did) ≡ true) ⊎ (ℓ ≡ l3 for25)
+    go true f h = inl refl
+    go false f h = f h
+
+-- the task keeps its block and its values there
+abbrev Keeps : Record → Next → Type 0
+Keeps q (Go r) = (r .held ≡ q .held) × (r .expected ≡ q .expected) × (r .cell ≡ q .cell)
+Keeps q (Done f) = Unit {0}
+
+keeps : (t x : ℕ) (q : Record) (ℓ : Line) → ℓ ∈ later → Keeps q (nextAt ℓ t q x)
+keeps t x q ℓ (inl e) = rw e (refl, refl, refl)
+keeps t x q ℓ (inr (inl e)) = rw e (refl, refl, refl)
+keeps t x q ℓ (inr (inr (inl e))) = rw e (by-test (Keeps q) (eqb x (q .expected)) _ _ (λ z. (refl, refl, refl)) (λ z. tt))
+keeps t x q ℓ (inr (inr (inr (inl e)))) = rw e (refl, refl, refl)
+keeps t x q ℓ (inr (inr (inr (inr (inl e))))) = rw e (by-test (Keeps q) (eqb x 1) _ _ (λ z. tt) (λ z. tt))
+
+-- A DECISION STAYS
+
+-- an access that stores to no D
+abbrev spares : Access → Bool
+spares (LoadCell k) = true
+spares (Load b f) = true
+spares (Store b f n) = not (eqb (offset f) (offset D))
+spares (DecideCas b n) = true
+spares (InstallCas k b n) = true
+spares (Allocate n) = true
+spares Nothing = true
+
+decision-stays : (m : Cell) (a : Access) (b : ℕ) → T (spares a) → b < m .next → m .d b ≢ none → perform m a .cell .d b ≡ m .d b
+unfolding none
+decision-stays m (LoadCell k) b s l n = refl
+decision-stays m (Load c f) b s l n = refl
+decision-stays m (Store c X x) b s l n = refl
+decision-stays m (Store c Y x) b s l n = refl
+decision-stays m (Store c C x) b s l n = refl
+decision-stays m (Store c Field.V x) b s l n = refl
+decision-stays m (Store c D x) b s l n = absurd s
+decision-stays m (DecideCas c x) b s l n = by-test (λ (z : Memory). z .cell .d b ≡ m .d b) (eqb (m .d c) noValue) (memory (store m c D x) 1) (memory m 0)
+    (λ z. upd-off (m .d) c x b (λ e. n (ap (m .d) e ∙ eqb-true _ _ z))) (λ z. refl)
+decision-stays m (InstallCas k c x) b s l n = by-test (λ (z : Memory). z .cell .d b ≡ m .d b) (eqb (m .current) c) (memory (install m x) 1) (memory m 0) (λ z. refl) (λ z. refl)
+decision-stays m (Allocate x) b s l n = upd-off (m .d) (m .next) _ b (λ e. omega arith)
+decision-stays m Nothing b s l n = refl
+
+-- THE INVARIANT
+
+-- what is decided of the task's block is the value that it expects
+abbrev Expected : (ℕ → Cell) → Record → Type 0
+Expected cells q = cells (q .cell) .d (q .held) ≡ q .expected
+
+-- the trace r of the figure, now w
+record NotNinth (w : World) (r : Trace) : Type 0 where
+  late : (t : ℕ) → through25 (r .did t) ≡ true → Expected (w .cell) (w .records t)
+  done : (x : Traced) → x ∈ r .done → x .lines ≢ by25
+
+module _ (v : ℕ) (w : World) (i : Reachable v w) (r : Trace) (s : Sound w r) (o : NotNinth w r) where
+  abbrev now : ℕ → Line
+  now t = lineOf (w .records t)
+
+  -- what the figure's invariant says of a task
+  task : (t : ℕ) → TaskOf (view w (i .ghost) (w .records t .cell)) trivial t (now t) (w .records t)
+  task t = let k = w .records t .cell in
+      subst (λ (q : Record). TaskOf (view w (i .ghost) k) trivial t (lineOf q) q) (on-in (w .records) k t refl) (i .holds .good .cells k .tasks t)
+
+  its-line : (t : ℕ) → through25 (r .did t) ≡ true → now t ∈ later
+  its-line t h = go (s .pending t)
+    where
+      go : OnPath (w .tasks) (w .cells) t (r .did t) (w .records t) → now t ∈ later
+      go (inl e) = absurd (false≢true (rw (e .1) at h))
+      go (inr p) = comes-later (now t) (r .did t) (p .1 .lines) h
+
+  module _ (t : ℕ) where
+    abbrev q : Record
+    q = w .records t
+
+    -- the cell of t, all cells after its step, and what follows for t
+    abbrev m : Cell
+    m = w .cell (q .cell)
+
+    abbrev cells : ℕ → Cell
+    cells = upd (w .cell) (q .cell) (perform m (accessOf t q) .cell)
+
+    abbrev next : Next
+    next = nextOf t q (perform m (accessOf t q) .value)
+
+    -- a call's decision stays when t steps
+    stays : (u : ℕ) → through25 (r .did u) ≡ true → Expected cells (w .records u)
+    stays u h =
+        let p = w .records u in
+        let ℓ = its-line u h in
+        let low = task u .value .there (every-in holding later tt (now u) ℓ) in
+        let decided : w .cell (p .cell) .d (p .held) ≢ none = λ z. task u .self .ev-some (every-in swapping later tt (now u) ℓ) (sym (o .late u h) ∙ z) in
+        let kept = decision-stays (w .cell (p .cell)) (accessOf t q) (p .held) (every-line (λ k. spares (accessAt k t q)) tt (lineOf q)) low decided in
+        upd-cases (λ (c : Cell). c .d (p .held) ≡ p .expected) (w .cell) (q .cell) (perform m (accessOf t q) .cell) (p .cell)
+        (λ e. subst (λ k. perform (w .cell k) (accessOf t q) .cell .d (p .held) ≡ p .expected) e (kept ∙ o .late u h)) (λ e. o .late u h)
+
+    -- line 25 found another value than the new one: the swap is not told, so the decision is the expected value
+    came-late : now t ≡ l3 for25 → m .d (q .held) ≢ q .new → m .d (q .held) ≡ q .expected
+    came-late e n = let k = (subst (λ ℓ. TaskOf (view w (i .ghost) (q .cell)) trivial t ℓ q) e (task t)) .decided in
+        k .late-decided tt (not-T (i .ghost .told t) (λ z. n (k .told-decided tt z (k .decided tt)))) (k .decided tt)
+
+    abbrev Goes : (ℕ → Cell) → Next → Type 0
+    Goes c (Go p) = Expected c p
+    Goes c (Done f) = Unit {0}
+
+    goes-on : through25 (didLine now r t) ≡ true → Goes cells next
+    goes-on h = go (one-more (r .did t) (now t) h)
+      where
+        kept : (n : Next) → Keeps (counted q (accessOf t q)) n → Expected cells q → Goes cells n
+        kept (Go p) (a, b, c) z = rw (c, a, b) z
+        kept (Done f) k z = tt
+
+        go : (through25 (r .did t) ≡ true) ⊎ (now t ≡ l3 for25) → Goes cells next
+        go (inl k) = kept next (keeps t _ (counted q (accessOf t q)) (now t) (its-line t k)) (stays t k)
+        go (inr e) = subst (λ ℓ. let x = perform m (accessAt ℓ t q) in Goes (upd (w .cell) (q .cell) (x .cell)) (nextAt ℓ t (counted q (accessAt ℓ t q)) (x .value))) (sym e)
+            (by-test (Goes (upd (w .cell) (q .cell) m)) (eqb (m .d (q .held)) (q .new)) _ _ (λ z. tt)
+            (λ z. ap (λ (c : Cell). c .d (q .held)) (upd-same (w .cell) (q .cell) m) ∙ came-late e (eqb-false _ _ z)))
+
+    -- line 28 finds the expected value, so the call does not end there
+    ends : (f : Finished) → next ≡ Done f → didLine now r t ≢ by25
+    ends f e z = go (one-more (r .did t) (now t) (ap through25 z))
+      where
+        at-28 : now t ≡ l3 for28
+        at-28 = last-line (r .did t) (now t) z
+
+        go : (through25 (r .did t) ≡ true) ⊎ (now t ≡ l3 for25) → ⊥
+        go (inl k) =
+            let y = subst (λ ℓ. nextAt ℓ t (counted q (accessAt ℓ t q)) (perform m (accessAt ℓ t q) .value) ≡ Done f) at-28 e in
+            let g = rw (eq-eqb _ _ (o .late t k)) at y in
+            let b : _≡_ {A = ℕ} 0 1 = cc in omega arith
+        go (inr k) = false≢true (sym (ap (same (l3 for25)) (sym k ∙ at-28)))
+
+    -- other cells, with another record for t and other lines
+    put : (c : ℕ → Cell) (p : Record) (did : List Line) → (through25 did ≡ true → Expected c p) → ((u : ℕ) → through25 (r .did u) ≡ true → Expected c (w .records u))
+        → (u : ℕ) → through25 (upd (r .did) t did u) ≡ true → Expected c (upd (w .records) t p u)
+    put c p did = upd-both (λ u did p. through25 did ≡ true → Expected c p) (r .did) (w .records) t did p
+
+    line-kept : (n : Next) → next ≡ n → (through25 (didLine now r t) ≡ true → Goes cells n)
+        → NotNinth (withBoth w (q .cell) (perform m (accessOf t q) .cell) t (recordAfter n)) (enterLine now r (step t) (stepEvent (tried t q) (outcomeOf n)))
+    line-kept (Go p) e g = record { late = put cells p (didLine now r t) g stays; done = o .done }
+    line-kept (Done f) e g = record { late = put cells idle [] (λ h. absurd (false≢true h)) stays; done = with-first (λ x. x .lines ≢ by25) _ (r .done) (ends f e) (o .done) }
+
+    step-kept : {f : After} → Stepped w t (r .did t) f → NotNinth (f .world) (enterLine now r (step t) (stepEvent (tried t q) (f .outcome)))
+    unfolding ran
+    step-kept (Stepped.refuses n e) = o
+    step-kept (runs n p) = line-kept next refl goes-on
+
+    begin-kept : (op : Op) {f : After} → Begun w t op f → NotNinth (f .world) (enterLine now r (begin t op) (beginEvent (f .outcome)))
+    begin-kept op (Begun.refuses n) = o
+    begin-kept op (starts a) = record { late = put (w .cell) (firstOf op) [] (λ h. absurd (false≢true h)) (o .late); done = o .done }
+
+  act-kept : (a : Action) → NotNinth (figure w a .0) (enterLine now r a (figure w a .1))
+  act-kept (begin t op) = begin-kept t op (begin-cases w t op)
+  act-kept (step t) = step-kept t (step-cases w t (r .did t) (s .pending t))
+
+traces-kept : (v : ℕ) (w : World) → Reachable v w → (r : Trace) → Sound w r → NotNinth w r → (l : List Action) → NotNinth (run figure w l) (figureTraces w r l)
+traces-kept v w i r s o [] = o
+traces-kept v w i r s o (a ∷ l) = traces-kept v (figure w a .0) (next-reachable v w i a) (enterLine (λ t. lineOf (w .records t)) r a (figure w a .1)) (act-sound w r s a) (act-kept v w i r s o a) l
+
+-- From an opening whose values are other than none, no finished call did the lines of "no from 28 by 25".
+pub never-ninth : (n v : ℕ) (vs : List ℕ) → ((k : ℕ) → getD vs k 0 ≢ noValue) → (l : List Action) (x : Traced) → x ∈ figureTraces (opening n v vs) noTrace l .done → x .lines ≢ by25
+never-ninth n v vs ok l = traces-kept v (opening n v vs) (opening-reachable n v vs ok) noTrace (start-sound n v vs) (record { late = λ t h. absurd (false≢true h); done = λ x i. absurd i }) l .done
+
+-- so it is one of the twelve others
+pub one-of-twelve : (p : List Line) → p ∈ paths → p ≢ by25 → p ∈ reached
+one-of-twelve p i n = go (take 8 paths) i
+  where
+    go : (ps : List (List Line)) → p ∈ (ps ++ (by25 ∷ drop 9 paths)) → p ∈ (ps ++ drop 9 paths)
+    go [] (inl e) = absurd (n e)
+    go [] (inr i) = i
+    go (y ∷ ps) (inl e) = inl e
+    go (y ∷ ps) (inr i) = inr (go ps i)

@@ -1,0 +1,41 @@
+-- Each count is the lines done: what a call on the pool reports is counted from its lines, which are those of a path that the figure reaches.
+use mathlib.Core.Path.{_≡_, subst}
+use mathlib.Core.Option.{none}
+use mathlib.Core.List.{List, map}
+use Prim.Native.Nat.{ℕ}
+use lib.ListN.{length}
+use Rattle.cells.specs.declared.State.{State}
+use Rattle.cells.specs.Questions.{refusal, openQuestions}
+use Rattle.history.specs.Basics.{_∈_}
+use Rattle.history.specs.History.{Action, history, callsOf}
+use Rattle.figure.specs.Figure.{opening}
+use Rattle.figure.specs.Paths.{Traced, Trace, noTrace, Counted}
+use Rattle.figure.proofs.Records.{figureTraces}
+use Rattle.figure.proofs.Paths.{calls-on-paths, row}
+use Rattle.figure.proofs.Ninth.{never-ninth, one-of-twelve}
+use Rattle.figure.proofs.TracedCalls.{finishedReport, tracedReport, same-calls}
+use Rattle.refinement.specs.Pool.{pool}
+use Rattle.refinement.specs.Terms.{start}
+use Rattle.refinement.specs.Traces.{nextLine, trace}
+use Rattle.refinement.proofs.Traces.{same-trace}
+use Rattle.refinement.proofs.Demand3.{starting-values, cells-meet-demand-3}
+
+module _ (s : State) (p : List ℕ) (n v b : ℕ) (vs : List ℕ) (ok : refusal (openQuestions (length p) n v b vs) ≡ none) (l : List Action) where
+  of-figure : (x : Traced) → x ∈ figureTraces (opening n v vs) noTrace l .done → Counted x
+  of-figure x i = let c = calls-on-paths n v vs l x i in record {
+    path = one-of-twelve (x .lines) (c .path) (never-ninth n v vs (starting-values s p n v b vs ok) l x i);
+    read-path = λ k e. c .read-path (k, e);
+    all-steps = c .all-steps;
+    all-hard = c .all-hard;
+    row = row (x .lines) (c .path);
+  }
+
+  -- The trace leaves out no call: its finished calls are the history's, one by one, as begun and with the same answer and counts.
+  pub calls-traced : map finishedReport (callsOf (history pool (start s p n v b vs) l) .finished) ≡ map tracedReport (trace (start s p n v b vs) l .done)
+  calls-traced = same-calls pool nextLine v (start s p n v b vs) l (cells-meet-demand-3 s p n v b vs ok l .well-formed)
+
+  -- EACH COUNT IS THE LINES DONE. From a fresh opening, for every list of actions, every finished call did the lines of one of the twelve
+  -- paths that are reached, one of the first two if it was begun as a read; the steps and hardware CAS attempts that it reports are those
+  -- of its lines; and its steps, loads, stores and hardware CAS attempts are a row of document 01's table.
+  pub calls-counted : (x : Traced) → x ∈ trace (start s p n v b vs) l .done → Counted x
+  calls-counted x i = of-figure x (subst (λ (r : Trace). x ∈ r .done) (same-trace s p n v b vs ok l) i)

@@ -1,0 +1,155 @@
+-- None never enters or leaves a cell: the figure's invariant has no current block with V none, and an answered value was seen not to be none.
+use mathlib.Core.Path.{_≡_, refl, sym, subst, _∙_}
+use mathlib.Core.Logic.{_≢_}
+use mathlib.Core.Option.{Option, none, some}
+use mathlib.Core.List.{List, [], _∷_}
+use Prim.Native.Nat.{ℕ, _<_}
+use native.Mathlib.Omega.{arith}
+use lib.Dec.{eqb}
+use lib.ListN.{length}
+use borrow.Author.Tests.{eqb-false}
+use Rattle.cells.specs.declared.State.{State}
+use Rattle.cells.specs.declared.Answer as Code
+use Rattle.cells.specs.declared.Looked.the-variants.{Shown}
+use Rattle.cells.specs.declared.lines.Field.{Field}
+use Rattle.cells.specs.declared.lines.Next.{Next}
+use Rattle.cells.specs.declared.lines.Next.the-variants.{Go, Done}
+use Rattle.cells.specs.Record.{noValue}
+use Rattle.cells.specs.Lines.{Line, accessOf, nextOf}
+use Rattle.cells.specs.Pool.{word}
+use Rattle.cells.specs.Questions.{refusal, openQuestions, lookQuestions}
+use Rattle.cells.specs.Step.{current}
+use Rattle.cells.specs.Look.{looked, shown, shownValue}
+use Rattle.history.specs.Basics.{_∈_}
+use Rattle.history.specs.History.{Op, Action, begin, step, Answer, Value, Yes, No, Event, refused, begun, going, answered, history, run, Call, Calls, Finished, noCalls, advanced, closed, enter, enterAll, callsOf}
+use Rattle.history.proofs.Simulation.{Knowledge}
+use Rattle.figure.specs.Figure.{Cell, World, After, perform, answerOf, outcomeOf, ran, beginEvent, stepEvent, tried, figure, opening}
+use Rattle.figure.specs.Figure
+use Rattle.figure.proofs.Records.{Begun, starts, begin-cases, Stepped, runs, step-cases, with-first}
+use Rattle.figure.proofs.Invariant as Invariant
+use Rattle.figure.proofs.Invariant.{View}
+use Rattle.figure.proofs.Steps.{Change, Reason, acts, acted, reads, declines, Out, by-test}
+use Rattle.figure.proofs.Views.{view}
+use Rattle.figure.proofs.Worlds.{out}
+use Rattle.figure.proofs.Reachable.{trivial, Reachable, next-reachable, opening-reachable, reachable}
+use Rattle.refinement.specs.Pool.{Pool, pool}
+use Rattle.refinement.specs.Terms.{start}
+use Rattle.refinement.proofs.Refines.{together, same-history, same-look, same-words}
+use Rattle.refinement.proofs.Traces.{same-event}
+use Rattle.refinement.proofs.Demand3.{starting-values}
+
+-- ANSWERS
+
+abbrev Proper : Answer → Type 0
+Proper a = a ≢ Value noValue
+
+abbrev ProperEvent : Event → Type 0
+ProperEvent (refused n) = Unit {0}
+ProperEvent begun = Unit {0}
+ProperEvent (going x) = Unit {0}
+ProperEvent (answered x a n h) = Proper a
+
+yes-proper : Proper Yes
+yes-proper e = let z : _≡_ {A = ℕ} 0 1 = cc in omega arith
+
+no-proper : Proper No
+no-proper e = let z : _≡_ {A = ℕ} 0 1 = cc in omega arith
+
+value-proper : (v : ℕ) → v ≢ noValue → Proper (Value v)
+value-proper v n e = n (cc)
+
+-- a call answers yes, no, or a value that it saw and that is not none
+reason-proper : (s : View) (κ : Knowledge) (t : ℕ) (a : Code.Answer) {x : Change} → Reason s κ t a x → Proper (answerOf a)
+unfolding Invariant.none
+reason-proper s κ t a (acts e) = rw e yes-proper
+reason-proper s κ t a (acted told swaps e) = rw e yes-proper
+reason-proper s κ t a (declines v saw other swaps e told late) = rw e no-proper
+reason-proper s κ t a (reads v saw other swaps e told late) = let P : Code.Answer → Type 0 = λ a. Proper (answerOf a) in
+    rw e (by-test P (eqb (s .task t .kind) 2) _ _ (λ k. by-test P (eqb v (s .task t .expected)) _ _ (λ y. yes-proper) (λ y. no-proper)) (λ k. value-proper v other))
+
+module _ (v : ℕ) (w : World) (i : Reachable v w) where
+  begin-proper : (t : ℕ) (op : Op) {f : After} → Begun w t op f → ProperEvent (beginEvent (f .outcome))
+  begin-proper t op (Begun.refuses n) = tt
+  begin-proper t op (starts a) = tt
+
+  step-proper : (t : ℕ) (did : List Line) {f : After} → Stepped w t did f → ProperEvent (stepEvent (tried t (w .records t)) (f .outcome))
+  unfolding ran
+  step-proper t did (Stepped.refuses n e) = tt
+  step-proper t did (runs l o) = let m = perform (w .cell (w .records t .cell)) (accessOf t (w .records t)) in go (m .cell) (nextOf t (w .records t) (m .value)) (out w (i .ghost) trivial (i .holds .good) t did o)
+    where
+      go : (c : Cell) (n : Next) → Out (view w (i .ghost) (w .records t .cell)) trivial t c n → ProperEvent (stepEvent (tried t (w .records t)) (outcomeOf n))
+      go c (Go q) x = tt
+      go c (Done f) x = reason-proper (view w (i .ghost) (w .records t .cell)) trivial t (f .answer) (x .1)
+
+  act-proper : (a : Action) → ProperEvent (figure w a .1)
+  act-proper (begin t op) = begin-proper t op (begin-cases w t op)
+  act-proper (step t) = let p = i .holds .good .on-path t in step-proper t (p .0) (step-cases w t (p .0) (p .1))
+
+-- so no finished call of a history does
+abbrev ProperCalls : Calls → Type 0
+ProperCalls b = (f : Finished) → f ∈ b .finished → Proper (f .answer)
+
+enter-proper : (b : Calls) (a : Action) (e : Event) → ProperEvent e → ProperCalls b → ProperCalls (enter b a e)
+enter-proper b a (refused n) p h = h
+enter-proper b (begin t op) begun p h = h
+enter-proper b (begin t op) (going x) p h = h
+enter-proper b (begin t op) (answered x a n k) p h = h
+enter-proper b (step t) begun p h = h
+enter-proper b (step t) (going x) p h = h
+enter-proper b (step t) (answered x a n k) p h = go (advanced b x (b .pending t))
+  where
+    go : (o : Option Call) (f : Finished) → f ∈ closed o a n k (b .finished) → Proper (f .answer)
+    go none = h
+    go (some c) = with-first (λ (f : Finished). Proper (f .answer)) _ (b .finished) p h
+
+history-proper : (v : ℕ) (l : List Action) (w : World) → Reachable v w → (b : Calls) → ProperCalls b → ProperCalls (enterAll b (history figure w l))
+history-proper v [] w i b h = h
+history-proper v (a ∷ l) w i b h = history-proper v l (figure w a .0) (next-reachable v w i a) (enter b a (figure w a .1)) (enter-proper b a (figure w a .1) (act-proper v w i a) h)
+
+-- LOOKS
+
+shown-some : (o : Option ℕ) (x : ℕ) → x ≢ noValue → shown o x ≢ Shown noValue
+shown-some none x n e = n (cc)
+shown-some (some r) x n e = let z : _≡_ {A = ℕ} 0 1 = cc in omega arith
+
+shown-value : (c v d : ℕ) → v ≢ noValue → shownValue c v d ≢ noValue
+shown-value c v d n = let P : ℕ → Type 0 = λ x. x ≢ noValue in by-test P (eqb c 0) _ _ (λ z. n) (λ z. by-test P (eqb d noValue) _ _ (λ z. n) (λ z. eqb-false _ _ z))
+
+-- V of the figure's current block
+current-some : (v : ℕ) (w : World) → Reachable v w → (k : ℕ) → w .cell k .v (w .cell k .current) ≢ noValue
+unfolding Invariant.none
+current-some v w i k = i .holds .good .cells k .current .v-some
+
+look-some : (v : ℕ) (w : World) → Reachable v w → (k : ℕ) → Figure.looked w k ≢ Shown noValue
+unfolding Figure.looked
+look-some v w i k = let m = w .cell k in let b = m .current in shown-some (refusal (lookQuestions (w .cells) k)) _ (shown-value (m .c b) (m .v b) (m .d b) (current-some v w i k))
+
+-- THE CELLS, from an opening that is not refused, after any list of actions
+
+module _ (s : State) (p : List ℕ) (n v b : ℕ) (vs : List ℕ) (ok : refusal (openQuestions (length p) n v b vs) ≡ none) (l : List Action) where
+  abbrev x : Pool
+  x = run pool (start s p n v b vs) l
+
+  abbrev w : World
+  w = run figure (opening n v vs) l
+
+  reached : Reachable v w
+  reached = reachable n v vs (starting-values s p n v b vs ok) l
+
+  -- The next step of a task, whichever it is, does not answer none.
+  pub no-step-answers-none : (t tried steps hard : ℕ) → pool x (step t) .1 ≢ answered tried (Value noValue) steps hard
+  no-step-answers-none t tried steps hard e =
+      subst ProperEvent (sym (same-event (together s p n v b vs ok l) (step t)) ∙ e) (act-proper v w reached (step t)) refl
+
+  -- No finished call answered none.
+  pub no-call-answers-none : (f : Finished) → f ∈ callsOf (history pool (start s p n v b vs) l) .finished → f .answer ≢ Value noValue
+  no-call-answers-none = subst (λ h. ProperCalls (callsOf h)) (sym (same-history s p n v b vs ok l))
+      (history-proper v l (opening n v vs) (opening-reachable n v vs (starting-values s p n v b vs ok)) noCalls (λ f i. absurd i))
+
+  -- No look shows none.
+  pub no-look-shows-none : (k : ℕ) → looked (x .0) (x .1) k ≢ Shown noValue
+  no-look-shows-none k e = look-some v w reached k (sym (same-look s p n v b vs ok l k) ∙ e)
+
+  -- No cell's current block has V none.
+  pub no-cell-has-none : (k : ℕ) → k < v → word (x .1) (current (x .0) k) Field.V ≢ noValue
+  no-cell-has-none k h e = current-some v w reached k (sym (same-words (together s p n v b vs ok l) k h Field.V) ∙ e)
