@@ -1,0 +1,92 @@
+// The lines that a session prints. Room for the longest of them is 80 bytes.
+ghost use mathlib.Core.Path.{_≡_};
+ghost use mathlib.Core.List.{_++_};
+ghost use Prim.Native.Nat.{_+_, _*_, _≤_};
+ghost use lib.ListN.{length};
+ghost use Rattle.text.specs.Append.{Appended};
+ghost use Rattle.session_runner.specs.Lines.{line, numbers as «numbersOf», badLine, noLine, cellLine, doneStart, doneLine, rate as «rateOf», endLine};
+use cells::{Answer, Finished};
+
+fn wide(x: u32) -> u64
+    ensures { λ r. ⌜ r ≡ x ⌝ }
+{
+    x as u64
+}
+
+// Numbers, each after a space.
+fn put_numbers(out: &mut [u8], at: usize, l: &[u64]) -> usize
+    requires { ⌜ at + length («numbersOf» (now l)) ≤ length (now out) ⌝ }
+    ensures { λ r. ⌜ Appended (now (out .entry)) (now (out .exit)) at r («numbersOf» (now (l .entry))) ⌝ }
+{
+    let mut i = 0;
+    let mut a = at;
+    while i < l.len() {
+        let b = text::put(out, a, b" ");
+        a = text::put_number(out, b, l[i]);
+        i += 1;
+    }
+    a
+}
+
+fn put_line(out: &mut [u8], at: usize, start: &[u8], l: &[u64]) -> usize
+    requires { ⌜ at + length (line (now start) (now l)) ≤ length (now out) ⌝ }
+    ensures { λ r. ⌜ Appended (now (out .entry)) (now (out .exit)) at r (line (now (start .entry)) (now (l .entry))) ⌝ }
+{
+    let a = text::put(out, at, start);
+    let b = put_numbers(out, a, l);
+    text::put(out, b, b")\n")
+}
+
+pub fn put_bad(out: &mut [u8], at: usize, n: u32) -> usize
+    requires { ⌜ at + 80 ≤ length (now out) ⌝ }
+    ensures { λ r. ⌜ Appended (now (out .entry)) (now (out .exit)) at r (badLine n) ⌝ }
+{
+    put_line(out, at, b"(bad", &[wide(n)])
+}
+
+pub fn put_no(out: &mut [u8], at: usize, action: u32, n: u32) -> usize
+    requires { ⌜ at + 80 ≤ length (now out) ⌝ }
+    ensures { λ r. ⌜ Appended (now (out .entry)) (now (out .exit)) at r (noLine action n) ⌝ }
+{
+    put_line(out, at, b"(no", &[wide(action), wide(n)])
+}
+
+pub fn put_cell(out: &mut [u8], at: usize, cell: u32, value: u32) -> usize
+    requires { ⌜ at + 80 ≤ length (now out) ⌝ }
+    ensures { λ r. ⌜ Appended (now (out .entry)) (now (out .exit)) at r (cellLine cell value) ⌝ }
+{
+    put_line(out, at, b"(cell", &[wide(cell), wide(value)])
+}
+
+fn put_answer(out: &mut [u8], at: usize, a: Answer) -> usize {
+    match a {
+        Answer::Value(v) => text::put_number(out, at, wide(v)),
+        Answer::Yes => text::put(out, at, b"yes"),
+        Answer::No => text::put(out, at, b"no"),
+    }
+}
+
+fn put_kind(out: &mut [u8], at: usize, kind: u32) -> usize {
+    if kind == 1 {
+        return text::put(out, at, b" read ");
+    }
+    text::put(out, at, b" swap ")
+}
+
+fn put_done_start(out: &mut [u8], at: usize, task: u32, f: Finished) -> usize {
+    let a = text::put(out, at, b"(done ");
+    let b = text::put_number(out, a, wide(task));
+    let c = put_kind(out, b, f.kind);
+    let d = text::put_number(out, c, wide(f.cell));
+    let e = text::put(out, d, b" ");
+    put_answer(out, e, f.answer)
+}
+
+pub fn put_done(out: &mut [u8], at: usize, task: u32, f: Finished) -> usize
+    requires { ⌜ at + 80 ≤ length (now out) ⌝ }
+    ensures { λ r. ⌜ Appended (now (out .entry)) (now (out .exit)) at r (doneLine task f) ⌝ }
+{
+    let a = put_done_start(out, at, task, f);
+    let b = put_numbers(out, a, &[wide(f.steps), wide(f.hard)]);
+    text::put(out, b, b")\n")
+}
