@@ -12,6 +12,7 @@ pub mod Refusals
 pub mod Fits
 pub mod Search
 pub mod Replies
+pub mod Stepping
 pub mod Filling
 pub mod Acts
 pub mod LineKinds

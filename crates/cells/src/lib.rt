@@ -6,6 +6,7 @@ ghost use lib.ListN.{length};
 ghost use Rattle.cells.specs.Pool.{word};
 ghost use Rattle.cells.specs.Open.{opened, leaving};
 ghost use Rattle.cells.specs.Begin.{readBegun, swapBegun};
+ghost use Rattle.cells.specs.Step.{stepped};
 ghost use Rattle.cells.specs.Look.{looked, shownValue};
 
 mod blocks;
@@ -17,6 +18,7 @@ mod questions;
 mod records;
 mod turn;
 
+use blocks::Found;
 use lines::Field;
 use records::NO_VALUE;
 
@@ -167,6 +169,42 @@ pub fn begin_swap(
         state: s,
         outcome: Outcome::Acted,
     }
+}
+
+// A busy task's next line.
+pub fn step(mut s: State, pool: &mut [u32], task: u32) -> Reply
+    ensures { λ r. ⌜ leaving (r .state) (now (pool .exit)) (r .outcome) ≡ stepped s (now (pool .entry)) task ⌝ }
+{
+    let t = task as usize;
+    let fit = questions::is_fit(s, pool);
+    // Only a task of a fit state has a record to ask about.
+    let r = if fit & (task < s.tasks) {
+        s.records[t]
+    } else {
+        records::idle()
+    };
+    let n = questions::step_refusal(fit, s.tasks, r, task);
+    if n != 0 {
+        return Reply {
+            state: s,
+            outcome: Outcome::Refused(n),
+        };
+    }
+    // Only line 29 asks for a block.
+    let free = if r.line == 29 {
+        blocks::unused_block(s)
+    } else {
+        Found::Nowhere
+    };
+    let k = r.cell as usize;
+    let a = turn::take_turn(pool, task, r, s.current[k], s.last, free);
+    let b = a.current;
+    let q = a.record;
+    let outcome = a.outcome;
+    s.last = a.last;
+    s.current[k] = b;
+    s.records[t] = q;
+    Reply { state: s, outcome }
 }
 
 // What a read of the block would find.

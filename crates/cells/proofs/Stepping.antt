@@ -1,0 +1,95 @@
+-- A step that is not refused: what its turn needs, and that with the turn's three places put back it is the step.
+use mathlib.Core.Path.{_≡_, refl, sym, ap, _∙_}
+use mathlib.Core.Logic.{_⊎_, inl, inr}
+use mathlib.Core.Bool.{Bool, true, false, _&&_, false≢true}
+use mathlib.Core.Option.{Option, none, some}
+use mathlib.Core.List.{List, _∷_}
+use Prim.Native.Nat.{ℕ, _≤_, _<_}
+use native.Mathlib.Omega.{arith}
+use lib.Dec.{ltb}
+use lib.ListN.{getD, length}
+use borrow.Author.Tests.{ltb-true, ne-eqb}
+use Rattle.cells.specs.declared.Record.{Record}
+use Rattle.cells.specs.declared.State.{State}
+use Rattle.cells.specs.Record.{recordAt}
+use Rattle.cells.specs.Questions.{Question, refusal, recordFit, busyTests, recordsFit, fit, fitTests, stepQuestions}
+use Rattle.cells.specs.Blocks.{unused}
+use Rattle.cells.specs.Step.{current, stepped}
+use Rattle.cells.specs.Turn.{Turned, turn, There, Ready}
+use Rattle.cells.proofs.Tests.{answers, all-yes, all-at, nth}
+use Rattle.cells.proofs.Fits.{sizes}
+use Rattle.cells.proofs.Replies.{asked-below}
+use Rattle.cells.proofs.Search.{unused-below}
+use Rattle.cells.proofs.TurnLaw.{putBack, ran-turn, ready, turn-free}
+
+-- the block handed to a turn: what the search finds, where the line is one that asks
+abbrev pub Free : State → Record → Option ℕ → Type 0
+Free s r f = (f ≡ unused s) ⊎ ((r .line ≡ 29 → ⊥) × (f ≡ none))
+
+pub record Acting (s : State) (p : List ℕ) (t : ℕ) (r : Record) : Type 0 where
+  pub searches : (s .tasks ≤ 32) × (s .cells ≤ 16) × (s .last < s .blocks)
+  pub task : t < 32
+  pub cell : r .cell < 16
+  pub ready : Ready (length p) t r
+  pub there : (f : Option ℕ) → Free s r f → There (length p) f
+  pub acts : (f : Option ℕ) → Free s r f → stepped s p t ≡ putBack s t (r .cell) (turn p t r (current s (r .cell)) (s .last) f)
+
+module _ (s : State) (p : List ℕ) (t : ℕ) where
+  abbrev own : Record
+  own = recordAt (s .records) t
+
+  abbrev pub asked : List Question
+  asked = (6, fit s p) ∷ stepQuestions (s .tasks) own t
+
+  module _ (e : refusal asked ≡ none) where
+    is-yes : (k : ℕ) → getD (answers asked) k true ≡ true
+    is-yes = nth (answers asked) (all-yes asked e)
+
+    busy : own .line ≡ 0 → ⊥
+    busy z = false≢true (rw z at (is-yes 2))
+
+    below : t < s .tasks
+    below = ltb-true t (s .tasks) (is-yes 1)
+
+    fits : recordFit own (s .cells) (s .blocks) ≡ true
+    unfolding fit recordsFit
+    fits = all-at (λ t. recordFit (recordAt (s .records) t) (s .cells) (s .blocks)) 0 (s .tasks) (nth (fitTests s p) (is-yes 0) 5) t (omega arith) (omega (arith, below))
+
+    cell-below : own .cell < 16
+    unfolding recordFit
+    cell-below =
+        let z = sizes s p (is-yes 0) in
+        let k : own .cell < s .cells = ltb-true _ _ (nth (busyTests own (s .cells) (s .blocks)) (rw (ne-eqb _ _ busy) at fits) 0) in
+        omega arith
+
+    there : (f : Option ℕ) → Free s own f → There (length p) f
+    there none h = tt
+    there (some b) (inl g) =
+        let z = sizes s p (is-yes 0) in
+        omega (arith, unused-below s b (z .last) (sym g))
+    there (some b) (inr (l, g)) = let z : _≡_ {A = ℕ} 0 1 = cc in omega arith
+
+    acts : (f : Option ℕ) → Free s own f → stepped s p t ≡ putBack s t (own .cell) (turn p t own (current s (own .cell)) (s .last) f)
+    unfolding stepped
+    acts f h = rw e (ran-turn s p t own ∙ ap (putBack s t (own .cell)) (go h))
+      where
+        go : Free s own f → turn p t own (current s (own .cell)) (s .last) (unused s) ≡ turn p t own (current s (own .cell)) (s .last) f
+        go (inl g) = rw g
+        go (inr (l, g)) = turn-free p t own (current s (own .cell)) (s .last) (unused s) f l
+
+    own-acting : Acting s p t own
+    own-acting =
+        let z = sizes s p (is-yes 0) in
+        record {
+          searches = (z .tasks, z .cells, z .last);
+          task = omega (arith, below);
+          cell = cell-below;
+          ready = ready own (s .cells) (s .blocks) (length p) t fits busy (z .words);
+          there = there;
+          acts = acts;
+        }
+
+    -- with the record that the code asks about
+    pub acting : (x : Bool) (r : Record) → x ≡ fit s p → (((x && ltb t (s .tasks)) ≡ true) × (r ≡ own)) ⊎ ((x && ltb t (s .tasks)) ≡ false) → Acting s p t r
+    acting x r h (inl w) = rw (w .1) own-acting
+    acting x r h (inr w) = absurd (false≢true (sym w ∙ rw (h, is-yes 0, is-yes 1)))

@@ -1,0 +1,131 @@
+-- The code's number is that of the definition's questions: by it the entry refuses or acts. An acting one is its turn, put back.
+use mathlib.Core.Path.{_≡_, refl, sym, ap, _∙_}
+use mathlib.Core.Logic.{_⊎_, inl, inr, ⊎-elim}
+use mathlib.Core.Bool.{true, false, _&&_, not}
+use mathlib.Core.Option.{Option, Option·getD}
+use mathlib.Core.List.{List, [], _∷_}
+use Prim.Native.Nat.{ℕ}
+use native.Mathlib.Omega.{arith}
+use lib.Dec.{ltb}
+use denote.Ref.{now}
+use Rattle.cells.specs.declared.Record.{Record}
+use Rattle.cells.specs.Record.{isIdle, recordAt}
+use Rattle.cells.specs.Questions.{Question, refusal, fit}
+use Rattle.cells.specs.Blocks.{foundOf}
+use Rattle.cells.specs.Step.{ran, stepped}
+use Rattle.cells.proofs.Replies.{is-refused, is-allowed, asked-of, task-below}
+use Rattle.cells.proofs.Stepping.{Free, Acting, asked, acting}
+use Rattle.cells.proofs.TurnLaw.{putBack}
+use borrow.Author.Needs.{needs}
+use Rattle.cells.proofs.step.Statement.{statement}
+use Rattle.cells.proofs.step.Tie as tie
+
+-- what is asked besides 6 and 7
+abbrev more : Record → List Question
+more q = (11, not (isIdle q)) ∷ []
+
+-- the record is the task's, or nobody has one
+came : (c : tie.Joined1) → let e = c .before .before .before .before .args in let x = c .before .is-fit .result && ltb (e .task) (e .t1 .tasks) in ((x ≡ true) × (c .if1 .r ≡ recordAt (e .t1 .records) (e .task))) ⊎ (x ≡ false)
+came c = ⊎-elim (λ w. inl (w .0 .taken, w .2)) (λ w. inr (w .0 .left)) (c .if1 .came)
+
+number : (c : tie.After-step-refusal) → c .step-refusal .result ≡ Option·getD (refusal (let e = c .before .before .before .before .before .args in asked (e .t1) (now (e .pool)) (e .task))) 0
+number c =
+    let e = c .before .before .before .before .before .args in
+    let s = e .t1 in
+    c .step-refusal .ensures
+    ∙ ap (λ (o : Option ℕ). Option·getD o 0)
+    (asked-of _ (fit s (now (e .pool))) (ltb (e .task) (s .tasks)) _ (recordAt (s .records) (e .task)) more (c .before .before .is-fit .ensures) (came (c .before)))
+
+acts : (c : tie.Else2) → let e = c .before .before .before .before .before .before .args in Acting (e .t1) (now (e .pool)) (e .task) (c .before .before .if1 .r)
+acts c =
+    let e = c .before .before .before .before .before .before .args in
+    acting (e .t1) (now (e .pool)) (e .task)
+    (is-allowed (asked (e .t1) (now (e .pool)) (e .task)) _ (number (c .before)) (c .if2 .left) refl)
+    _ _ (c .before .before .before .is-fit .ensures) (came (c .before .before))
+
+free : (c : tie.Joined3) → Free (c .before .before .before .before .before .before .before .before .args .t1) (c .before .before .before .before .if1 .r) (foundOf (c .if3 .free))
+free c = ⊎-elim (λ w. inl (ap foundOf (w .2) ∙ w .1 .ensures)) (λ w. inr (w .0 .left, ap foundOf (w .1))) (c .if3 .came)
+
+is-fit-requires : tie.Need-is-fit-requires
+is-fit-requires c κs = search needs
+
+mul-r : tie.Need-mul-r
+mul-r c = search needs
+
+element-copy-out-r : tie.Need-element-copy-out-r
+element-copy-out-r c = let e = c .before .before .before .before .args in task-below (e .t1) (now (e .pool)) (e .task) _ (c .before .is-fit .ensures) (c .if1 .taken)
+
+idle-requires : tie.Need-idle-requires
+idle-requires c κs = search needs
+
+step-refusal-requires : tie.Need-step-refusal-requires
+step-refusal-requires c κs = search needs
+
+same-length : tie.Need-same-length
+same-length c = search needs
+
+returns : tie.Need-returns
+unfolding stepped
+returns c =
+    let e = c .before .before .before .before .before .before .args in
+    is-refused (asked (e .t1) (now (e .pool)) (e .task)) _ (number (c .before)) (c .if2 .taken) (e .t1) (now (e .pool)) (ran (e .t1) (now (e .pool)) (e .task) (recordAt (e .t1 .records) (e .task)))
+
+unused-block-requires : tie.Need-unused-block-requires
+unused-block-requires c κs = acts (c .before .before) .searches
+
+cast-k : tie.Need-cast-k
+cast-k c = search needs
+
+mul-take-turn : tie.Need-mul-take-turn
+mul-take-turn c = search needs
+
+element-copy-out-take-turn : tie.Need-element-copy-out-take-turn
+element-copy-out-take-turn c = acts (c .before .before .before .before) .cell
+
+take-turn-requires : tie.Need-take-turn-requires
+take-turn-requires c κs = let a = acts (c .before .before .before .before .before) in (a .ready, a .there _ (free (c .before .before .before)))
+
+mul-s : tie.Need-mul-s
+mul-s c = search needs
+
+element-write-s : tie.Need-element-write-s
+element-write-s c = acts (c .before .before .before .before .before .before .before .before .before) .cell
+
+mul-q : tie.Need-mul-q
+mul-q c = omega (arith, acts (c .before .before .before .before .before .before .before .before .before) .task)
+
+element-set-from-q : tie.Need-element-set-from-q
+element-set-from-q c = acts (c .before .before .before .before .before .before .before .before .before) .task
+
+same-length-2 : tie.Need-same-length-2
+same-length-2 c = search needs
+
+returns-2 : tie.Need-returns-2
+returns-2 c =
+    let e = c .before .before .before .before .before .before .before .before .before .before .before .before .before .before .before .args in
+    let a = acts (c .before .before .before .before .before .before .before .before .before) in
+    let r = c .before .before .before .before .before .before .before .before .before .before .before .if1 .r in
+    ap (putBack (e .t1) (e .task) (r .cell)) (c .before .before .before .take-turn .ensures) ∙ sym (a .acts _ (free (c .before .before .before .before .before .before .before)))
+
+pub step-spec : {M : Type 1} → statement M
+step-spec =
+    tie.close
+    (tie.spec
+    is-fit-requires
+    mul-r
+    element-copy-out-r
+    idle-requires
+    step-refusal-requires
+    same-length
+    returns
+    unused-block-requires
+    cast-k
+    mul-take-turn
+    element-copy-out-take-turn
+    take-turn-requires
+    mul-s
+    element-write-s
+    mul-q
+    element-set-from-q
+    same-length-2
+    returns-2)
