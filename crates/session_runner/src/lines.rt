@@ -1,4 +1,4 @@
-// The lines that a session prints. Room for the longest of them is 80 bytes.
+// The lines that a session prints. Room for the longest of them is 67 bytes; only the end may be longer, at most 90.
 ghost use mathlib.Core.Path.{_≡_};
 ghost use mathlib.Core.List.{_++_};
 ghost use Prim.Native.Nat.{_+_, _*_, _≤_};
@@ -38,21 +38,21 @@ fn put_line(out: &mut [u8], at: usize, start: &[u8], l: &[u64]) -> usize
 }
 
 pub fn put_bad(out: &mut [u8], at: usize, n: u32) -> usize
-    requires { ⌜ at + 80 ≤ length (now out) ⌝ }
+    requires { ⌜ at + 67 ≤ length (now out) ⌝ }
     ensures { λ r. ⌜ Appended (now (out .entry)) (now (out .exit)) at r (badLine n) ⌝ }
 {
     put_line(out, at, b"(bad", &[wide(n)])
 }
 
 pub fn put_no(out: &mut [u8], at: usize, action: u32, n: u32) -> usize
-    requires { ⌜ at + 80 ≤ length (now out) ⌝ }
+    requires { ⌜ at + 67 ≤ length (now out) ⌝ }
     ensures { λ r. ⌜ Appended (now (out .entry)) (now (out .exit)) at r (noLine action n) ⌝ }
 {
     put_line(out, at, b"(no", &[wide(action), wide(n)])
 }
 
 pub fn put_cell(out: &mut [u8], at: usize, cell: u32, value: u32) -> usize
-    requires { ⌜ at + 80 ≤ length (now out) ⌝ }
+    requires { ⌜ at + 67 ≤ length (now out) ⌝ }
     ensures { λ r. ⌜ Appended (now (out .entry)) (now (out .exit)) at r (cellLine cell value) ⌝ }
 {
     put_line(out, at, b"(cell", &[wide(cell), wide(value)])
@@ -83,10 +83,28 @@ fn put_done_start(out: &mut [u8], at: usize, task: u32, f: Finished) -> usize {
 }
 
 pub fn put_done(out: &mut [u8], at: usize, task: u32, f: Finished) -> usize
-    requires { ⌜ at + 80 ≤ length (now out) ⌝ }
+    requires { ⌜ at + 67 ≤ length (now out) ⌝ }
     ensures { λ r. ⌜ Appended (now (out .entry)) (now (out .exit)) at r (doneLine task f) ⌝ }
 {
     let a = put_done_start(out, at, task, f);
     let b = put_numbers(out, a, &[wide(f.steps), wide(f.hard)]);
     text::put(out, b, b")\n")
+}
+
+fn rate(hard: u64, finished: u64) -> u64
+    requires { ⌜ hard * 1000 ≤ 18446744073709551615 ⌝ }
+    ensures { λ r. ⌜ r ≡ «rateOf» hard finished ⌝ }
+{
+    if finished == 0 {
+        return 0;
+    }
+    hard * 1000 / finished
+}
+
+pub fn put_end(out: &mut [u8], at: usize, finished: u64, unfinished: u64, hard: u64) -> usize
+    requires { ⌜ at + 90 ≤ length (now out) ⌝ }
+    requires { ⌜ hard * 1000 ≤ 18446744073709551615 ⌝ }
+    ensures { λ r. ⌜ Appended (now (out .entry)) (now (out .exit)) at r (endLine finished unfinished hard) ⌝ }
+{
+    put_line(out, at, b"(end", &[finished, unfinished, hard, rate(hard, finished)])
 }
