@@ -23,6 +23,9 @@ pub record Totals : Type 0 where
   pub finished : ℕ
   pub hard : ℕ
 
+abbrev pub totals : (finished hard : ℕ) → Totals
+totals f h = record { finished = f; hard = h }
+
 abbrev pub taskOf : Act → ℕ
 taskOf (read t k) = t
 taskOf (swap t k e n) = t
@@ -42,7 +45,7 @@ reported i t (Ended f) = doneLine t f
 abbrev pub counted : Totals → Outcome → Totals
 counted z (Refused n) = z
 counted z Acted = z
-counted z (Ended f) = record { finished = z .finished + 1; hard = z .hard + f .hard }
+counted z (Ended f) = totals (z .finished + 1) (z .hard + f .hard)
 
 -- the k cells from i on; a look is never refused here
 abbrev pub lookLine : ℕ → Looked → List ℕ
@@ -59,19 +62,19 @@ pending s i zero = 0
 pending s i (suc k) = cond (isIdle (recordAt (s .records) i)) 0 1 + pending s (i + 1) k
 
 -- after the last action
-unfoldable pub closed : Opening → Totals → State → List ℕ → List ℕ
-closed o z s p = cellLines s p 0 (o .cells) ++ endLine (z .finished) (pending s 0 (o .tasks)) (z .hard)
+unfoldable pub closed : (tasks cells : ℕ) → Totals → State → List ℕ → List ℕ
+closed n v z s p = cellLines s p 0 v ++ endLine (z .finished) (pending s 0 n) (z .hard)
 
 -- from action i on
-unfoldable pub played : Opening → (i : ℕ) → Totals → State → List ℕ → List Act → List ℕ
-played o i z s p [] = closed o z s p
-played o i z s p (a ∷ l) =
+unfoldable pub played : (tasks cells : ℕ) → (i : ℕ) → Totals → State → List ℕ → List Act → List ℕ
+played n v i z s p [] = closed n v z s p
+played n v i z s p (a ∷ l) =
     let r = done s p a in
-    reported i (taskOf a) (r .outcome) ++ played o (i + 1) (counted z (r .outcome)) (r .state) (r .pool) l
+    reported i (taskOf a) (r .outcome) ++ played n v (i + 1) (counted z (r .outcome)) (r .state) (r .pool) l
 
 -- a refused open ends the session
-unfoldable pub started : Opening → List Act → After → List ℕ
-started o l r = elim (r .outcome) [ Refused n ↦ noLine 0 n | Acted ↦ played o 0 (record { finished = 0; hard = 0 }) (r .state) (r .pool) l | Ended f ↦ [] ]
+unfoldable pub started : (tasks cells : ℕ) → List Act → After → List ℕ
+started n v l r = elim (r .outcome) [ Refused n ↦ noLine 0 n | Acted ↦ played n v 0 (totals 0 0) (r .state) (r .pool) l | Ended f ↦ [] ]
 
 -- before open
 abbrev pub blank : State
@@ -82,7 +85,7 @@ abbrev pub poolWords : ℕ → ℕ
 poolWords b = 5 * cond (leb b 128) b 128
 
 abbrev pub run : Opening → List Act → List ℕ
-run o l = started o l (opened blank (replicate (poolWords (o .blocks)) 0) (o .tasks) (o .cells) (o .blocks) (o .values))
+run o l = started (o .tasks) (o .cells) l (opened blank (replicate (poolWords (o .blocks)) 0) (o .tasks) (o .cells) (o .blocks) (o .values))
 
 unfoldable pub printed : List ℕ → List ℕ
 printed s = elim (verdict s) [ bad n ↦ badLine n | session o l ↦ run o l ]
