@@ -87,8 +87,12 @@ poolWords b = 5 * cond (leb b 128) b 128
 abbrev pub run : Opening → List Act → List ℕ
 run o l = started (o .tasks) (o .cells) l (opened blank (replicate (poolWords (o .blocks)) 0) (o .tasks) (o .cells) (o .blocks) (o .values))
 
+abbrev pub shown : Verdict → List ℕ
+shown (bad n) = badLine n
+shown (session o l) = run o l
+
 unfoldable pub printed : List ℕ → List ℕ
-printed s = elim (verdict s) [ bad n ↦ badLine n | session o l ↦ run o l ]
+printed s = shown (verdict s)
 
 -- nothing is printed where there is no room for the longest text
 unfoldable pub printedWithin : (room : ℕ) → List ℕ → List ℕ

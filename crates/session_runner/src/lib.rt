@@ -3,19 +3,20 @@ mod actions;
 mod lines;
 mod play;
 
-use cells::{Outcome, Record, State};
+use cells::Outcome;
+use cells::Record;
+use cells::State;
 use session_reader::Reading;
-
 ghost use mathlib.Core.Path.{_≡_};
 ghost use mathlib.Core.List.{map};
 ghost use Prim.Native.Nat.{_≤_};
-ghost use lib.ListN.{length, take};
+ghost use lib.ListN.{length, take, replicate};
 ghost use Rattle.text.specs.Append.{Appended};
 ghost use Rattle.cells.specs.Open.{opened};
 ghost use Rattle.session_reader.specs.Session.{Opening};
-ghost use Rattle.session_reader.specs.Reading.{actAt};
-ghost use Rattle.session_reader.specs.Kept.{Named};
-ghost use Rattle.session_runner.specs.Printed.{started, blank as «blankOf», run as «runOf», printedWithin};
+ghost use Rattle.session_reader.specs.Reading.{actAt, verdictOf};
+ghost use Rattle.session_reader.specs.Kept.{Named, Within};
+ghost use Rattle.session_runner.specs.Printed.{started, blank as «blankOf», poolWords, run as «runOf», shown, printedWithin};
 
 // The room that the longest text needs.
 pub const ROOM: usize = 4400000;
@@ -74,6 +75,22 @@ fn start(
     }
 }
 
+// Five words for each block, at most 128; more are refused whatever the pool has.
+fn pool_words(blocks: u32) -> usize
+    ensures { λ r. ⌜ (r ≡ poolWords blocks) × (r ≤ 640) ⌝ }
+{
+    if blocks <= 128 {
+        return 5 * blocks as usize;
+    }
+    640
+}
+
+fn pool_space() -> [u32; 640]
+    ensures { λ r. ⌜ r ≡ replicate 640 0 ⌝ }
+{
+    [0; 640]
+}
+
 fn run(
     out: &mut [u8],
     tasks: u32,
@@ -88,9 +105,44 @@ fn run(
     requires { ⌜ 4400000 ≤ length (now out) ⌝ }
     ensures { λ r. ⌜ Appended (now (out .entry)) (now (out .exit)) 0 r («runOf» (record { tasks = tasks; cells = n; blocks = blocks; values = now (values .entry) }) (map (actAt (now (forms .entry))) (now (kept .entry)))) ⌝ }
 {
-    let b = if blocks <= 128 { blocks as usize } else { 128 };
-    let mut pool = [0u32; 640];
-    start(out, &mut pool[..5 * b], tasks, n, blocks, values, forms, kept)
+    let words = pool_words(blocks);
+    let mut pool = pool_space();
+    start(
+        out,
+        &mut pool[..words],
+        tasks,
+        n,
+        blocks,
+        values,
+        forms,
+        kept,
+    )
+}
+
+fn print(out: &mut [u8], found: Reading, values: &[u32], forms: &[u32], actions: &[u32]) -> usize
+    requires { ⌜ Within found (now values) (now forms) (now actions) ⌝ }
+    requires { ⌜ length (now actions) ≤ 65535 ⌝ }
+    requires { ⌜ 4400000 ≤ length (now out) ⌝ }
+    ensures { λ r. ⌜ Appended (now (out .entry)) (now (out .exit)) 0 r (shown (verdictOf found (now (values .entry)) (now (forms .entry)) (now (actions .entry)))) ⌝ }
+{
+    match found {
+        Reading::Bad(n) => lines::put_bad(out, 0, n),
+        Reading::Session {
+            tasks,
+            cells,
+            blocks,
+            values: v,
+            actions: n,
+        } => run(
+            out,
+            tasks,
+            cells,
+            blocks,
+            &values[..v],
+            forms,
+            &actions[..n],
+        ),
+    }
 }
 
 fn value_space() -> [u32; 32768]
@@ -123,14 +175,5 @@ pub fn run_session(file: &[u8], out: &mut [u8]) -> usize
     let mut forms = form_space();
     let mut actions = action_space();
     let found = session_reader::read_session(file, &mut values, &mut forms, &mut actions);
-    match found {
-        Reading::Bad(n) => lines::put_bad(out, 0, n),
-        Reading::Session {
-            tasks,
-            cells,
-            blocks,
-            values: v,
-            actions: n,
-        } => run(out, tasks, cells, blocks, &values[..v], &forms, &actions[..n]),
-    }
+    print(out, found, &values, &forms, &actions)
 }

@@ -5,7 +5,8 @@ ghost use lib.ListN.{length};
 ghost use Rattle.text.specs.Append.{Appended};
 ghost use Rattle.text.specs.Bytes.{decimal};
 ghost use Rattle.session_runner.specs.Lines.{line, numbers as «numbersOf», badLine, noLine, cellLine, kindWord, answerWord, doneStart, doneLine, rate as «rateOf», endLine};
-use cells::{Answer, Finished};
+use cells::Answer;
+use cells::Finished;
 
 pub fn wide(x: u32) -> u64
     ensures { λ r. ⌜ (r ≡ x) × (r ≤ 4294967295) ⌝ }
@@ -132,5 +133,10 @@ pub fn put_end(out: &mut [u8], at: usize, finished: u64, unfinished: u64, hard: 
     requires { ⌜ hard * 1000 ≤ 18446744073709551615 ⌝ }
     ensures { λ r. ⌜ Appended (now (out .entry)) (now (out .exit)) at r (endLine finished unfinished hard) ⌝ }
 {
-    put_line(out, at, b"(end", &[finished, unfinished, hard, rate(hard, finished)])
+    put_line(
+        out,
+        at,
+        b"(end",
+        &[finished, unfinished, hard, rate(hard, finished)],
+    )
 }

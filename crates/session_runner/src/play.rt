@@ -2,8 +2,10 @@
 use crate::actions;
 use crate::actions::Action;
 use crate::lines;
-use cells::{Looked, Outcome, Reply, State};
-
+use cells::Looked;
+use cells::Outcome;
+use cells::Reply;
+use cells::State;
 ghost use mathlib.Core.Path.{_≡_};
 ghost use mathlib.Core.List.{map};
 ghost use Prim.Native.Nat.{_+_, _*_, _≤_};

@@ -25,13 +25,13 @@ add-t7 : tie.Need-add-t7
 add-t7 c = search needs
 
 returns : tie.Need-returns
-returns c = (rw (c .enum-told .given .1), search needs, search needs)
+returns c = (rw (c .enum-told .given .1), (search needs, search needs))
 
 returns-2 : tie.Need-returns-2
-returns-2 c = (rw (c .enum-told2 .given .1), search needs, search needs)
+returns-2 c = (rw (c .enum-told2 .given .1), (search needs, search needs))
 
 returns-3 : tie.Need-returns-3
-returns-3 c = let w = c .before .wide in (rw (c .before .before .before .before .outcome .given .1, w .ensures .0), search needs, omega (arith, w .ensures))
+returns-3 c = let w = c .before .wide in (rw (c .before .before .before .before .outcome .given .1, w .ensures .0), (search needs, omega (arith, w .ensures)))
 
 pub count-spec : {M : Type 1} → statement M
 count-spec =
