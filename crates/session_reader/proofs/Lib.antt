@@ -1,1 +1,6 @@
 mod Shapes
+mod Counted
+mod Turns
+mod Told
+mod Standing
+mod Repeated

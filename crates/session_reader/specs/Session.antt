@@ -6,7 +6,7 @@ use Prim.Native.Nat.{ℕ, zero, suc, _+_, _-_, _*_}
 use lib.Dec.{leb, ltb, eqb}
 use lib.ListN.{length, getD}
 use Rattle.text.specs.Bytes.{bytes}
-use Rattle.text.specs.Readers.{Reader, pure, either, onward, _>>=_, _>>_, word, number}
+use Rattle.text.specs.Readers.{Reader, pure, either, _>>=_, _>>_, word, number}
 
 pub data Act : Type 0 where
   read : (task cell : ℕ) → Act
@@ -71,7 +71,7 @@ module _ {A B : Type 0} (add : B → A → B) (item : Reader A) (end : Reader (U
   unfoldable pub manyWithin : ℕ → B → Reader B
   manyWithin zero l s = none
   manyWithin (suc fuel) l s =
-      elim (end s) [ some (_, r) ↦ some (l, r) | none ↦ onward (item s) (λ a. manyWithin fuel (add l a)) ]
+      either ((end >> pure l) s) ((item >>= λ a. manyWithin fuel (add l a)) s)
 
   -- each takes a byte or more
   abbrev pub many : B → Reader B
@@ -86,10 +86,8 @@ close = word (bytes ")")
 -- the values of open, up to their bracket
 unfoldable pub values : Reader (List ℕ)
 values s =
-    elim (close s)
-    [ some (_, r) ↦ some ([], r)
-    | none ↦ onward (number s) (λ v. many (λ l v. l ++ (v ∷ [])) (space >> number) close (v ∷ []))
-    ]
+    either ((close >> pure []) s)
+    ((number >>= λ v. many (λ l v. l ++ (v ∷ [])) (space >> number) close (v ∷ [])) s)
 
 -- (open N V B (values)) and its line's end
 unfoldable pub opening : Reader Opening

@@ -60,8 +60,9 @@ fn keyword(s: &[u8], at: usize) -> Word
 }
 
 // A form's word, and its numbers stored.
-fn head(s: &[u8], at: usize, out: &mut [u32; 4]) -> Start
+fn head(s: &[u8], at: usize, out: &mut [u32]) -> Start
     requires { ⌜ at ≤ length (now s) ⌝ }
+    requires { ⌜ 4 ≤ length (now out) ⌝ }
     ensures { λ r. ⌜ HeadIs (now (s .entry)) at (now (out .exit)) r ⌝ }
 {
     let word = keyword(s, at);
@@ -76,10 +77,11 @@ fn head(s: &[u8], at: usize, out: &mut [u32; 4]) -> Start
 }
 
 // Keeps a form of five words and one action of it, if there is room for the action.
-fn keep(forms: &mut [u32], f: usize, actions: &mut [u32], n: usize, kind: u32, numbers: &[u32; 4]) -> Kept
+fn keep(forms: &mut [u32], f: usize, actions: &mut [u32], n: usize, kind: u32, numbers: &[u32]) -> Kept
     requires { ⌜ 5 * f + 5 ≤ length (now forms) ⌝ }
     requires { ⌜ f < 65536 ⌝ }
     requires { ⌜ n ≤ length (now actions) ⌝ }
+    requires { ⌜ 4 ≤ length (now numbers) ⌝ }
     ensures { λ r. ⌜ Stands (now (forms .entry)) (now (forms .exit)) (now (actions .entry)) (now (actions .exit)) f n r 1 (acted kind (now (numbers .entry)) ∷ []) ⌝ }
 {
     if actions.len() <= n {

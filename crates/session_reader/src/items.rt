@@ -23,9 +23,9 @@ pub fn close(s: &[u8], at: usize) -> Place
 }
 
 // Stores k numbers, each after a space.
-pub fn numbers(s: &[u8], at: usize, k: usize, out: &mut [u32; 4]) -> Place
+pub fn numbers(s: &[u8], at: usize, k: usize, out: &mut [u32]) -> Place
     requires { ⌜ at ≤ length (now s) ⌝ }
-    requires { ⌜ k ≤ 4 ⌝ }
+    requires { ⌜ k ≤ length (now out) ⌝ }
     ensures { λ r. ⌜ NumbersAre (now (s .entry)) at k (now (out .exit)) r ⌝ }
 {
     let mut i = at;

@@ -17,8 +17,8 @@ mul-forms c = search needs
 slice-write-forms : tie.Need-slice-write-forms
 slice-write-forms c = search needs
 
-element-copy-out-forms : tie.Need-element-copy-out-forms
-element-copy-out-forms c = search needs
+shared-slice-read-forms : tie.Need-shared-slice-read-forms
+shared-slice-read-forms c = search needs
 
 add-forms : tie.Need-add-forms
 add-forms c = search needs
@@ -29,8 +29,8 @@ mul-forms-2 c = search needs
 slice-write-forms-2 : tie.Need-slice-write-forms-2
 slice-write-forms-2 c = search needs
 
-element-copy-out-forms-2 : tie.Need-element-copy-out-forms-2
-element-copy-out-forms-2 c = search needs
+shared-slice-read-forms-2 : tie.Need-shared-slice-read-forms-2
+shared-slice-read-forms-2 c = search needs
 
 add-forms-2 : tie.Need-add-forms-2
 add-forms-2 c = search needs
@@ -41,8 +41,8 @@ mul-forms-3 c = search needs
 slice-write-forms-3 : tie.Need-slice-write-forms-3
 slice-write-forms-3 c = search needs
 
-element-copy-out-forms-3 : tie.Need-element-copy-out-forms-3
-element-copy-out-forms-3 c = search needs
+shared-slice-read-forms-3 : tie.Need-shared-slice-read-forms-3
+shared-slice-read-forms-3 c = search needs
 
 add-forms-3 : tie.Need-add-forms-3
 add-forms-3 c = search needs
@@ -53,8 +53,8 @@ mul-forms-4 c = search needs
 slice-write-forms-4 : tie.Need-slice-write-forms-4
 slice-write-forms-4 c = search needs
 
-element-copy-out-forms-4 : tie.Need-element-copy-out-forms-4
-element-copy-out-forms-4 c = search needs
+shared-slice-read-forms-4 : tie.Need-shared-slice-read-forms-4
+shared-slice-read-forms-4 c = search needs
 
 add-forms-4 : tie.Need-add-forms-4
 add-forms-4 c = search needs
@@ -74,8 +74,8 @@ mul-actions c = search needs
 slice-write-actions : tie.Need-slice-write-actions
 slice-write-actions c = search needs
 
-add-t14 : tie.Need-add-t14
-add-t14 c = search needs
+add-t13 : tie.Need-add-t13
+add-t13 c = search needs
 
 add-t8 : tie.Need-add-t8
 add-t8 c = search needs
@@ -97,26 +97,26 @@ keep-spec =
     mul-at
     mul-forms
     slice-write-forms
-    element-copy-out-forms
+    shared-slice-read-forms
     add-forms
     mul-forms-2
     slice-write-forms-2
-    element-copy-out-forms-2
+    shared-slice-read-forms-2
     add-forms-2
     mul-forms-3
     slice-write-forms-3
-    element-copy-out-forms-3
+    shared-slice-read-forms-3
     add-forms-3
     mul-forms-4
     slice-write-forms-4
-    element-copy-out-forms-4
+    shared-slice-read-forms-4
     add-forms-4
     mul-forms-5
     slice-write-forms-5
     cast-actions
     mul-actions
     slice-write-actions
-    add-t14
+    add-t13
     add-t8
     same-length
     same-length-2
