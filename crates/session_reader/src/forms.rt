@@ -117,7 +117,7 @@ fn repeat(words: &mut [u32], n: usize, m: usize, c: usize) -> usize
 fn again(actions: &mut [u32], f: usize, n: usize, c: u32, once: Kept) -> Kept
     requires { ⌜ (n ≤ once .actions) × (once .actions ≤ length (now actions)) ⌝ }
     requires { ⌜ length (now actions) ≤ 65535 ⌝ }
-    ensures { λ r. ⌜ ((F F′ A : List ℕ) (k : ℕ) (l : List Act) → Stands F F′ A (now (actions .entry)) f n once k l → Stands F F′ A (now (actions .exit)) f n r (c * k) (times c l)) ⌝ }
+    ensures { λ r. ⌜ ((F F′ A : List ℕ) (k : ℕ) (l : List Act) → length A ≡ length (now (actions .entry)) → Stands F F′ A (now (actions .entry)) f n once k l → Stands F F′ A (now (actions .exit)) f n r (c * k) (times c l)) ⌝ }
 {
     if c == 0 {
         return Kept { over: false, forms: f, actions: n };

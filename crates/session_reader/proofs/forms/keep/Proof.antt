@@ -1,12 +1,12 @@
 use borrow.Author.Needs.{needs}
 use native.Mathlib.Omega.{arith}
+use lib.ListN.{length-set}
+use Rattle.session_reader.proofs.Standing.{keep-over, keep-one}
 use Rattle.session_reader.proofs.forms.keep.Statement.{statement}
 use Rattle.session_reader.proofs.forms.keep.Tie as tie
-use Rattle.session_reader.proofs.forms.keep.Reads as reads
-use Rattle.session_reader.proofs.forms.keep.Lts as lts
 
 returns : tie.Need-returns
-returns c = search needs
+returns c = let a = c .before .args in keep-over a.forms.now a.actions.now a.f a.n a.kind a.numbers.now (omega arith) (omega arith) (c .if1 .taken) _
 
 mul-at : tie.Need-mul-at
 mul-at c = search needs
@@ -27,7 +27,7 @@ mul-forms-2 : tie.Need-mul-forms-2
 mul-forms-2 c = search needs
 
 slice-write-forms-2 : tie.Need-slice-write-forms-2
-slice-write-forms-2 c = search needs
+slice-write-forms-2 c = simp length-set (omega arith)
 
 shared-slice-read-forms-2 : tie.Need-shared-slice-read-forms-2
 shared-slice-read-forms-2 c = search needs
@@ -39,7 +39,7 @@ mul-forms-3 : tie.Need-mul-forms-3
 mul-forms-3 c = search needs
 
 slice-write-forms-3 : tie.Need-slice-write-forms-3
-slice-write-forms-3 c = search needs
+slice-write-forms-3 c = simp length-set (omega arith)
 
 shared-slice-read-forms-3 : tie.Need-shared-slice-read-forms-3
 shared-slice-read-forms-3 c = search needs
@@ -51,7 +51,7 @@ mul-forms-4 : tie.Need-mul-forms-4
 mul-forms-4 c = search needs
 
 slice-write-forms-4 : tie.Need-slice-write-forms-4
-slice-write-forms-4 c = search needs
+slice-write-forms-4 c = simp length-set (omega arith)
 
 shared-slice-read-forms-4 : tie.Need-shared-slice-read-forms-4
 shared-slice-read-forms-4 c = search needs
@@ -63,7 +63,7 @@ mul-forms-5 : tie.Need-mul-forms-5
 mul-forms-5 c = search needs
 
 slice-write-forms-5 : tie.Need-slice-write-forms-5
-slice-write-forms-5 c = search needs
+slice-write-forms-5 c = simp length-set (omega arith)
 
 cast-actions : tie.Need-cast-actions
 cast-actions c = search needs
@@ -87,7 +87,7 @@ same-length-2 : tie.Need-same-length-2
 same-length-2 c = search needs
 
 returns-2 : tie.Need-returns-2
-returns-2 c = search needs
+returns-2 c = let a = c .before .before .before .before .before .args in keep-one a.forms.now a.actions.now a.f a.n a.kind a.numbers.now (omega arith) (omega arith) (omega arith)
 
 pub keep-spec : {M : Type 1} → statement M
 keep-spec =
