@@ -7,7 +7,15 @@ use native.Mathlib.Nat.{sub-zero}
 use native.Mathlib.Omega.{arith}
 use lib.ListN.{length, drop}
 use Rattle.text.specs.Readers.{Reads, pure, onward, number}
-use Rattle.session_reader.specs.Session.{space, numbers}
+use Rattle.text.specs.Answers.{NumeralIs}
+use Rattle.text.specs.declared.Numeral.{Numeral}
+use Rattle.text.specs.declared.Numeral.the-variants as numeral
+use Rattle.session_reader.specs.Session.{space, item, numbers}
+
+-- a space, and what was answered after it
+pub number-after : (s : List ℕ) (at : ℕ) {a : ℕ} → Reads space s at 1 tt a → (r : Numeral) → NumeralIs number s a 1 r → NumeralIs item s at 2 r
+number-after s at x numeral.Absent y = rw (x .finds) y
+number-after s at x (numeral.Read v next) y = record { finds = rw (x .finds) (y .finds); past = omega (arith, x .past, y .past); within = y .within }
 
 -- the numbers l, and then those that x found
 abbrev pub after : List ℕ → Option (List ℕ × List ℕ) → Option (List ℕ × List ℕ)
@@ -32,15 +40,10 @@ module _ (s l : List ℕ) (k n i : ℕ) (h : n < k) where
   left : k - n ≡ suc (k - (n + 1))
   left = omega arith
 
-  pub no-space : space (drop i s) ≡ none → after l (numbers (k - n) (drop i s)) ≡ none
+  pub no-number : item (drop i s) ≡ none → after l (numbers (k - n) (drop i s)) ≡ none
   unfolding numbers
-  no-space e = rw (left, e)
+  no-number e = rw (left, e)
 
-  module _ {a : ℕ} (x : Reads space s i 1 tt a) where
-    pub no-number : number (drop a s) ≡ none → after l (numbers (k - n) (drop i s)) ≡ none
-    unfolding numbers
-    no-number e = rw (left, x .finds, e)
-
-    pub one-more : {v j : ℕ} → Reads number s a 1 v j → after l (numbers (k - n) (drop i s)) ≡ after (l ++ (v ∷ [])) (numbers (k - (n + 1)) (drop j s))
-    unfolding numbers
-    one-more {v} {j} y = rw (left, x .finds, y .finds) (after-one l v (numbers (k - (n + 1)) (drop j s)))
+  pub one-more : {v j : ℕ} → Reads item s i 2 v j → after l (numbers (k - n) (drop i s)) ≡ after (l ++ (v ∷ [])) (numbers (k - (n + 1)) (drop j s))
+  unfolding numbers
+  one-more {v} {j} x = rw (left, x .finds) (after-one l v (numbers (k - (n + 1)) (drop j s)))

@@ -1,6 +1,7 @@
 mod Shapes
 mod Counted
 mod Turns
+mod Listed
 mod Told
 mod Standing
 mod Repeated

@@ -1,8 +1,8 @@
 use borrow.Author.Needs.{needs}
 use native.Mathlib.Omega.{arith}
 use Rattle.session_reader.proofs.Counted as counted
-use Rattle.session_reader.specs.Session.{space, numbers}
-use Rattle.text.proofs.Reading.{place-at, place-no, number-at, number-no}
+use Rattle.session_reader.specs.Session.{item, numbers}
+use Rattle.text.proofs.Reading.{number-at, number-no}
 use Rattle.text.proofs.Appending.{one}
 use lib.ListN.{length, take, drop}
 use Prim.Native.Nat.{_+_, _-_, _*_, _≤_}
@@ -20,11 +20,11 @@ abbrev μ-loop : tie.MeasureT-loop
 loop-holds : tie.Need-loop-holds Inv-loop μ-loop
 loop-holds c = (search needs, search needs, search needs, search needs, counted.none-read _ _)
 
-space-requires : tie.Need-space-requires Inv-loop μ-loop
-space-requires c κs = search needs
+item-requires : tie.Need-item-requires Inv-loop μ-loop
+item-requires c κs = search needs
 
-enum-known-gap : tie.Need-enum-known-gap Inv-loop μ-loop
-enum-known-gap c = search needs
+enum-known-read : tie.Need-enum-known-read Inv-loop μ-loop
+enum-known-read c = search needs
 
 enum-told : tie.Need-enum-told Inv-loop μ-loop
 enum-told c = search needs
@@ -33,22 +33,7 @@ same-length : tie.Need-same-length Inv-loop μ-loop
 same-length c = search needs
 
 returns : tie.Need-returns Inv-loop μ-loop
-returns c = let l = c .before .before .before .before .loop in let a = c .before .before .before .before .before .before .before .args in sym (l.inv .4) ∙ counted.no-space a.s.now (take l.n l.out) a.k l.n l.i (c .before .before .before .loop-test .taken) (place-no a.s.now l.i space 1 (c .enum-told .given .1) (c .before .before .space .ensures))
-
-number-requires : tie.Need-number-requires Inv-loop μ-loop
-number-requires c κs = search needs
-
-enum-known-item : tie.Need-enum-known-item Inv-loop μ-loop
-enum-known-item c = search needs
-
-enum-told-2 : tie.Need-enum-told-2 Inv-loop μ-loop
-enum-told-2 c = search needs
-
-same-length-2 : tie.Need-same-length-2 Inv-loop μ-loop
-same-length-2 c = search needs
-
-returns-2 : tie.Need-returns-2 Inv-loop μ-loop
-returns-2 c = let l = c .before .before .before .before .before .before .before .before .loop in let a = c .before .before .before .before .before .before .before .before .before .before .before .args in sym (l.inv .4) ∙ counted.no-number a.s.now (take l.n l.out) a.k l.n l.i (c .before .before .before .before .before .before .before .loop-test .taken) (place-at a.s.now l.i space 1 (c .before .before .before .before .gap .given .1) (c .before .before .before .before .before .before .space .ensures)) (number-no a.s.now _ (c .enum-told2 .given .1) (c .before .before .number .ensures))
+returns c = let l = c .before .before .before .before .loop in let a = c .before .before .before .before .before .before .before .args in sym (l.inv .4) ∙ counted.no-number a.s.now (take l.n l.out) a.k l.n l.i (c .before .before .before .loop-test .taken) (number-no a.s.now l.i item 2 (c .enum-told .given .1) (c .before .before .item .ensures))
 
 mul-out : tie.Need-mul-out Inv-loop μ-loop
 mul-out c = search needs
@@ -63,13 +48,13 @@ loop-less : tie.Need-loop-less Inv-loop μ-loop
 loop-less c = search needs
 
 loop-again : tie.Need-loop-again Inv-loop μ-loop
-loop-again c = let l = c .before .before .before .before .before .before .before .before .before .loop in let a = c .before .before .before .before .before .before .before .before .before .before .before .before .args in let x = place-at a.s.now l.i space 1 (c .before .before .before .before .before .gap .given .1) (c .before .before .before .before .before .before .before .space .ensures) in let y = number-at a.s.now _ (c .before .item .given .1) (c .before .before .before .number .ensures) in (omega arith, y .within, omega (arith, x .past, y .past), search needs, rw (one l.out l.n _ (omega arith) .words) (sym (counted.one-more a.s.now (take l.n l.out) a.k l.n l.i (c .before .before .before .before .before .before .before .before .loop-test .taken) x y) ∙ l.inv .4))
+loop-again c = let l = c .before .before .before .before .before .loop in let a = c .before .before .before .before .before .before .before .before .args in let x = number-at a.s.now l.i item 2 (c .before .read .given .1) (c .before .before .before .item .ensures) in (omega arith, x .within, omega (arith, x .past), search needs, rw (one l.out l.n _ (omega arith) .words) (sym (counted.one-more a.s.now (take l.n l.out) a.k l.n l.i (c .before .before .before .before .loop-test .taken) x) ∙ l.inv .4))
 
-same-length-3 : tie.Need-same-length-3 Inv-loop μ-loop
-same-length-3 c = search needs
+same-length-2 : tie.Need-same-length-2 Inv-loop μ-loop
+same-length-2 c = search needs
 
-returns-3 : tie.Need-returns-3 Inv-loop μ-loop
-returns-3 c = let l = c .before .loop in let a = c .before .before .before .before .args in let e : a.k ≡ l.n = omega arith in record { finds = sym (l.inv .4) ∙ counted.all-read (take l.n l.out) a.k l.n _ e ∙ ap (λ j. some (take j l.out, drop l.i a.s.now)) (sym e); past = omega arith; within = omega arith }
+returns-2 : tie.Need-returns-2 Inv-loop μ-loop
+returns-2 c = let l = c .before .loop in let a = c .before .before .before .before .args in let e : a.k ≡ l.n = omega arith in record { finds = sym (l.inv .4) ∙ counted.all-read (take l.n l.out) a.k l.n _ e ∙ ap (λ j. some (take j l.out, drop l.i a.s.now)) (sym e); past = omega arith; within = omega arith }
 
 pub numbers-spec : {M : Type 1} → statement M
 numbers-spec =
@@ -78,20 +63,15 @@ numbers-spec =
     Inv-loop
     μ-loop
     loop-holds
-    space-requires
-    enum-known-gap
+    item-requires
+    enum-known-read
     enum-told
     same-length
     returns
-    number-requires
-    enum-known-item
-    enum-told-2
-    same-length-2
-    returns-2
     mul-out
     slice-write-out
     add-n
     loop-less
     loop-again
-    same-length-3
-    returns-3)
+    same-length-2
+    returns-2)
