@@ -1,5 +1,6 @@
 mod Shapes
 mod Counted
+mod Arms
 mod Turns
 mod Listed
 mod Told
