@@ -6,3 +6,5 @@ mod Listed
 mod Told
 mod Standing
 mod Repeated
+mod Walks
+mod Forming

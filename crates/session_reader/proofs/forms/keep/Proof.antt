@@ -6,7 +6,7 @@ use Rattle.session_reader.proofs.forms.keep.Statement.{statement}
 use Rattle.session_reader.proofs.forms.keep.Tie as tie
 
 returns : tie.Need-returns
-returns c = let a = c .before .args in keep-over a.forms.now a.actions.now a.f a.n a.kind a.numbers.now (omega arith) (omega arith) (c .if1 .taken) _
+returns c = let a = c .before .args in (keep-over a.forms.now a.actions.now a.f a.n a.kind a.numbers.now (omega arith) (omega arith) (c .if1 .taken) _, search needs)
 
 mul-at : tie.Need-mul-at
 mul-at c = search needs
@@ -87,7 +87,7 @@ same-length-2 : tie.Need-same-length-2
 same-length-2 c = search needs
 
 returns-2 : tie.Need-returns-2
-returns-2 c = let a = c .before .before .before .before .before .args in keep-one a.forms.now a.actions.now a.f a.n a.kind a.numbers.now (omega arith) (omega arith) (omega arith)
+returns-2 c = let a = c .before .before .before .before .before .args in (keep-one a.forms.now a.actions.now a.f a.n a.kind a.numbers.now (omega arith) (omega arith) (omega arith), search needs)
 
 pub keep-spec : {M : Type 1} → statement M
 keep-spec =
