@@ -1,1 +1,10 @@
 mod Shapes
+mod Counted
+mod Arms
+mod Turns
+mod Listed
+mod Told
+mod Standing
+mod Repeated
+mod Walks
+mod Forming

@@ -66,6 +66,7 @@ pub record Stands (F F′ A A′ : List ℕ) (f n : ℕ) (b : Kept) (k : ℕ) (l
   pub words : List ℕ
   pub forms : Appended F F′ (5 * f) (5 * b .forms) table
   pub acts : Appended A A′ n (b .actions) words
+  pub fits : 5 * b .forms ≤ length F
   pub room : b .actions ≤ length A
   pub far : Far (b .over) (length A) n (b .actions) k (take (5 * b .forms) F′) words l
 

@@ -6,7 +6,7 @@ use Prim.Native.Nat.{ℕ, zero, suc, _+_, _-_, _*_}
 use lib.Dec.{leb, ltb, eqb}
 use lib.ListN.{length, getD}
 use Rattle.text.specs.Bytes.{bytes}
-use Rattle.text.specs.Readers.{Reader, pure, either, onward, _>>=_, _>>_, word, number}
+use Rattle.text.specs.Readers.{Reader, pure, either, _>>=_, _>>_, word, number}
 
 pub data Act : Type 0 where
   read : (task cell : ℕ) → Act
@@ -57,39 +57,42 @@ shaped s = shapedAfter 0 10 s
 -- 14. Is each form one of those below with exactly its items, with numbers of at most 4,294,967,295 and no leading
 -- zeros, and open first and only there?
 
--- k numbers, each after a space
-unfoldable pub numbers : ℕ → Reader (List ℕ)
-numbers zero = pure []
-numbers (suc k) = do
-  word (bytes " ")
-  n ← number
-  l ← numbers k
-  pure (n ∷ l)
-
-module _ {A B : Type 0} (add : B → A → B) (item : Reader A) (end : Reader (Unit {0})) where
-  -- items up to what ends them, added to those before; fuel bounds how many
-  unfoldable pub manyWithin : ℕ → B → Reader B
-  manyWithin zero l s = none
-  manyWithin (suc fuel) l s =
-      elim (end s) [ some (_, r) ↦ some (l, r) | none ↦ onward (item s) (λ a. manyWithin fuel (add l a)) ]
-
-  -- each takes a byte or more
-  abbrev pub many : B → Reader B
-  many l s = manyWithin (suc (length s)) l s
-
 abbrev pub space : Reader (Unit {0})
 space = word (bytes " ")
 
 abbrev pub close : Reader (Unit {0})
 close = word (bytes ")")
 
+-- a number after a space, and k of them
+abbrev pub item : Reader ℕ
+item = space >> number
+
+unfoldable pub numbers : ℕ → Reader (List ℕ)
+numbers zero = pure []
+numbers (suc k) = do
+  n ← item
+  l ← numbers k
+  pure (n ∷ l)
+
+module _ {A B : Type 0} (add : B → A → B) (each : Reader A) (end : Reader (Unit {0})) where
+  -- items up to what ends them, added to those before; fuel bounds how many
+  unfoldable pub manyWithin : ℕ → B → Reader B
+  manyWithin zero l s = none
+  manyWithin (suc fuel) l s =
+      either ((end >> pure l) s) ((each >>= λ a. manyWithin fuel (add l a)) s)
+
+  -- each takes a byte or more
+  abbrev pub many : B → Reader B
+  many l s = manyWithin (suc (length s)) l s
+
+abbrev pub snoc : List ℕ → ℕ → List ℕ
+snoc l v = l ++ (v ∷ [])
+
 -- the values of open, up to their bracket
 unfoldable pub values : Reader (List ℕ)
 values s =
-    elim (close s)
-    [ some (_, r) ↦ some ([], r)
-    | none ↦ onward (number s) (λ v. many (λ l v. l ++ (v ∷ [])) (space >> number) close (v ∷ []))
-    ]
+    either ((close >> pure []) s)
+    ((number >>= λ v. many snoc item close (v ∷ [])) s)
 
 -- (open N V B (values)) and its line's end
 unfoldable pub opening : Reader Opening

@@ -60,8 +60,9 @@ fn keyword(s: &[u8], at: usize) -> Word
 }
 
 // A form's word, and its numbers stored.
-fn head(s: &[u8], at: usize, out: &mut [u32; 4]) -> Start
+fn head(s: &[u8], at: usize, out: &mut [u32]) -> Start
     requires { ⌜ at ≤ length (now s) ⌝ }
+    requires { ⌜ 4 ≤ length (now out) ⌝ }
     ensures { λ r. ⌜ HeadIs (now (s .entry)) at (now (out .exit)) r ⌝ }
 {
     let word = keyword(s, at);
@@ -76,11 +77,13 @@ fn head(s: &[u8], at: usize, out: &mut [u32; 4]) -> Start
 }
 
 // Keeps a form of five words and one action of it, if there is room for the action.
-fn keep(forms: &mut [u32], f: usize, actions: &mut [u32], n: usize, kind: u32, numbers: &[u32; 4]) -> Kept
+fn keep(forms: &mut [u32], f: usize, actions: &mut [u32], n: usize, kind: u32, numbers: &[u32]) -> Kept
     requires { ⌜ 5 * f + 5 ≤ length (now forms) ⌝ }
     requires { ⌜ f < 65536 ⌝ }
     requires { ⌜ n ≤ length (now actions) ⌝ }
+    requires { ⌜ 4 ≤ length (now numbers) ⌝ }
     ensures { λ r. ⌜ Stands (now (forms .entry)) (now (forms .exit)) (now (actions .entry)) (now (actions .exit)) f n r 1 (acted kind (now (numbers .entry)) ∷ []) ⌝ }
+    ensures { λ r. ⌜ r .forms ≤ f + 1 ⌝ }
 {
     if actions.len() <= n {
         return Kept { over: true, forms: f, actions: n };
@@ -113,9 +116,11 @@ fn repeat(words: &mut [u32], n: usize, m: usize, c: usize) -> usize
 
 // What is kept of forms that were read once, from f and n on, and stand c times. None of them where c is 0.
 fn again(actions: &mut [u32], f: usize, n: usize, c: u32, once: Kept) -> Kept
+    requires { ⌜ f ≤ once .forms ⌝ }
     requires { ⌜ (n ≤ once .actions) × (once .actions ≤ length (now actions)) ⌝ }
     requires { ⌜ length (now actions) ≤ 65535 ⌝ }
-    ensures { λ r. ⌜ ((F F′ A : List ℕ) (k : ℕ) (l : List Act) → Stands F F′ A (now (actions .entry)) f n once k l → Stands F F′ A (now (actions .exit)) f n r (c * k) (times c l)) ⌝ }
+    ensures { λ r. ⌜ ((F F′ A : List ℕ) (k : ℕ) (l : List Act) → length A ≡ length (now (actions .entry)) → Stands F F′ A (now (actions .entry)) f n once k l → Stands F F′ A (now (actions .exit)) f n r (c * k) (times c l)) ⌝ }
+    ensures { λ r. ⌜ r .forms ≤ once .forms ⌝ }
 {
     if c == 0 {
         return Kept { over: false, forms: f, actions: n };

@@ -41,12 +41,8 @@ fn values(s: &[u8], at: usize, out: &mut [u32]) -> Listed
         if let Place::At(next) = end {
             return Listed::Read(n, next);
         }
-        let gap = items::space(s, i);
-        let Place::At(b) = gap else {
-            return Listed::Wrong;
-        };
-        let item = text::number(s, b);
-        let Numeral::Read(w, next) = item else {
+        let read = items::item(s, i);
+        let Numeral::Read(w, next) = read else {
             return Listed::Wrong;
         };
         out[n] = w;

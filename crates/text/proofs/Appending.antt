@@ -1,11 +1,11 @@
 -- Laws of text appended to a buffer.
 use mathlib.Core.Path.{_≡_, refl, sym, ap, _∙_}
-use mathlib.Core.List.{List, [], _∷_, _++_, append-assoc, append-nil}
-use Prim.Native.Nat.{ℕ, suc, _+_, _≤_, _<_}
+use mathlib.Core.List.{List, [], _∷_, _++_, append-assoc, append-nil, append-cancel-left}
+use Prim.Native.Nat.{ℕ, suc, _+_, _-_, _≤_, _<_}
 use native.Mathlib.Numerals.{add-one}
 use native.Mathlib.Omega.{arith}
-use lib.ListN.{length, take, getD, set, length-append}
-use lib.Seq.{take-suc-set, take-suc}
+use lib.ListN.{length, take, drop, getD, set, length-append}
+use lib.Seq.{take-suc-set, take-suc, take-take, take-at, take-add, length-take-le}
 use Rattle.text.specs.Append.{Appended}
 
 -- nothing appended
@@ -29,3 +29,18 @@ more {o} {o₀} t at i x h k =
     let e : take (i + 1) t ≡ take i t ++ (getD t i 0 ∷ []) = rw add-one (take-suc t i 0 k) in
     let a : at + (i + 1) ≡ at + i + 1 = omega arith in
     rw (e, a) (then x (one o (at + i) (getD t i 0) h))
+
+-- what stood before is still there
+pub front : {o p : List ℕ} {at r : ℕ} {t : List ℕ} → at ≤ length o → Appended o p at r t → Appended o p at at []
+front {o} {p} {at} {r} {t} h x = record {
+      words = sym (take-take at r p (omega (arith, x .next))) ∙ ap (take at) (x .words) ∙ take-at (take at o) t at (length-take-le at o h) ∙ sym (append-nil (take at o));
+      next = omega arith
+    }
+
+-- the text alone
+pub behind : {o p : List ℕ} {at r : ℕ} {t : List ℕ} → at ≤ length o → Appended o p at r t → take (r - at) (drop at p) ≡ t
+behind {o} {p} {at} {r} {t} h x =
+    let e : at + (r - at) ≡ r = omega (arith, x .next) in
+    append-cancel-left (take at o) (take (r - at) (drop at p)) t
+    (ap (λ (l : List ℕ). l ++ take (r - at) (drop at p)) (sym (front h x .words ∙ append-nil (take at o)))
+        ∙ sym (take-add at (r - at) p) ∙ ap (λ (k : ℕ). take k p) e ∙ x .words)

@@ -91,8 +91,8 @@ module _ (s : List ℕ) (at : ℕ) where
   pub place-no : (p : Reader (Unit {0})) (m : ℕ) {r : Place} → r ≡ place.Nowhere → PlaceIs p s at m r → p (drop at s) ≡ none
   place-no p m q x = subst (PlaceIs p s at m) q x
 
-  pub number-at : {r : Numeral} {v next : ℕ} → r ≡ numeral.Read v next → NumeralIs s at r → Reads number s at 1 v next
-  number-at q x = subst (NumeralIs s at) q x
+  pub number-at : (p : Reader ℕ) (m : ℕ) {r : Numeral} {v next : ℕ} → r ≡ numeral.Read v next → NumeralIs p s at m r → Reads p s at m v next
+  number-at p m q x = subst (NumeralIs p s at m) q x
 
-  pub number-no : {r : Numeral} → r ≡ numeral.Absent → NumeralIs s at r → number (drop at s) ≡ none
-  number-no q x = subst (NumeralIs s at) q x
+  pub number-no : (p : Reader ℕ) (m : ℕ) {r : Numeral} → r ≡ numeral.Absent → NumeralIs p s at m r → p (drop at s) ≡ none
+  number-no p m q x = subst (NumeralIs p s at m) q x

@@ -4,7 +4,7 @@ use mathlib.Core.List.{List}
 use mathlib.Core.Option.{none}
 use Prim.Native.Nat.{ℕ}
 use lib.ListN.{drop}
-use Rattle.text.specs.Readers.{Reader, Reads, number}
+use Rattle.text.specs.Readers.{Reader, Reads}
 use Rattle.text.specs.declared.Place.{Place}
 use Rattle.text.specs.declared.Place.the-variants as place
 use Rattle.text.specs.declared.Numeral.{Numeral}
@@ -15,6 +15,6 @@ abbrev pub PlaceIs : Reader (Unit {0}) → List ℕ → (at long : ℕ) → Plac
 PlaceIs p s at long place.Nowhere = p (drop at s) ≡ none
 PlaceIs p s at long (place.At next) = Reads p s at long tt next
 
-abbrev pub NumeralIs : List ℕ → ℕ → Numeral → Type 0
-NumeralIs s at numeral.Absent = number (drop at s) ≡ none
-NumeralIs s at (numeral.Read v next) = Reads number s at 1 v next
+abbrev pub NumeralIs : Reader ℕ → List ℕ → (at long : ℕ) → Numeral → Type 0
+NumeralIs p s at long numeral.Absent = p (drop at s) ≡ none
+NumeralIs p s at long (numeral.Read v next) = Reads p s at long v next

@@ -4,7 +4,7 @@ ghost use Prim.Native.Nat.{_+_, _≤_};
 ghost use lib.ListN.{length};
 ghost use Rattle.text.specs.Bytes.{digits as «digitsOf», decimal};
 ghost use Rattle.text.specs.Append.{Appended};
-ghost use Rattle.text.specs.Readers.{word as «wordOf»};
+ghost use Rattle.text.specs.Readers.{word as «wordOf», number as «numberOf»};
 ghost use Rattle.text.specs.Answers.{PlaceIs, NumeralIs};
 
 // The place after what was looked for.
@@ -84,7 +84,7 @@ fn wide(x: u8) -> u64
 
 // The number that starts at `at`.
 pub fn number(s: &[u8], at: usize) -> Numeral
-    ensures { λ r. ⌜ NumeralIs (now (s .entry)) at r ⌝ }
+    ensures { λ r. ⌜ NumeralIs «numberOf» (now (s .entry)) at 1 r ⌝ }
 {
     if s.len() <= at {
         return Numeral::Absent;

@@ -1,10 +1,14 @@
 use borrow.Author.Needs.{needs}
 use native.Mathlib.Omega.{arith}
+use Rattle.session_reader.specs.Session.{reading, swapping, stepping, repeating, keyword}
+use Rattle.text.proofs.Reading.{place-at, place-no}
+use Rattle.text.specs.Readers as readers
+use Rattle.text.specs.Bytes.{bytes}
+use Prim.Native.Nat.{ℕ}
+use mathlib.Core.List.{List}
+use mathlib.Core.Path.{refl}
 use Rattle.session_reader.proofs.forms.keyword.Statement.{statement}
 use Rattle.session_reader.proofs.forms.keyword.Tie as tie
-use Rattle.session_reader.proofs.forms.keyword.Reads as reads
-use Rattle.session_reader.proofs.forms.keyword.Lts as lts
-use Rattle.text.proofs.starts_with.Reads as starts-with-reads
 
 slice-aggregate-starts-with : tie.Need-slice-aggregate-starts-with
 slice-aggregate-starts-with c = search needs
@@ -16,7 +20,8 @@ enum-known-read : tie.Need-enum-known-read
 enum-known-read c = search needs
 
 returns : tie.Need-returns
-returns c = search needs
+unfolding keyword
+returns c = let a = c .before .before .before .before .before .before .args in let x = place-at a.s.now a.at (readers.word (bytes "(read")) 5 (c .before .read .given .1) (c .before .before .before .starts-with .ensures) in (reading, refl, refl, record { finds = rw (x .finds); past = omega (arith, x .past); within = x .within })
 
 enum-told : tie.Need-enum-told
 enum-told c = search needs
@@ -31,7 +36,8 @@ enum-known-swap : tie.Need-enum-known-swap
 enum-known-swap c = search needs
 
 returns-2 : tie.Need-returns-2
-returns-2 c = search needs
+unfolding keyword
+returns-2 c = let a = c .before .before .before .before .before .before .before .before .before .before .args in let x = place-at a.s.now a.at (readers.word (bytes "(swap")) 5 (c .before .swap .given .1) (c .before .before .before .starts-with2 .ensures) in (swapping, refl, refl, record { finds = rw (place-no a.s.now a.at (readers.word (bytes "(read")) 5 (c .before .before .before .before .before .enum-told .given .1) (c .before .before .before .before .before .before .before .starts-with .ensures), x .finds); past = omega (arith, x .past); within = x .within })
 
 enum-told-2 : tie.Need-enum-told-2
 enum-told-2 c = search needs
@@ -46,7 +52,8 @@ enum-known-step : tie.Need-enum-known-step
 enum-known-step c = search needs
 
 returns-3 : tie.Need-returns-3
-returns-3 c = search needs
+unfolding keyword
+returns-3 c = let a = c .before .before .before .before .before .before .before .before .before .before .before .before .before .before .args in let x = place-at a.s.now a.at (readers.word (bytes "(step")) 5 (c .before .step .given .1) (c .before .before .before .starts-with3 .ensures) in (stepping, refl, refl, record { finds = rw (place-no a.s.now a.at (readers.word (bytes "(read")) 5 (c .before .before .before .before .before .before .before .before .before .enum-told .given .1) (c .before .before .before .before .before .before .before .before .before .before .before .starts-with .ensures), place-no a.s.now a.at (readers.word (bytes "(swap")) 5 (c .before .before .before .before .before .enum-told2 .given .1) (c .before .before .before .before .before .before .before .starts-with2 .ensures), x .finds); past = omega (arith, x .past); within = x .within })
 
 enum-told-3 : tie.Need-enum-told-3
 enum-told-3 c = search needs
@@ -61,13 +68,15 @@ enum-known-again : tie.Need-enum-known-again
 enum-known-again c = search needs
 
 returns-4 : tie.Need-returns-4
-returns-4 c = search needs
+unfolding keyword
+returns-4 c = let a = c .before .before .before .before .before .before .before .before .before .before .before .before .before .before .before .before .before .before .args in let x = place-at a.s.now a.at (readers.word (bytes "(again")) 6 (c .before .again .given .1) (c .before .before .before .starts-with4 .ensures) in (repeating, refl, refl, record { finds = rw (place-no a.s.now a.at (readers.word (bytes "(read")) 5 (c .before .before .before .before .before .before .before .before .before .before .before .before .before .enum-told .given .1) (c .before .before .before .before .before .before .before .before .before .before .before .before .before .before .before .starts-with .ensures), place-no a.s.now a.at (readers.word (bytes "(swap")) 5 (c .before .before .before .before .before .before .before .before .before .enum-told2 .given .1) (c .before .before .before .before .before .before .before .before .before .before .before .starts-with2 .ensures), place-no a.s.now a.at (readers.word (bytes "(step")) 5 (c .before .before .before .before .before .enum-told3 .given .1) (c .before .before .before .before .before .before .before .starts-with3 .ensures), x .finds); past = omega (arith, x .past); within = x .within })
 
 enum-told-4 : tie.Need-enum-told-4
 enum-told-4 c = search needs
 
 returns-5 : tie.Need-returns-5
-returns-5 c = search needs
+unfolding keyword
+returns-5 c = let a = c .before .before .before .before .before .before .before .before .before .before .before .before .before .before .before .before .before .args in rw (place-no a.s.now a.at (readers.word (bytes "(read")) 5 (c .before .before .before .before .before .before .before .before .before .before .before .before .enum-told .given .1) (c .before .before .before .before .before .before .before .before .before .before .before .before .before .before .starts-with .ensures), place-no a.s.now a.at (readers.word (bytes "(swap")) 5 (c .before .before .before .before .before .before .before .before .enum-told2 .given .1) (c .before .before .before .before .before .before .before .before .before .before .starts-with2 .ensures), place-no a.s.now a.at (readers.word (bytes "(step")) 5 (c .before .before .before .before .enum-told3 .given .1) (c .before .before .before .before .before .before .starts-with3 .ensures), place-no a.s.now a.at (readers.word (bytes "(again")) 6 (c .enum-told4 .given .1) (c .before .before .starts-with4 .ensures))
 
 pub keyword-spec : {M : Type 1} → statement M
 keyword-spec =
