@@ -4,6 +4,19 @@ use Prim.Native.Nat.{ℕ, _+_, _*_, _≤_, _<_}
 use lib.ListN.{length, take, getD}
 use Rattle.session_reader.specs.declared.Reading.{Reading}
 use Rattle.session_reader.specs.declared.Reading.the-variants as reading
+use Rattle.session_reader.specs.declared.opening.Listed.{Listed}
+use Rattle.session_reader.specs.declared.opening.Listed.the-variants as listed
+use Rattle.session_reader.specs.declared.opening.Opened.{Opened}
+use Rattle.session_reader.specs.declared.opening.Opened.the-variants as opened
+
+-- the count of values fits their buffer
+abbrev pub ListedWithin : (room : ℕ) → Listed → Type 0
+ListedWithin m listed.Wrong = Unit {0}
+ListedWithin m (listed.Read n next) = n ≤ m
+
+abbrev pub OpenedWithin : (room : ℕ) → Opened → Type 0
+OpenedWithin m opened.Wrong = Unit {0}
+OpenedWithin m (opened.Read t c b n next) = n ≤ m
 
 -- each of the actions numbers a form of a table of so many words
 abbrev pub Named : (words : ℕ) → (actions : List ℕ) → Type 0

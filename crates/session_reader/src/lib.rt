@@ -9,6 +9,7 @@ ghost use Prim.Native.Nat.{_*_, _≤_};
 ghost use lib.ListN.{length};
 ghost use Rattle.session_reader.specs.Session.{verdict};
 ghost use Rattle.session_reader.specs.Reading.{verdictOf, judged};
+ghost use Rattle.session_reader.specs.Kept.{Within};
 
 pub enum Reading {
     // The question's number; 0 for buffers of other sizes.
@@ -32,6 +33,7 @@ fn read(file: &[u8], values: &mut [u32], kept: &mut [u32], actions: &mut [u32]) 
     requires { ⌜ length (now kept) ≡ 40960 ⌝ }
     requires { ⌜ length (now actions) ≡ 65535 ⌝ }
     ensures { λ r. ⌜ verdictOf r (now (values .exit)) (now (kept .exit)) (now (actions .exit)) ≡ verdict (now (file .entry)) ⌝ }
+    ensures { λ r. ⌜ Within r (now (values .exit)) (now (kept .exit)) (now (actions .exit)) ⌝ }
 {
     if 65536 < file.len() {
         return Reading::Bad(12);
@@ -63,6 +65,7 @@ fn read(file: &[u8], values: &mut [u32], kept: &mut [u32], actions: &mut [u32]) 
 // the number of its form, are left in the buffers.
 pub fn read_session(file: &[u8], values: &mut [u32], forms: &mut [u32], actions: &mut [u32]) -> Reading
     ensures { λ r. ⌜ verdictOf r (now (values .exit)) (now (forms .exit)) (now (actions .exit)) ≡ judged (length (now (values .entry))) (length (now (forms .entry))) (length (now (actions .entry))) (now (file .entry)) ⌝ }
+    ensures { λ r. ⌜ Within r (now (values .exit)) (now (forms .exit)) (now (actions .exit)) ⌝ }
 {
     if values.len() != VALUES {
         return Reading::Bad(0);

@@ -6,6 +6,7 @@ ghost use mathlib.Core.Path.{_≡_};
 ghost use Prim.Native.Nat.{_+_, _*_, _≤_};
 ghost use lib.ListN.{length};
 ghost use Rattle.session_reader.specs.Answers.{ValuesAre, OpenedIs};
+ghost use Rattle.session_reader.specs.Kept.{ListedWithin, OpenedWithin};
 
 // How many values, and the place after their bracket.
 pub enum Listed {
@@ -24,6 +25,7 @@ fn values(s: &[u8], at: usize, out: &mut [u32]) -> Listed
     requires { ⌜ (1 ≤ at) × (at ≤ length (now s)) ⌝ }
     requires { ⌜ length (now s) ≤ 2 * length (now out) ⌝ }
     ensures { λ r. ⌜ ValuesAre (now (s .entry)) at (now (out .exit)) r ⌝ }
+    ensures { λ r. ⌜ ListedWithin (length (now (out .exit))) r ⌝ }
 {
     let shut = items::close(s, at);
     if let Place::At(next) = shut {
@@ -54,6 +56,7 @@ fn values(s: &[u8], at: usize, out: &mut [u32]) -> Listed
 pub fn opening(s: &[u8], out: &mut [u32]) -> Opened
     requires { ⌜ length (now s) ≤ 2 * length (now out) ⌝ }
     ensures { λ r. ⌜ OpenedIs (now (s .entry)) (now (out .exit)) r ⌝ }
+    ensures { λ r. ⌜ OpenedWithin (length (now (out .exit))) r ⌝ }
 {
     let word = text::starts_with(s, 0, b"(open");
     let Place::At(a) = word else {

@@ -9,6 +9,7 @@ use borrow.Author.Tests.{le-leb, lt-leb, eq-eqb}
 use lib.ListN.{length, take, drop, getD, replicate, drop-of-length-le, length-map, length-take, length-replicate}
 use lib.Seq.{length-take-le}
 use lib.Dec.{leb}
+use Rattle.io.specs.Counts.{Counts}
 use Rattle.text.specs.Append.{Appended}
 use Rattle.cells.specs.declared.State.{State}
 use Rattle.cells.specs.declared.Finished.{Finished}
@@ -107,5 +108,7 @@ module _ (s : List ℕ) where
   room-no n h = rw (lt-leb 4400000 n h)
 
 -- what is appended from the start lies within the buffer
-pub fits : {old new : List ℕ} {r : ℕ} {t : List ℕ} → Appended old new 0 r t → r ≤ length new
-fits {old} {new} {r} x = omega (arith, length-take r new, ap length (x .words), x .next)
+pub counts : {old new : List ℕ} {r : ℕ} {t : List ℕ} → Appended old new 0 r t → Counts r new
+counts {old} {new} {r} x =
+    let h : r ≤ length new = omega (arith, length-take r new, ap length (x .words), x .next) in
+    (h, sym (length-take-le r new h))

@@ -11,6 +11,7 @@ ghost use mathlib.Core.Path.{_≡_};
 ghost use mathlib.Core.List.{map};
 ghost use Prim.Native.Nat.{_≤_};
 ghost use lib.ListN.{length, take, replicate};
+ghost use Rattle.io.specs.Counts.{Counts};
 ghost use Rattle.text.specs.Append.{Appended};
 ghost use Rattle.cells.specs.Open.{opened};
 ghost use Rattle.session_reader.specs.Session.{Opening};
@@ -166,7 +167,7 @@ fn action_space() -> [u32; 65535]
 // Prints what a session file prints at the start of out, and returns its length; nothing where out has no ROOM.
 pub fn run_session(file: &[u8], out: &mut [u8]) -> usize
     ensures { λ r. ⌜ take r (now (out .exit)) ≡ printedWithin (length (now (out .entry))) (now (file .entry)) ⌝ }
-    ensures { λ r. ⌜ r ≤ length (now (out .exit)) ⌝ }
+    ensures { λ r. ⌜ Counts r (now (out .exit)) ⌝ }
 {
     if out.len() < ROOM {
         return 0;

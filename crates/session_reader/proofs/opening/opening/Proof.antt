@@ -22,7 +22,7 @@ starts : (c : tie.After-start) → Reads (word (bytes " (")) (c .before .before 
 starts c = place-at (c .before .before .before .before .before .before .before .before .before .before .before .before .before .before .before .before .before .args .s .now) _ (word (bytes " (")) 2 (c .start .given .1) (c .before .before .starts-with2 .ensures)
 
 listed : (c : tie.After-read) → Reads values (c .before .before .before .before .before .before .before .before .before .before .before .before .before .before .before .before .before .before .before .before .before .before .before .before .args .s .now) (c .before .before .before .before .before .before .before .start .given .0 .0) 1 (take (c .read .given .0 .0) (c .before .before .before .before .values .last .1 .1 .0)) (c .read .given .0 .1 .0)
-listed c = values-at (c .before .before .before .before .before .before .before .before .before .before .before .before .before .before .before .before .before .before .before .before .before .before .before .before .args .s .now) _ (c .before .before .before .before .values .last .1 .1 .0) (c .read .given .1) (c .before .before .before .before .values .ensures)
+listed c = values-at (c .before .before .before .before .before .before .before .before .before .before .before .before .before .before .before .before .before .before .before .before .before .before .before .before .args .s .now) _ (c .before .before .before .before .values .last .1 .1 .0) (c .read .given .1) (c .before .before .before .before .values .ensures .0)
 
 slice-aggregate-starts-with : tie.Need-slice-aggregate-starts-with
 slice-aggregate-starts-with c = search needs
@@ -38,7 +38,7 @@ enum-told c = search needs
 
 returns : tie.Need-returns
 unfolding opening
-returns c = rw (place-no (c .before .before .before .before .before .before .args .s .now) 0 (word (bytes "(open")) 5 (c .enum-told .given .1) (c .before .before .starts-with .ensures))
+returns c = (rw (place-no (c .before .before .before .before .before .before .args .s .now) 0 (word (bytes "(open")) 5 (c .enum-told .given .1) (c .before .before .starts-with .ensures)), tt)
 
 slice-aggregate-numbers : tie.Need-slice-aggregate-numbers
 slice-aggregate-numbers c = search needs
@@ -54,7 +54,7 @@ enum-told-2 c = search needs
 
 returns-2 : tie.Need-returns-2
 unfolding opening
-returns-2 c = rw (opens (c .before .before .before .before .before .before) .finds, numbers-no (c .before .before .before .before .before .before .before .before .before .before .before .before .args .s .now) _ 3 (c .before .before .before .numbers .last .1 .1 .1 .0) (c .enum-told2 .given .1) (c .before .before .before .numbers .ensures))
+returns-2 c = (rw (opens (c .before .before .before .before .before .before) .finds, numbers-no (c .before .before .before .before .before .before .before .before .before .before .before .before .args .s .now) _ 3 (c .before .before .before .numbers .last .1 .1 .1 .0) (c .enum-told2 .given .1) (c .before .before .before .numbers .ensures)), tt)
 
 slice-aggregate-starts-with-2 : tie.Need-slice-aggregate-starts-with-2
 slice-aggregate-starts-with-2 c = search needs
@@ -70,7 +70,7 @@ enum-told-3 c = search needs
 
 returns-3 : tie.Need-returns-3
 unfolding opening
-returns-3 c = rw (opens (c .before .before .before .before .before .before .before .before .before .before .before) .finds, three (c .before .before .before .before .before) .finds, place-no (c .before .before .before .before .before .before .before .before .before .before .before .before .before .before .before .before .before .args .s .now) _ (word (bytes " (")) 2 (c .enum-told3 .given .1) (c .before .before .starts-with2 .ensures))
+returns-3 c = (rw (opens (c .before .before .before .before .before .before .before .before .before .before .before) .finds, three (c .before .before .before .before .before) .finds, place-no (c .before .before .before .before .before .before .before .before .before .before .before .before .before .before .before .before .before .args .s .now) _ (word (bytes " (")) 2 (c .enum-told3 .given .1) (c .before .before .starts-with2 .ensures)), tt)
 
 values-requires : tie.Need-values-requires
 values-requires c κs = ((omega (arith, starts (c .before .before) .past), starts (c .before .before) .within), search needs)
@@ -86,7 +86,7 @@ same-length c = search needs
 
 returns-4 : tie.Need-returns-4
 unfolding opening
-returns-4 c = rw (opens (c .before .before .before .before .before .before .before .before .before .before .before .before .before .before .before .before .before .before) .finds, three (c .before .before .before .before .before .before .before .before .before .before .before .before) .finds, starts (c .before .before .before .before .before .before .before) .finds, values-no (c .before .before .before .before .before .before .before .before .before .before .before .before .before .before .before .before .before .before .before .before .before .before .before .before .args .s .now) _ (c .before .before .before .before .values .last .1 .1 .0) (c .enum-told4 .given .1) (c .before .before .before .before .values .ensures))
+returns-4 c = (rw (opens (c .before .before .before .before .before .before .before .before .before .before .before .before .before .before .before .before .before .before) .finds, three (c .before .before .before .before .before .before .before .before .before .before .before .before) .finds, starts (c .before .before .before .before .before .before .before) .finds, values-no (c .before .before .before .before .before .before .before .before .before .before .before .before .before .before .before .before .before .before .before .before .before .before .before .before .args .s .now) _ (c .before .before .before .before .values .last .1 .1 .0) (c .enum-told4 .given .1) (c .before .before .before .before .values .ensures .0)), tt)
 
 slice-aggregate-starts-with-3 : tie.Need-slice-aggregate-starts-with-3
 slice-aggregate-starts-with-3 c = search needs
@@ -105,7 +105,7 @@ same-length-2 c = search needs
 
 returns-5 : tie.Need-returns-5
 unfolding opening
-returns-5 c = rw (opens (c .before .before .before .before .before .before .before .before .before .before .before .before .before .before .before .before .before .before .before .before .before .before .before) .finds, three (c .before .before .before .before .before .before .before .before .before .before .before .before .before .before .before .before .before) .finds, starts (c .before .before .before .before .before .before .before .before .before .before .before .before) .finds, listed (c .before .before .before .before .before) .finds, place-no (c .before .before .before .before .before .before .before .before .before .before .before .before .before .before .before .before .before .before .before .before .before .before .before .before .before .before .before .before .before .args .s .now) _ (word (bytes ")\n")) 2 (c .enum-told5 .given .1) (c .before .before .starts-with3 .ensures))
+returns-5 c = (rw (opens (c .before .before .before .before .before .before .before .before .before .before .before .before .before .before .before .before .before .before .before .before .before .before .before) .finds, three (c .before .before .before .before .before .before .before .before .before .before .before .before .before .before .before .before .before) .finds, starts (c .before .before .before .before .before .before .before .before .before .before .before .before) .finds, listed (c .before .before .before .before .before) .finds, place-no (c .before .before .before .before .before .before .before .before .before .before .before .before .before .before .before .before .before .before .before .before .before .before .before .before .before .before .before .before .before .args .s .now) _ (word (bytes ")\n")) 2 (c .enum-told5 .given .1) (c .before .before .starts-with3 .ensures)), tt)
 
 array-read-t30 : tie.Need-array-read-t30
 array-read-t30 c = search needs
@@ -120,7 +120,7 @@ same-length-3 : tie.Need-same-length-3
 same-length-3 c = search needs
 
 returns-6 : tie.Need-returns-6
-returns-6 c = opening-at (c .before .before .before .before .before .before .before .before .before .before .before .before .before .before .before .before .before .before .before .before .before .before .before .before .before .before .before .before .before .before .args .s .now) (c .before .before .before .before .before .before .before .before .before .before .before .before .before .before .before .before .before .before .before .before .before .numbers .last .1 .1 .1 .0) (opens (c .before .before .before .before .before .before .before .before .before .before .before .before .before .before .before .before .before .before .before .before .before .before .before .before)) (three (c .before .before .before .before .before .before .before .before .before .before .before .before .before .before .before .before .before .before)) (starts (c .before .before .before .before .before .before .before .before .before .before .before .before .before)) (listed (c .before .before .before .before .before .before)) (place-at (c .before .before .before .before .before .before .before .before .before .before .before .before .before .before .before .before .before .before .before .before .before .before .before .before .before .before .before .before .before .before .args .s .now) _ (word (bytes ")\n")) 2 (c .before .end .given .1) (c .before .before .before .starts-with3 .ensures))
+returns-6 c = (opening-at (c .before .before .before .before .before .before .before .before .before .before .before .before .before .before .before .before .before .before .before .before .before .before .before .before .before .before .before .before .before .before .args .s .now) (c .before .before .before .before .before .before .before .before .before .before .before .before .before .before .before .before .before .before .before .before .before .numbers .last .1 .1 .1 .0) (opens (c .before .before .before .before .before .before .before .before .before .before .before .before .before .before .before .before .before .before .before .before .before .before .before .before)) (three (c .before .before .before .before .before .before .before .before .before .before .before .before .before .before .before .before .before .before)) (starts (c .before .before .before .before .before .before .before .before .before .before .before .before .before)) (listed (c .before .before .before .before .before .before)) (place-at (c .before .before .before .before .before .before .before .before .before .before .before .before .before .before .before .before .before .before .before .before .before .before .before .before .before .before .before .before .before .before .args .s .now) _ (word (bytes ")\n")) 2 (c .before .end .given .1) (c .before .before .before .starts-with3 .ensures)), rw (c .before .before .before .before .before .before .read .given .1) at (c .before .before .before .before .before .before .before .before .before .before .values .ensures .1))
 
 pub opening-spec : {M : Type 1} → statement M
 opening-spec =

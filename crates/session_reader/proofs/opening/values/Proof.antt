@@ -25,7 +25,7 @@ enum-known-shut : tie.Need-enum-known-shut Inv-loop μ-loop
 enum-known-shut c = search needs
 
 returns : tie.Need-returns Inv-loop μ-loop
-returns c = let a = c .before .before .before .before .before .before .args in let x = place-at a.s.now a.at specs.close 1 (c .before .shut .given .1) (c .before .before .before .close .ensures) in record { finds = values-none a.s.now a.at x; past = x .past; within = x .within }
+returns c = let a = c .before .before .before .before .before .before .args in let x = place-at a.s.now a.at specs.close 1 (c .before .shut .given .1) (c .before .before .before .close .ensures) in (record { finds = values-none a.s.now a.at x; past = x .past; within = x .within }, omega arith)
 
 enum-told : tie.Need-enum-told Inv-loop μ-loop
 enum-told c = search needs
@@ -40,7 +40,7 @@ enum-told-2 : tie.Need-enum-told-2 Inv-loop μ-loop
 enum-told-2 c = search needs
 
 returns-2 : tie.Need-returns-2 Inv-loop μ-loop
-returns-2 c = let a = c .before .before .before .before .before .before .before .before .args in values-wrong a.s.now a.at (place-no a.s.now a.at specs.close 1 (c .before .before .before .enum-told .given .1) (c .before .before .before .before .before .close .ensures)) (number-no a.s.now a.at number 1 (c .enum-told2 .given .1) (c .before .before .number .ensures))
+returns-2 c = let a = c .before .before .before .before .before .before .before .before .args in (values-wrong a.s.now a.at (place-no a.s.now a.at specs.close 1 (c .before .before .before .enum-told .given .1) (c .before .before .before .before .before .close .ensures)) (number-no a.s.now a.at number 1 (c .enum-told2 .given .1) (c .before .before .number .ensures)), tt)
 
 slice-write-out : tie.Need-slice-write-out Inv-loop μ-loop
 slice-write-out c = let a = c .before .before .before .before .before .before .before .before .before .args in let x = number-at a.s.now a.at number 1 (c .before .first .given .1) (c .before .before .before .number .ensures) in omega (arith, x .past, x .within)
@@ -58,7 +58,7 @@ same-length : tie.Need-same-length Inv-loop μ-loop
 same-length c = c .before .before .before .before .loop .inv .2 ∙ simp length-set
 
 returns-3 : tie.Need-returns-3 Inv-loop μ-loop
-returns-3 c = let l = c .before .before .before .before .loop in let a = c .before .before .before .before .before .before .before .before .before .before .before .before .before .before .args in let x = place-at a.s.now l.i specs.close 1 (c .before .end .given .1) (c .before .before .before .close2 .ensures) in record { finds = turn-end specs.snoc specs.item specs.close (l.inv .3) (x .finds); past = omega (arith, x .past, l.inv .3 .from, l.inv .0); within = x .within }
+returns-3 c = let l = c .before .before .before .before .loop in let a = c .before .before .before .before .before .before .before .before .before .before .before .before .before .before .args in let same : length l.out ≡ length a.out.now = l.inv .2 ∙ simp length-set in let x = place-at a.s.now l.i specs.close 1 (c .before .end .given .1) (c .before .before .before .close2 .ensures) in (record { finds = turn-end specs.snoc specs.item specs.close (l.inv .3) (x .finds); past = omega (arith, x .past, l.inv .3 .from, l.inv .0); within = x .within }, omega (arith, l.inv .1, l.inv .3 .within, same))
 
 enum-told-3 : tie.Need-enum-told-3 Inv-loop μ-loop
 enum-told-3 c = search needs
@@ -76,7 +76,7 @@ same-length-2 : tie.Need-same-length-2 Inv-loop μ-loop
 same-length-2 c = c .before .before .before .before .before .before .loop .inv .2 ∙ simp length-set
 
 returns-4 : tie.Need-returns-4 Inv-loop μ-loop
-returns-4 c = let l = c .before .before .before .before .before .before .loop in let a = c .before .before .before .before .before .before .before .before .before .before .before .before .before .before .before .before .args in turn-stop specs.snoc specs.item specs.close (l.inv .3) (place-no a.s.now l.i specs.close 1 (c .before .before .before .enum-told3 .given .1) (c .before .before .before .before .before .close2 .ensures)) (number-no a.s.now l.i specs.item 2 (c .enum-told4 .given .1) (c .before .before .item .ensures))
+returns-4 c = let l = c .before .before .before .before .before .before .loop in let a = c .before .before .before .before .before .before .before .before .before .before .before .before .before .before .before .before .args in (turn-stop specs.snoc specs.item specs.close (l.inv .3) (place-no a.s.now l.i specs.close 1 (c .before .before .before .enum-told3 .given .1) (c .before .before .before .before .before .close2 .ensures)) (number-no a.s.now l.i specs.item 2 (c .enum-told4 .given .1) (c .before .before .item .ensures)), tt)
 
 mul-out : tie.Need-mul-out Inv-loop μ-loop
 mul-out c = search needs
