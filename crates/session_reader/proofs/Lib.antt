@@ -8,3 +8,4 @@ mod Standing
 mod Repeated
 mod Walks
 mod Forming
+pub mod Verdicts
