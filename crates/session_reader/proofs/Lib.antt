@@ -9,3 +9,4 @@ mod Repeated
 mod Walks
 mod Forming
 mod Keeping
+pub mod Verdicts

@@ -59,13 +59,16 @@ module _ {F G A B : List ℕ} {f n : ℕ} {b : Kept} {k : ℕ} {l : List Act} (x
       let g : 5 * f ≤ length F = omega (arith, x .forms .next, x .fits) in
       record { table = []; words = []; forms = front g (x .forms); acts = front low (x .acts); fits = g; room = low; far = h }
 
+  pub spilled : b .over ≡ true → length A < n + k
+  spilled e = rw e at (x .far)
+
   module _ (c : ℕ) where
     pub again-none : c ≡ 0 → Stands F G A B f n (kept false f n) (c * k) (times c l)
     again-none e = rw e (back false (0 * k) (times 0 l) (omega arith, rw (times-none l) untold))
 
     pub again-over : b .over ≡ true → (c ≡ 0 → ⊥) → Stands F G A B f n b (c * k) (times c l)
     again-over e z =
-        let h : length A < n + k = rw e at (x .far) in
+        let h : length A < n + k = spilled e in
         let more : 1 * k ≤ c * k = mul-le-mul-right {m = 1} {n = c} k (omega arith) in
         record {
           table = x .table;

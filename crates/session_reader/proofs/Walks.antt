@@ -5,9 +5,10 @@ use mathlib.Core.List.{List}
 use mathlib.Core.Option.{Option, none, some}
 use Prim.Native.Nat.{ℕ, _+_, _*_, _≤_, _<_}
 use native.Mathlib.Omega.{arith}
-use lib.ListN.{length, drop}
+use lib.ListN.{length, drop, drop-of-length-le}
+use Rattle.text.proofs.Reading.{drop-byte}
 use Rattle.text.specs.Readers.{Reader, Reads}
-use Rattle.session_reader.specs.Session.{Act, Form, Forms, empty, with, many, count, counts, actions, actionsOf}
+use Rattle.session_reader.specs.Session.{Act, Form, Forms, empty, with, many, finish, count, counts, actions, actionsOf}
 use Rattle.session_reader.specs.Answers.{Stands, Ready, GotIs}
 use Rattle.session_reader.specs.declared.forms.Kept.{Kept}
 use Rattle.session_reader.specs.declared.forms.Got.{Got}
@@ -70,3 +71,11 @@ module _ (each : Reader Form) (end : Reader (Unit {0})) (s : List ℕ) (at : ℕ
           turn = turn-more with each end (w .turn) e q h k;
           stands = stands-join (w .same-forms) (w .same-actions) (w .stands) y
         }
+
+-- what ends the lines
+module _ (s : List ℕ) (i : ℕ) where
+  pub finish-no : i < length s → finish (drop i s) ≡ none
+  finish-no h = rw (drop-byte s i h)
+
+  pub finish-at : length s ≤ i → finish (drop i s) ≡ some (tt, drop i s)
+  finish-at h = rw (drop-of-length-le s h)

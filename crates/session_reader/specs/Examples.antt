@@ -6,14 +6,14 @@ use Prim.Native.String.{String}
 use lib.ListN.{replicate}
 use Rattle.text.specs.Bytes.{bytes}
 use Rattle.text.specs.Readers.{word, digitsAfter, number}
-use Rattle.session_reader.specs.Session.{Act, read, swap, step, Verdict, bad, session, fits, deeper, shapedAfter, numbers, manyWithin, values, opening, keyword, head, body, form, line, count, times, actions, counted, formed, verdict}
+use Rattle.session_reader.specs.Session.{Act, read, swap, step, Verdict, bad, session, fits, deeper, shapedAfter, numbers, manyWithin, values, opening, keyword, head, body, form, line, count, times, actions, formed, played, counted, verdict}
 
 -- P1: its opening and 15 actions
 p1 :
     verdict (bytes "(open 2 1 5 (5))\n(swap 0 0 5 7)\n(again 10 (step 0))\n(read 1 0)\n(again 3 (step 1))\n")
     ≡ session (record { tasks = 2; cells = 1; blocks = 5; values = 5 ∷ [] })
     ((swap 0 0 5 7 ∷ replicate 10 (step 0)) ++ (read 1 0 ∷ replicate 3 (step 1)))
-unfolding word digitsAfter number fits deeper shapedAfter numbers manyWithin values opening keyword head body form line count times actions counted formed verdict
+unfolding word digitsAfter number fits deeper shapedAfter numbers manyWithin values opening keyword head body form line count times actions formed played counted verdict
 p1 = refl
 
 -- each file after a first line that opens 1 task, 1 cell and 3 blocks, with its verdict
@@ -46,10 +46,10 @@ judged :
       ("(again 4294967295 (again 4294967295))\n", plays []) ∷
       []
     )
-unfolding word digitsAfter number fits deeper shapedAfter numbers manyWithin values opening keyword head body form line count times actions counted formed verdict
+unfolding word digitsAfter number fits deeper shapedAfter numbers manyWithin values opening keyword head body form line count times actions formed played counted verdict
 judged = (refl, (refl, (refl, (refl, (refl, (refl, (refl, (refl, (refl, (refl, (refl, (refl, (refl, (refl, (refl, (refl, (refl, (refl, tt))))))))))))))))))
 
 -- an empty file has no open
 none-open : verdict [] ≡ bad 14
-unfolding shapedAfter opening word counted formed verdict
+unfolding shapedAfter opening word formed played counted verdict
 none-open = refl

@@ -1,5 +1,5 @@
 -- What the reader answers, as a verdict.
-use mathlib.Core.Bool.{true, false, cond, _&&_}
+use mathlib.Core.Bool.{cond, _&&_}
 use mathlib.Core.List.{List, [], _∷_, map}
 use Prim.Native.Nat.{ℕ, _+_, _*_}
 use lib.Dec.{eqb}
@@ -26,4 +26,4 @@ verdictOf (reading.Session t c b i n) v f a =
 
 -- buffers of other sizes: 0, the number of no question
 unfoldable pub judged : (values forms actions : ℕ) → List ℕ → Verdict
-judged v f a s = elim (eqb v 32768 && (eqb f 40960 && eqb a 65535)) [ true ↦ verdict s | false ↦ bad 0 ]
+judged v f a s = cond (eqb v 32768 && (eqb f 40960 && eqb a 65535)) (verdict s) (bad 0)

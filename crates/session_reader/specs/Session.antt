@@ -203,16 +203,20 @@ unfoldable mutual
   actionsOf empty = []
   actionsOf (with l f) = actionsOf l ++ actions f
 
--- The first no gives its number.
-unfoldable pub counted : Option ((Opening × Forms) × List ℕ) → Verdict
-counted none = bad 14
-counted (some ((o, l), s)) = elim (leb (counts l) 65535) [ true ↦ session o (actionsOf l) | false ↦ bad 15 ]
-
 unfoldable pub formed : Reader (Opening × Forms)
 formed = do
   o ← opening
   l ← lines
   pure (o, l)
 
+-- The first no gives its number.
+unfoldable pub played : Bool → Opening → Forms → Verdict
+played true o l = session o (actionsOf l)
+played false o l = bad 15
+
+unfoldable pub counted : Option ((Opening × Forms) × List ℕ) → Verdict
+counted none = bad 14
+counted (some ((o, l), s)) = played (leb (counts l) 65535) o l
+
 unfoldable pub verdict : List ℕ → Verdict
-verdict s = elim (short s) [ false ↦ bad 12 | true ↦ elim (shaped s) [ false ↦ bad 13 | true ↦ counted (formed s) ] ]
+verdict s = cond (short s) (cond (shaped s) (counted (formed s)) (bad 13)) (bad 12)
