@@ -20,7 +20,6 @@ use Rattle.cells.specs.Questions.{openQuestions}
 use Rattle.cells.proofs.Tests.{nth, answers, within-true}
 use Rattle.cells.proofs.Acts.{acts, open-acts}
 use Rattle.session_reader.specs.Session.{Act, Verdict, verdict}
-use Rattle.session_reader.specs.Reading.{judged}
 use Rattle.session_runner.specs.Lines.{noLine}
 use Rattle.session_runner.specs.Printed.{Totals, totals, taskOf, done, reported, counted, closed, played, started, blank, poolWords, shown, printed, printedWithin}
 
@@ -86,13 +85,6 @@ pool-length {l} {w} e h = let d : length l ≡ 640 = ap length e ∙ length-repl
 
 pub taken : {n m : ℕ} (l : List ℕ) → n ≤ length l → length l ≤ m → length (take n l) ≤ m
 taken {n} {m} l h k = omega (arith, length-take-le n l h)
-
-judged-exact : (s : List ℕ) → judged 32768 40960 65535 s ≡ verdict s
-unfolding judged
-judged-exact s = refl
-
-pub judged-sizes : {v f a : ℕ} (s : List ℕ) → v ≡ 32768 → f ≡ 40960 → a ≡ 65535 → judged v f a s ≡ verdict s
-judged-sizes s d e g = rw (d, e, g) (judged-exact s)
 
 module _ (s : List ℕ) where
   pub printed-as : {v : Verdict} → v ≡ verdict s → shown v ≡ printed s

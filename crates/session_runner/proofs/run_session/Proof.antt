@@ -1,7 +1,8 @@
 use native.Mathlib.Omega.{arith}
 use mathlib.Core.Path.{sym, _∙_}
 use lib.ListN.{length}
-use Rattle.session_runner.proofs.Playing.{printed-as, judged-sizes, room-yes, room-no, counts}
+use Rattle.session_reader.proofs.Verdicts.{right-sizes}
+use Rattle.session_runner.proofs.Playing.{printed-as, room-yes, room-no, counts}
 use borrow.Author.Needs.{needs}
 use Rattle.session_runner.proofs.run_session.Statement.{statement}
 use Rattle.session_runner.proofs.run_session.Tie as tie
@@ -53,7 +54,7 @@ same-length : tie.Need-same-length
 same-length c = search needs
 
 returns-2 : tie.Need-returns-2
-returns-2 c = let s = c .before .before .before .before .before .before .before .before .before .before .before .before .before .before .before .before .before .before .before .before .args .file .now in let p = c .before .before .print .ensures in (p .words ∙ printed-as s (c .before .before .before .before .before .before .before .before .before .before .read-session .ensures .0 ∙ judged-sizes s (c .before .before .before .before .before .before .before .before .before .before .before .before .before .before .before .before .value-space .ensures) (c .before .before .before .before .before .before .before .before .before .before .before .before .before .before .before .form-space .ensures) (c .before .before .before .before .before .before .before .before .before .before .before .before .before .before .action-space .ensures)) ∙ sym (room-yes s (length (c .before .before .before .before .before .before .before .before .before .before .before .before .before .before .before .before .before .before .before .before .args .out .now)) (c .before .before .before .before .before .before .before .before .before .before .before .before .before .before .before .before .before .if1 .left)), counts p)
+returns-2 c = let s = c .before .before .before .before .before .before .before .before .before .before .before .before .before .before .before .before .before .before .before .before .args .file .now in let p = c .before .before .print .ensures in (p .words ∙ printed-as s (c .before .before .before .before .before .before .before .before .before .before .read-session .ensures .0 ∙ right-sizes _ _ _ s (c .before .before .before .before .before .before .before .before .before .before .before .before .before .before .before .before .value-space .ensures) (c .before .before .before .before .before .before .before .before .before .before .before .before .before .before .before .form-space .ensures) (c .before .before .before .before .before .before .before .before .before .before .before .before .before .before .action-space .ensures)) ∙ sym (room-yes s (length (c .before .before .before .before .before .before .before .before .before .before .before .before .before .before .before .before .before .before .before .before .args .out .now)) (c .before .before .before .before .before .before .before .before .before .before .before .before .before .before .before .before .before .if1 .left)), counts p)
 
 pub run-session-spec : {M : Type 1} → statement M
 run-session-spec =
