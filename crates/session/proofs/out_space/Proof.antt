@@ -1,0 +1,12 @@
+-- The length by a law, and not by computing.
+use mathlib.Core.Path.{sym}
+use Prim.Native.Nat.{ℕ}
+use lib.ListN.{length-replicate}
+use Rattle.session.proofs.out_space.Statement.{statement}
+use Rattle.session.proofs.out_space.Tie as tie
+
+returns : tie.Need-returns
+returns c = sym (length-replicate {A = ℕ} 4400000 0)
+
+pub out-space-spec : {M : Type 1} → statement M
+out-space-spec = tie.close (tie.spec returns)

@@ -1,0 +1,25 @@
+// Reads a session from standard input and writes what it prints.
+use libc::STDOUT_FILENO;
+ghost use mathlib.Core.Path.{_≡_};
+ghost use lib.ListN.{length};
+
+// One byte more than a session may have, to tell a longer one.
+fn in_space() -> [u8; 65537]
+    ensures { λ r. ⌜ 65537 ≡ length r ⌝ }
+{
+    [0; 65537]
+}
+
+fn out_space() -> [u8; 4400000]
+    ensures { λ r. ⌜ 4400000 ≡ length r ⌝ }
+{
+    [0; 4400000]
+}
+
+fn main() {
+    let mut file = in_space();
+    let n = io::read_full(0, &mut file);
+    let mut out = out_space();
+    let end = session_runner::run_session(&file[..n], &mut out);
+    io::write_all(STDOUT_FILENO, &out[..end]);
+}

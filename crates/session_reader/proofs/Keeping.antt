@@ -1,0 +1,22 @@
+-- What is kept of a session lies within the buffers.
+use mathlib.Core.Path.{_≡_, _∙_}
+use mathlib.Core.Bool.{false}
+use mathlib.Core.List.{List}
+use Prim.Native.Nat.{ℕ, zero, suc, _+_, _*_}
+use native.Mathlib.Omega.{arith}
+use lib.ListN.{length, take, length-take}
+use Rattle.session_reader.specs.Session.{Act}
+use Rattle.session_reader.specs.Answers.{Told, untold, told, Stands}
+use Rattle.session_reader.specs.Kept.{Named, Held}
+use Rattle.session_reader.specs.declared.forms.Kept.{Kept}
+
+told-named : {table w : List ℕ} {l : List Act} → Told table w l → Named (length table) w
+told-named untold j h = absurd (omega arith)
+told-named (told h e x) zero k = h
+told-named (told h e x) (suc j) k = told-named x j (omega arith)
+
+pub stands-named : {F G A B : List ℕ} {f : ℕ} {b : Kept} {k : ℕ} {l : List Act} → Stands F G A B f 0 b k l → b .over ≡ false → Named (length G) (take (b .actions) B)
+stands-named {G = G} {B = B} {b = b} {k = k} {l = l} x e =
+    let all : take (b .actions) B ≡ x .words = x .acts .words in
+    let far : (b .actions ≡ 0 + k) × Told (take (5 * b .forms) G) (x .words) l = rw e at (x .far) in
+    rw all (λ j h. omega (arith, told-named (far .1) j h, length-take (5 * b .forms) G))

@@ -1,0 +1,12 @@
+mod Shapes
+mod Counted
+mod Arms
+mod Turns
+mod Listed
+mod Told
+mod Standing
+mod Repeated
+mod Walks
+mod Forming
+mod Keeping
+pub mod Verdicts

@@ -1,0 +1,58 @@
+-- The verdict, question by question; and which sizes of buffers give it.
+use mathlib.Core.Path.{_≡_, refl, subst}
+use mathlib.Core.Bool.{true, false}
+use mathlib.Core.List.{List}
+use mathlib.Core.Option.{none}
+use Prim.Native.Nat.{ℕ, _≤_, _<_}
+use borrow.Author.Tests.{le-leb, lt-leb}
+use lib.ListN.{length, take, drop}
+use Rattle.text.specs.Readers.{Reads}
+use Rattle.session_reader.specs.Session.{Opening, Forms, Verdict, bad, session, shaped, opening, lines, counts, actionsOf, formed, played, counted, verdict}
+use Rattle.session_reader.specs.Reading.{judged}
+use Rattle.session_reader.specs.Answers.{OpenedIs}
+use Rattle.session_reader.specs.declared.opening.Opened.{Opened}
+use Rattle.session_reader.specs.declared.opening.Opened.the-variants as opened
+
+module _ (s : List ℕ) where
+  pub opened-at : (out : List ℕ) {r : Opened} {t c b n next : ℕ} → r ≡ opened.Read t c b n next → OpenedIs s out r → Reads opening s 0 0 (record { tasks = t; cells = c; blocks = b; values = take n out }) next
+  opened-at out q x = subst (OpenedIs s out) q x
+
+  pub opened-no : (out : List ℕ) {r : Opened} → r ≡ opened.Wrong → OpenedIs s out r → opening s ≡ none
+  opened-no out q x = subst (OpenedIs s out) q x
+
+  pub is-12 : 65536 < length s → verdict s ≡ bad 12
+  unfolding verdict
+  is-12 h = rw (lt-leb (length s) 65536 h)
+
+  module _ (h : length s ≤ 65536) where
+    pub is-13 : shaped s ≡ false → verdict s ≡ bad 13
+    unfolding verdict
+    is-13 e = rw (le-leb (length s) 65536 h, e)
+
+    module _ (e : shaped s ≡ true) where
+      asked : verdict s ≡ counted (formed s)
+      unfolding verdict
+      asked = rw (le-leb (length s) 65536 h, e)
+
+      pub unopened : opening s ≡ none → verdict s ≡ bad 14
+      unfolding counted formed
+      unopened f = rw (asked, f)
+
+      module _ {o : Opening} {a : ℕ} (x : Reads opening s 0 0 o a) where
+        pub unformed : lines (drop a s) ≡ none → verdict s ≡ bad 14
+        unfolding counted formed
+        unformed f = rw (asked, x .finds, f)
+
+        module _ {l : Forms} {b : ℕ} (y : Reads lines s a 0 l b) where
+          pub is-15 : 65535 < counts l → verdict s ≡ bad 15
+          unfolding counted formed played
+          is-15 k = rw (asked, x .finds, y .finds, lt-leb (counts l) 65535 k)
+
+          pub is-session : counts l ≤ 65535 → verdict s ≡ session o (actionsOf l)
+          unfolding counted formed played
+          is-session k = rw (asked, x .finds, y .finds, le-leb (counts l) 65535 k)
+
+-- with buffers of the right sizes the promise is the verdict
+pub right-sizes : (v f a : ℕ) (s : List ℕ) → v ≡ 32768 → f ≡ 40960 → a ≡ 65535 → judged v f a s ≡ verdict s
+unfolding judged
+right-sizes v f a s p q r = rw (p, q, r)

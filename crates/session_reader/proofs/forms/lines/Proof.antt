@@ -1,0 +1,69 @@
+use borrow.Author.Needs.{needs}
+use native.Mathlib.Omega.{arith}
+use Rattle.session_reader.proofs.Walks.{got-at, got-no, Walk, walk-start, walk-end, walk-stop, walk-more, finish-no, finish-at}
+use Rattle.session_reader.specs.Session as specs
+use lib.ListN.{length}
+use Prim.Native.Nat.{_+_, _-_}
+use Rattle.session_reader.proofs.forms.lines.Statement.{statement}
+use Rattle.session_reader.proofs.forms.lines.Tie as tie
+
+abbrev Inv-loop : tie.InvT-loop
+Inv-loop s at forms₀ actions₀ i₀ g₀ m₀ over₀ forms actions i g m over = Walk specs.line specs.finish s at forms₀ actions₀ 0 0 forms actions i g m over
+
+abbrev μ-loop : tie.MeasureT-loop
+μ-loop s at forms₀ actions₀ i₀ g₀ m₀ over₀ forms actions i g m over = length s - i
+
+loop-holds : tie.Need-loop-holds Inv-loop μ-loop
+loop-holds c = let a = c .before .before .before .args in walk-start specs.line specs.finish a.s.now a.at a.forms.now a.actions.now 0 0 (c .before .before .before .pre)
+
+line-requires : tie.Need-line-requires Inv-loop μ-loop
+line-requires c κs = c .before .before .before .loop .inv .ready
+
+enum-known-got : tie.Need-enum-known-got Inv-loop μ-loop
+enum-known-got c = search needs
+
+enum-told : tie.Need-enum-told Inv-loop μ-loop
+enum-told c = search needs
+
+same-length : tie.Need-same-length Inv-loop μ-loop
+same-length c = search needs
+
+same-length-2 : tie.Need-same-length-2 Inv-loop μ-loop
+same-length-2 c = search needs
+
+returns : tie.Need-returns Inv-loop μ-loop
+returns c = let a = c .before .before .before .before .before .before .before .before .before .before .before .before .before .before .args in let l = c .before .before .before .before .before .before .before .before .before .before .loop in walk-stop specs.line specs.finish a.s.now a.at a.forms.now a.actions.now 0 0 l.inv (finish-no a.s.now l.i (c .before .before .before .before .before .before .before .before .before .loop-test .taken)) (got-no specs.count specs.actions specs.line a.s.now l.i 8 l.forms (c .before .before .before .before .before .before .line .last .1 .1 .0) l.actions (c .before .before .before .before .before .before .line .last .1 .1 .1 .1 .0) l.g l.m (c .enum-told .given .1) (c .before .before .before .before .before .before .line .ensures))
+
+loop-less : tie.Need-loop-less Inv-loop μ-loop
+loop-less c = let a = c .before .before .before .before .before .before .before .before .before .before .before .before .before .before .before .before .args in let l = c .before .before .before .before .before .before .before .before .before .before .before .before .loop in let x = got-at specs.count specs.actions specs.line a.s.now l.i 8 l.forms (c .before .before .before .before .before .before .before .before .line .last .1 .1 .0) l.actions (c .before .before .before .before .before .before .before .before .line .last .1 .1 .1 .1 .0) l.g l.m (c .before .before .got .given .1) (c .before .before .before .before .before .before .before .before .line .ensures) in omega (arith, x .1 .past, x .1 .within)
+
+loop-again : tie.Need-loop-again Inv-loop μ-loop
+loop-again c = let a = c .before .before .before .before .before .before .before .before .before .before .before .before .before .before .before .before .args in let l = c .before .before .before .before .before .before .before .before .before .before .before .before .loop in let x = got-at specs.count specs.actions specs.line a.s.now l.i 8 l.forms (c .before .before .before .before .before .before .before .before .line .last .1 .1 .0) l.actions (c .before .before .before .before .before .before .before .before .line .last .1 .1 .1 .1 .0) l.g l.m (c .before .before .got .given .1) (c .before .before .before .before .before .before .before .before .line .ensures) in walk-more specs.line specs.finish a.s.now a.at a.forms.now a.actions.now 0 0 l.inv (finish-no a.s.now l.i (c .before .before .before .before .before .before .before .before .before .before .before .loop-test .taken)) (x .1 .finds) (omega (arith, x .1 .past)) (x .1 .within) (x .2) (x .3) (c .before .before .before .before .before .before .before .before .line .kept .1 .1 .0) (c .before .before .before .before .before .before .before .before .line .kept .1 .1 .1 .1 .0)
+
+same-length-3 : tie.Need-same-length-3 Inv-loop μ-loop
+same-length-3 c = search needs
+
+same-length-4 : tie.Need-same-length-4 Inv-loop μ-loop
+same-length-4 c = search needs
+
+returns-2 : tie.Need-returns-2 Inv-loop μ-loop
+returns-2 c = let a = c .before .before .before .before .before .args in let l = c .before .loop in walk-end specs.line specs.finish a.s.now a.at a.forms.now a.actions.now 0 0 l.inv 0 (finish-at a.s.now l.i (c .loop-test .left)) (omega arith) (l.inv .ready .here)
+
+pub lines-spec : {M : Type 1} → statement M
+lines-spec =
+    tie.close
+    (tie.spec
+    Inv-loop
+    μ-loop
+    loop-holds
+    line-requires
+    enum-known-got
+    enum-told
+    same-length
+    same-length-2
+    returns
+    loop-less
+    loop-again
+    same-length-3
+    same-length-4
+    returns-2)

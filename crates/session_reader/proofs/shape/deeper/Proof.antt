@@ -1,0 +1,31 @@
+use borrow.Author.Needs.{needs}
+use native.Mathlib.Omega.{arith}
+use Rattle.session_reader.specs.Session.{deeper}
+use borrow.Author.Tests.{eq-eqb, ne-eqb}
+use Rattle.session_reader.proofs.shape.deeper.Statement.{statement}
+use Rattle.session_reader.proofs.shape.deeper.Tie as tie
+
+add-result : tie.Need-add-result
+add-result c = search needs
+
+returns : tie.Need-returns
+unfolding deeper
+returns c = rw (c .if1 .taken)
+
+sub-result : tie.Need-sub-result
+sub-result c = search needs
+
+returns-2 : tie.Need-returns-2
+unfolding deeper
+returns-2 c = rw (c .before .if2 .taken)
+
+returns-3 : tie.Need-returns-3
+unfolding deeper
+returns-3 c = rw (c .before .if2 .taken) (omega arith)
+
+returns-4 : tie.Need-returns-4
+unfolding deeper
+returns-4 c = rw (ne-eqb _ _ (c .before .if1 .left), ne-eqb _ _ (c .if2 .left))
+
+pub deeper-spec : {M : Type 1} → statement M
+deeper-spec = tie.close (tie.spec add-result returns sub-result returns-2 returns-3 returns-4)

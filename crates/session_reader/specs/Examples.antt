@@ -1,0 +1,55 @@
+-- Session files and their verdicts, computed.
+use mathlib.Core.Path.{_≡_, refl}
+use mathlib.Core.List.{List, [], _∷_, _++_}
+use Prim.Native.Nat.{ℕ}
+use Prim.Native.String.{String}
+use lib.ListN.{replicate}
+use Rattle.text.specs.Bytes.{bytes}
+use Rattle.text.specs.Readers.{word, digitsAfter, number}
+use Rattle.session_reader.specs.Session.{Act, read, swap, step, Verdict, bad, session, fits, deeper, shapedAfter, numbers, manyWithin, values, opening, keyword, head, body, form, line, count, times, actions, formed, played, counted, verdict}
+
+-- P1: its opening and 15 actions
+p1 :
+    verdict (bytes "(open 2 1 5 (5))\n(swap 0 0 5 7)\n(again 10 (step 0))\n(read 1 0)\n(again 3 (step 1))\n")
+    ≡ session (record { tasks = 2; cells = 1; blocks = 5; values = 5 ∷ [] })
+    ((swap 0 0 5 7 ∷ replicate 10 (step 0)) ++ (read 1 0 ∷ replicate 3 (step 1)))
+unfolding word digitsAfter number fits deeper shapedAfter numbers manyWithin values opening keyword head body form line count times actions formed played counted verdict
+p1 = refl
+
+-- each file after a first line that opens 1 task, 1 cell and 3 blocks, with its verdict
+abbrev Judged : List (String × Verdict) → Type 0
+Judged [] = Unit {0}
+Judged ((s, v) ∷ l) = (verdict (bytes "(open 1 1 3 (4294967295))\n" ++ bytes s) ≡ v) × Judged l
+
+abbrev plays : List Act → Verdict
+plays l = session (record { tasks = 1; cells = 1; blocks = 3; values = 4294967295 ∷ [] }) l
+
+judged :
+    Judged (
+      ("", plays []) ∷
+      ("(read 0  0)\n", bad 13) ∷
+      ("(read 0 0 )\n", bad 13) ∷
+      ("(read 0 0)", bad 13) ∷
+      ("(read 0 0)\n\n", bad 13) ∷
+      ("(read 0 0)(read 0 0)\n", bad 13) ∷
+      ("(again 1 (again 1 (again 1 (again 1 (again 1 (again 1 (again 1 (again 1 (step 0)))))))))\n", bad 13) ∷
+      ("(again 1 (again 1 (again 1 (again 1 (again 1 (again 1 (again 1 (step 0))))))))\n", plays (step 0 ∷ [])) ∷
+      ("(read 0 4294967295)\n", plays (read 0 4294967295 ∷ [])) ∷
+      ("(read 0 4294967296)\n", bad 14) ∷
+      ("(read 0 00)\n", bad 14) ∷
+      ("(read 0)\n", bad 14) ∷
+      ("(look 0)\n", bad 14) ∷
+      ("(open 1 1 3 (5))\n", bad 14) ∷
+      ("(again 65536 (step 0))\n", bad 15) ∷
+      ("(again 65536 (step 0))\n(step)\n", bad 14) ∷
+      ("(again 0 (again 65536 (step 0)))\n", plays []) ∷
+      ("(again 4294967295 (again 4294967295))\n", plays []) ∷
+      []
+    )
+unfolding word digitsAfter number fits deeper shapedAfter numbers manyWithin values opening keyword head body form line count times actions formed played counted verdict
+judged = (refl, (refl, (refl, (refl, (refl, (refl, (refl, (refl, (refl, (refl, (refl, (refl, (refl, (refl, (refl, (refl, (refl, (refl, tt))))))))))))))))))
+
+-- an empty file has no open
+none-open : verdict [] ≡ bad 14
+unfolding shapedAfter opening word formed played counted verdict
+none-open = refl

@@ -1,0 +1,5 @@
+pub mod Session
+pub mod Reading
+pub mod Answers
+pub mod Examples
+pub mod Kept

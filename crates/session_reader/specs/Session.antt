@@ -1,0 +1,222 @@
+-- The session file, after the scope's "Session file" and "Sessions in brackets": refusals 12 to 15, or a session.
+use mathlib.Core.Bool.{Bool, true, false, cond, not, _&&_, _||_}
+use mathlib.Core.List.{List, [], _∷_, _++_}
+use mathlib.Core.Option.{Option, none, some}
+use Prim.Native.Nat.{ℕ, zero, suc, _+_, _-_, _*_}
+use lib.Dec.{leb, ltb, eqb}
+use lib.ListN.{length, getD}
+use Rattle.text.specs.Bytes.{bytes}
+use Rattle.text.specs.Readers.{Reader, pure, either, _>>=_, _>>_, word, number}
+
+pub data Act : Type 0 where
+  read : (task cell : ℕ) → Act
+  swap : (task cell expected new : ℕ) → Act
+  step : (task : ℕ) → Act
+
+pub record Opening : Type 0 where
+  pub tasks : ℕ
+  pub cells : ℕ
+  pub blocks : ℕ
+  pub values : List ℕ
+
+pub data Verdict : Type 0 where
+  bad : (number : ℕ) → Verdict
+  session : (opening : Opening) (actions : List Act) → Verdict
+
+-- 12. Is it at most 65,536 bytes?
+abbrev pub short : List ℕ → Bool
+short s = leb (length s) 65536
+
+-- 13. Are brackets balanced and at most 8 deep, the items of a list parted by exactly one space with no other space,
+-- and each line, the last included, just one bracketed form ended by byte 10?
+
+-- right before an item: a bracket that opens, or a space
+abbrev pub before : ℕ → Bool
+before p = eqb p 40 || eqb p 32
+
+-- d brackets are open and p is the byte before, at first 10: may b stand here?
+unfoldable pub fits : (d p b : ℕ) → Bool
+fits d p b =
+    cond (eqb b 40) (ltb d 8 && (eqb p 10 || before p))
+    (cond (eqb b 41) (ltb 0 d && not (eqb p 32))
+    (cond (eqb b 32) (ltb 0 d && not (before p))
+    (cond (eqb b 10) (eqb d 0 && eqb p 41)
+    (ltb 0 d && not (eqb p 41)))))
+
+-- how many brackets are open after b
+unfoldable pub deeper : (d b : ℕ) → ℕ
+deeper d b = cond (eqb b 40) (d + 1) (cond (eqb b 41) (d - 1) d)
+
+unfoldable pub shapedAfter : (d p : ℕ) → List ℕ → Bool
+shapedAfter d p [] = eqb p 10
+shapedAfter d p (b ∷ s) = fits d p b && shapedAfter (deeper d b) b s
+
+abbrev pub shaped : List ℕ → Bool
+shaped s = shapedAfter 0 10 s
+
+-- 14. Is each form one of those below with exactly its items, with numbers of at most 4,294,967,295 and no leading
+-- zeros, and open first and only there?
+
+abbrev pub space : Reader (Unit {0})
+space = word (bytes " ")
+
+abbrev pub close : Reader (Unit {0})
+close = word (bytes ")")
+
+-- a number after a space, and k of them
+abbrev pub item : Reader ℕ
+item = space >> number
+
+unfoldable pub numbers : ℕ → Reader (List ℕ)
+numbers zero = pure []
+numbers (suc k) = do
+  n ← item
+  l ← numbers k
+  pure (n ∷ l)
+
+module _ {A B : Type 0} (add : B → A → B) (each : Reader A) (end : Reader (Unit {0})) where
+  -- items up to what ends them, added to those before; fuel bounds how many
+  unfoldable pub manyWithin : ℕ → B → Reader B
+  manyWithin zero l s = none
+  manyWithin (suc fuel) l s =
+      either ((end >> pure l) s) ((each >>= λ a. manyWithin fuel (add l a)) s)
+
+  -- each takes a byte or more
+  abbrev pub many : B → Reader B
+  many l s = manyWithin (suc (length s)) l s
+
+abbrev pub snoc : List ℕ → ℕ → List ℕ
+snoc l v = l ++ (v ∷ [])
+
+-- the values of open, up to their bracket
+unfoldable pub values : Reader (List ℕ)
+values s =
+    either ((close >> pure []) s)
+    ((number >>= λ v. many snoc item close (v ∷ [])) s)
+
+-- (open N V B (values)) and its line's end
+unfoldable pub opening : Reader Opening
+opening = do
+  word (bytes "(open")
+  n ← numbers 3
+  word (bytes " (")
+  v ← values
+  word (bytes ")\n")
+  pure (record { tasks = getD n 0 0; cells = getD n 1 0; blocks = getD n 2 0; values = v })
+
+-- the other forms, each a word, its numbers and, of again, forms
+pub data Kind : Type 0 where
+  reading : Kind
+  swapping : Kind
+  stepping : Kind
+  repeating : Kind
+
+abbrev pub means : List ℕ → Kind → Reader Kind
+means w k = word w >> pure k
+
+unfoldable pub keyword : Reader Kind
+keyword s =
+    either (means (bytes "(read") reading s)
+    (either (means (bytes "(swap") swapping s)
+    (either (means (bytes "(step") stepping s)
+    (means (bytes "(again") repeating s)))
+
+abbrev pub arity : Kind → ℕ
+arity reading = 2
+arity swapping = 4
+arity stepping = 1
+arity repeating = 1
+
+-- a form up to the last of its numbers
+unfoldable pub head : Reader (Kind × List ℕ)
+head = do
+  k ← keyword
+  n ← numbers (arity k)
+  pure (k, n)
+
+mutual
+  pub data Form : Type 0 where
+    act : Act → Form
+    again : ℕ → Forms → Form
+
+  pub data Forms : Type 0 where
+    empty : Forms
+    with : Forms → Form → Forms
+
+-- the rest of a form
+unfoldable pub body : Reader Forms → Kind → List ℕ → Reader Form
+body forms reading n = close >> pure (act (read (getD n 0 0) (getD n 1 0)))
+body forms swapping n = close >> pure (act (swap (getD n 0 0) (getD n 1 0) (getD n 2 0) (getD n 3 0)))
+body forms stepping n = close >> pure (act (step (getD n 0 0)))
+body forms repeating n = forms >>= λ l. pure (again (getD n 0 0) l)
+
+abbrev pub list : Reader Form → Reader Forms
+list form = many with (space >> form) close empty
+
+-- a form at most so many brackets deep
+unfoldable pub form : ℕ → Reader Form
+form zero = λ s. none
+form (suc d) = do
+  (k, n) ← head
+  body (list (form d)) k n
+
+unfoldable pub line : Reader Form
+line = do
+  f ← form 8
+  word (bytes "\n")
+  pure f
+
+abbrev pub finish : Reader (Unit {0})
+finish [] = some (tt, [])
+finish (b ∷ s) = none
+
+abbrev pub lines : Reader Forms
+lines = many with line finish empty
+
+-- 15. Are there at most 65,535 actions after repeating?
+
+-- how many actions forms make
+unfoldable mutual
+  pub count : Form → ℕ
+  count (act a) = 1
+  count (again c l) = c * counts l
+
+  pub counts : Forms → ℕ
+  counts empty = 0
+  counts (with l f) = counts l + count f
+
+module _ {A : Type 0} where
+  -- l, c times; nothing again and again is nothing at once
+  unfoldable pub times : ℕ → List A → List A
+  times c [] = []
+  times zero (a ∷ l) = []
+  times (suc c) (a ∷ l) = (a ∷ l) ++ times c (a ∷ l)
+
+-- the actions of forms, in order
+unfoldable mutual
+  pub actions : Form → List Act
+  actions (act a) = a ∷ []
+  actions (again zero l) = []
+  actions (again (suc c) l) = times (suc c) (actionsOf l)
+
+  pub actionsOf : Forms → List Act
+  actionsOf empty = []
+  actionsOf (with l f) = actionsOf l ++ actions f
+
+unfoldable pub formed : Reader (Opening × Forms)
+formed = do
+  o ← opening
+  l ← lines
+  pure (o, l)
+
+-- The first no gives its number.
+unfoldable pub played : Bool → Opening → Forms → Verdict
+played true o l = session o (actionsOf l)
+played false o l = bad 15
+
+unfoldable pub counted : Option ((Opening × Forms) × List ℕ) → Verdict
+counted none = bad 14
+counted (some ((o, l), s)) = played (leb (counts l) 65535) o l
+
+unfoldable pub verdict : List ℕ → Verdict
+verdict s = cond (short s) (cond (shaped s) (counted (formed s)) (bad 13)) (bad 12)

@@ -1,0 +1,80 @@
+// Reads a session file: the first of questions 12 to 15 that is answered no, or the session.
+mod forms;
+mod items;
+mod opening;
+mod shape;
+
+ghost use mathlib.Core.Path.{_≡_};
+ghost use Prim.Native.Nat.{_*_, _≤_};
+ghost use lib.ListN.{length};
+ghost use Rattle.session_reader.specs.Session.{verdict};
+ghost use Rattle.session_reader.specs.Reading.{verdictOf, judged};
+ghost use Rattle.session_reader.specs.Kept.{Within};
+
+pub enum Reading {
+    // The question's number; 0 for buffers of other sizes.
+    Bad(u32),
+    Session {
+        tasks: u32,
+        cells: u32,
+        blocks: u32,
+        values: usize,
+        actions: usize,
+    },
+}
+
+// Words that a file can fill: a value takes at least 2 bytes, and a form of five words at least 8.
+const VALUES: usize = 32768;
+const FORMS: usize = 40960;
+const ACTIONS: usize = 65535;
+
+fn read(file: &[u8], values: &mut [u32], kept: &mut [u32], actions: &mut [u32]) -> Reading
+    requires { ⌜ length (now values) ≡ 32768 ⌝ }
+    requires { ⌜ length (now kept) ≡ 40960 ⌝ }
+    requires { ⌜ length (now actions) ≡ 65535 ⌝ }
+    ensures { λ r. ⌜ verdictOf r (now (values .exit)) (now (kept .exit)) (now (actions .exit)) ≡ verdict (now (file .entry)) ⌝ }
+    ensures { λ r. ⌜ Within r (now (values .exit)) (now (kept .exit)) (now (actions .exit)) ⌝ }
+{
+    if 65536 < file.len() {
+        return Reading::Bad(12);
+    }
+    if !shape::shaped(file) {
+        return Reading::Bad(13);
+    }
+    let first = opening::opening(file, values);
+    let opening::Opened::Read(tasks, cells, blocks, count, next) = first else {
+        return Reading::Bad(14);
+    };
+    let rest = forms::lines(file, next, kept, actions);
+    let forms::Got::At(_, all) = rest else {
+        return Reading::Bad(14);
+    };
+    if all.over {
+        return Reading::Bad(15);
+    }
+    Reading::Session {
+        tasks,
+        cells,
+        blocks,
+        values: count,
+        actions: all.actions,
+    }
+}
+
+// The session's values, its forms of five words (kind 1 read, 2 swap, 3 step; then its numbers) and its actions, each
+// the number of its form, are left in the buffers.
+pub fn read_session(file: &[u8], values: &mut [u32], forms: &mut [u32], actions: &mut [u32]) -> Reading
+    ensures { λ r. ⌜ verdictOf r (now (values .exit)) (now (forms .exit)) (now (actions .exit)) ≡ judged (length (now (values .entry))) (length (now (forms .entry))) (length (now (actions .entry))) (now (file .entry)) ⌝ }
+    ensures { λ r. ⌜ Within r (now (values .exit)) (now (forms .exit)) (now (actions .exit)) ⌝ }
+{
+    if values.len() != VALUES {
+        return Reading::Bad(0);
+    }
+    if forms.len() != FORMS {
+        return Reading::Bad(0);
+    }
+    if actions.len() != ACTIONS {
+        return Reading::Bad(0);
+    }
+    read(file, values, forms, actions)
+}

@@ -1,0 +1,83 @@
+// The first line: (open N V B (values)).
+use crate::items;
+use text::{Numeral, Place};
+
+ghost use mathlib.Core.Path.{_≡_};
+ghost use Prim.Native.Nat.{_+_, _*_, _≤_};
+ghost use lib.ListN.{length};
+ghost use Rattle.session_reader.specs.Answers.{ValuesAre, OpenedIs};
+ghost use Rattle.session_reader.specs.Kept.{ListedWithin, OpenedWithin};
+
+// How many values, and the place after their bracket.
+pub enum Listed {
+    Wrong,
+    Read(usize, usize),
+}
+
+// The three numbers, how many values, and the place after the line.
+pub enum Opened {
+    Wrong,
+    Read(u32, u32, u32, usize, usize),
+}
+
+// Stores the values up to their bracket.
+fn values(s: &[u8], at: usize, out: &mut [u32]) -> Listed
+    requires { ⌜ (1 ≤ at) × (at ≤ length (now s)) ⌝ }
+    requires { ⌜ length (now s) ≤ 2 * length (now out) ⌝ }
+    ensures { λ r. ⌜ ValuesAre (now (s .entry)) at (now (out .exit)) r ⌝ }
+    ensures { λ r. ⌜ ListedWithin (length (now (out .exit))) r ⌝ }
+{
+    let shut = items::close(s, at);
+    if let Place::At(next) = shut {
+        return Listed::Read(0, next);
+    }
+    let first = text::number(s, at);
+    let Numeral::Read(v, a) = first else {
+        return Listed::Wrong;
+    };
+    out[0] = v;
+    let mut n = 1;
+    let mut i = a;
+    loop {
+        let end = items::close(s, i);
+        if let Place::At(next) = end {
+            return Listed::Read(n, next);
+        }
+        let read = items::item(s, i);
+        let Numeral::Read(w, next) = read else {
+            return Listed::Wrong;
+        };
+        out[n] = w;
+        n += 1;
+        i = next;
+    }
+}
+
+pub fn opening(s: &[u8], out: &mut [u32]) -> Opened
+    requires { ⌜ length (now s) ≤ 2 * length (now out) ⌝ }
+    ensures { λ r. ⌜ OpenedIs (now (s .entry)) (now (out .exit)) r ⌝ }
+    ensures { λ r. ⌜ OpenedWithin (length (now (out .exit))) r ⌝ }
+{
+    let word = text::starts_with(s, 0, b"(open");
+    let Place::At(a) = word else {
+        return Opened::Wrong;
+    };
+    let mut n = [0u32; 4];
+    let three = items::numbers(s, a, 3, &mut n);
+    let Place::At(b) = three else {
+        return Opened::Wrong;
+    };
+    let start = text::starts_with(s, b, b" (");
+    let Place::At(c) = start else {
+        return Opened::Wrong;
+    };
+    let read = values(s, c, out);
+    let Listed::Read(count, d) = read else {
+        return Opened::Wrong;
+    };
+    let end = text::starts_with(s, d, b")\n");
+    let Place::At(next) = end else {
+        return Opened::Wrong;
+    };
+    Opened::Read(n[0], n[1], n[2], count, next)
+}

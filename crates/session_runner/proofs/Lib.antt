@@ -1,0 +1,5 @@
+mod Toward
+mod Lengths
+mod Loops
+mod Acting
+mod Playing

@@ -1,0 +1,106 @@
+-- The loop over the actions, the opening before it, and the whole.
+use mathlib.Core.Path.{_≡_, refl, sym, ap, _∙_}
+use mathlib.Core.Bool.{Bool, true, cond}
+use mathlib.Core.List.{List, [], _∷_, _++_, map}
+use Prim.Native.Nat.{ℕ, zero, suc, _+_, _*_, _≤_, _<_}
+use native.Mathlib.Numerals.{add-one}
+use native.Mathlib.Omega.{arith}
+use borrow.Author.Tests.{le-leb, lt-leb, eq-eqb}
+use lib.ListN.{length, take, drop, getD, replicate, drop-of-length-le, length-map, length-take, length-replicate}
+use lib.Seq.{length-take-le}
+use lib.Dec.{leb}
+use Rattle.io.specs.Counts.{Counts}
+use Rattle.text.specs.Append.{Appended}
+use Rattle.cells.specs.declared.State.{State}
+use Rattle.cells.specs.declared.Finished.{Finished}
+use Rattle.cells.specs.declared.Outcome.{Outcome}
+use Rattle.cells.specs.declared.Outcome.the-variants.{Refused, Acted, Ended}
+use Rattle.cells.specs.Open.{After, leaving, opened}
+use Rattle.cells.specs.Questions.{openQuestions}
+use Rattle.cells.proofs.Tests.{nth, answers, within-true}
+use Rattle.cells.proofs.Acts.{acts, open-acts}
+use Rattle.session_reader.specs.Session.{Act, Verdict, verdict}
+use Rattle.session_runner.specs.Lines.{noLine}
+use Rattle.session_runner.specs.Printed.{Totals, totals, taskOf, done, reported, counted, closed, played, started, blank, poolWords, shown, printed, printedWithin}
+
+-- THE LOOP
+
+map-at : (f : ℕ → Act) (l : List ℕ) (i : ℕ) → i < length l → drop i (map f l) ≡ f (getD l i 0) ∷ drop (suc i) (map f l)
+map-at f [] i h = absurd (omega arith)
+map-at f (x ∷ l) zero h = refl
+map-at f (x ∷ l) (suc i) h = map-at f l i (omega arith)
+
+module _ (n v : ℕ) (f : ℕ → Act) (l : List ℕ) (i : ℕ) (z : Totals) (s : State) (p : List ℕ) where
+  pub one-action : {z′ : Totals} {s′ : State} {p′ : List ℕ} {o : Outcome} {a : Act} {t : ℕ} → i < length l → a ≡ f (getD l i 0) → leaving s′ p′ o ≡ done s p a → t ≡ taskOf a → z′ ≡ counted z o → played n v i z s p (drop i (map f l)) ≡ reported i t o ++ played n v (i + 1) z′ s′ p′ (drop (i + 1) (map f l))
+  unfolding played
+  one-action h ea ed et ez = rw (map-at f l i h, add-one, ← ea, ← ed, et, ez)
+
+  pub no-action : length l ≤ i → played n v i z s p (drop i (map f l)) ≡ closed n v z s p
+  unfolding played
+  no-action h = let e : length (map f l) ≤ i = omega (arith, length-map l f) in rw (drop-of-length-le (map f l) e)
+
+-- THE OPENING
+
+pub opens : (s : State) (p : List ℕ) (n v b : ℕ) (vs : List ℕ) → opened s p n v b vs .outcome ≡ Acted → (n ≤ 32) × (v ≤ 16)
+unfolding openQuestions
+opens s p n v b vs e =
+    let all = nth (answers (openQuestions (length p) n v b vs)) (sym (open-acts s p n v b vs) ∙ ap acts e) in
+    (within-true n 1 32 (all 0) .1, within-true v 1 16 (all 1) .1)
+
+-- what follows from an opening's answer
+module _ (n v b : ℕ) (vs p : List ℕ) (l : List Act) {s₀ s : State} {p′ : List ℕ} {o : Outcome} (eb : s₀ ≡ blank) (e : leaving s p′ o ≡ opened s₀ p n v b vs) where
+  abbrev of : Outcome → List ℕ
+  of x = started n v l (leaving s p′ x)
+
+  same : of o ≡ started n v l (opened blank p n v b vs)
+  same = ap (λ (r : After). started n v l r) e ∙ ap (λ (t : State). started n v l (opened t p n v b vs)) eb
+
+  pub on-refused : {k : ℕ} → o ≡ Refused k → noLine 0 k ≡ started n v l (opened blank p n v b vs)
+  unfolding started
+  on-refused q = ap of (sym q) ∙ same
+
+  pub on-acted : o ≡ Acted → played n v 0 (totals 0 0) s p′ l ≡ started n v l (opened blank p n v b vs)
+  unfolding started
+  on-acted q = ap of (sym q) ∙ same
+
+  pub on-ended : {f : Finished} → o ≡ Ended f → [] ≡ started n v l (opened blank p n v b vs)
+  unfolding started
+  on-ended q = ap of (sym q) ∙ same
+
+  pub opens-small : o ≡ Acted → (n ≤ 32) × (v ≤ 16)
+  opens-small q = opens s₀ p n v b vs (sym (ap (λ (r : After). r .outcome) e) ∙ q)
+
+zeros : (n m : ℕ) → n ≤ m → take {A = ℕ} n (replicate m 0) ≡ replicate n 0
+zeros zero m h = refl
+zeros (suc n) zero h = absurd (omega arith)
+zeros (suc n) (suc m) h = ap (λ (l : List ℕ). 0 ∷ l) (zeros n m (omega arith))
+
+pub pool-zeros : {l : List ℕ} {w : ℕ} (b : ℕ) → l ≡ replicate 640 0 → w ≡ poolWords b → w ≤ 640 → take w l ≡ replicate (poolWords b) 0
+pool-zeros {l} {w} b e d h = ap (take w) e ∙ zeros w 640 h ∙ ap (λ (k : ℕ). replicate k 0) d
+
+pub pool-length : {l : List ℕ} {w : ℕ} → l ≡ replicate 640 0 → w ≤ 640 → w ≡ length (take w l)
+pool-length {l} {w} e h = let d : length l ≡ 640 = ap length e ∙ length-replicate {A = ℕ} 640 0 in sym (length-take-le w l (omega (arith, d, h)))
+
+-- THE WHOLE
+
+pub taken : {n m : ℕ} (l : List ℕ) → n ≤ length l → length l ≤ m → length (take n l) ≤ m
+taken {n} {m} l h k = omega (arith, length-take-le n l h)
+
+module _ (s : List ℕ) where
+  pub printed-as : {v : Verdict} → v ≡ verdict s → shown v ≡ printed s
+  unfolding printed
+  printed-as e = ap shown e
+
+  pub room-yes : (n : ℕ) → 4400000 ≤ n → printedWithin n s ≡ printed s
+  unfolding printedWithin
+  room-yes n h = rw (le-leb 4400000 n h)
+
+  pub room-no : (n : ℕ) → n < 4400000 → [] ≡ printedWithin n s
+  unfolding printedWithin
+  room-no n h = rw (lt-leb 4400000 n h)
+
+-- what is appended from the start lies within the buffer
+pub counts : {old new : List ℕ} {r : ℕ} {t : List ℕ} → Appended old new 0 r t → Counts r new
+counts {old} {new} {r} x =
+    let h : r ≤ length new = omega (arith, length-take r new, ap length (x .words), x .next) in
+    (h, sym (length-take-le r new h))

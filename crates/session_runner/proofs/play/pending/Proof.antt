@@ -1,0 +1,57 @@
+use native.Mathlib.Omega.{arith}
+use mathlib.Core.Logic.{⊎-elim}
+use Prim.Native.Nat.{_+_, _-_, _≤_, _<_}
+use Rattle.session_runner.proofs.Loops.{task-end, task-busy, task-idle}
+use native.Mathlib.Nat.{zero-add, sub-zero}
+use borrow.Author.Needs.{needs}
+use mathlib.Core.Path.{_≡_}
+use Rattle.session_runner.specs.Printed.{pending}
+use Rattle.session_runner.proofs.play.pending.Statement.{statement}
+use Rattle.session_runner.proofs.play.pending.Tie as tie
+use Rattle.session_runner.proofs.play.pending.Reads as reads
+use Rattle.session_runner.proofs.play.pending.Lts as lts
+
+abbrev Inv-loop : tie.InvT-loop
+Inv-loop n s t₀ busy₀ t busy = (busy + pending s t (n - t) ≡ pending s 0 n) × (t ≤ n) × (busy ≤ t)
+
+abbrev μ-loop : tie.MeasureT-loop
+μ-loop n s t₀ busy₀ t busy = n - t
+
+loop-holds : tie.Need-loop-holds Inv-loop μ-loop
+loop-holds c = (rw (zero-add, sub-zero), search needs, search needs)
+
+mul-r : tie.Need-mul-r Inv-loop μ-loop
+mul-r c = search needs
+
+element-copy-out-r : tie.Need-element-copy-out-r Inv-loop μ-loop
+element-copy-out-r c = search needs
+
+add-busy : tie.Need-add-busy Inv-loop μ-loop
+add-busy c = search needs
+
+add-t : tie.Need-add-t Inv-loop μ-loop
+add-t c = search needs
+
+loop-less : tie.Need-loop-less Inv-loop μ-loop
+loop-less c = search needs
+
+loop-again : tie.Need-loop-again Inv-loop μ-loop
+loop-again c = let l = c .before .before .before .before .loop in let a = c .before .before .before .before .before .args in let h : l .t < a.n = omega arith in ⊎-elim (λ w. (omega (arith, l .inv .0, w .1, task-busy a.t1 l.t a.n h (w .0 .taken)), search needs, omega (arith, l .inv .2, w .1))) (λ w. (omega (arith, l .inv .0, w .1, task-idle a.t1 l.t a.n h (w .0 .left)), search needs, omega (arith, l .inv .2, w .1))) (c .if1 .came)
+
+returns : tie.Need-returns Inv-loop μ-loop
+returns c = let l = c .before .loop in omega (arith, l .inv .0, task-end (c .before .before .args .t1) (l .t) (c .before .before .args .n) (omega arith))
+
+pub pending-spec : {M : Type 1} → statement M
+pending-spec =
+    tie.close
+    (tie.spec
+    Inv-loop
+    μ-loop
+    loop-holds
+    mul-r
+    element-copy-out-r
+    add-busy
+    add-t
+    loop-less
+    loop-again
+    returns)

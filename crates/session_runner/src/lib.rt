@@ -1,0 +1,180 @@
+// Runs a session file and prints its lines.
+mod actions;
+mod lines;
+mod play;
+
+use cells::Outcome;
+use cells::Record;
+use cells::State;
+use session_reader::Reading;
+ghost use mathlib.Core.Path.{_≡_};
+ghost use mathlib.Core.List.{map};
+ghost use Prim.Native.Nat.{_≤_};
+ghost use lib.ListN.{length, take, replicate};
+ghost use Rattle.io.specs.Counts.{Counts};
+ghost use Rattle.text.specs.Append.{Appended};
+ghost use Rattle.cells.specs.Open.{opened};
+ghost use Rattle.session_reader.specs.Session.{Opening};
+ghost use Rattle.session_reader.specs.Reading.{actAt, verdictOf};
+ghost use Rattle.session_reader.specs.Kept.{Named, Within};
+ghost use Rattle.session_runner.specs.Printed.{started, blank as «blankOf», poolWords, run as «runOf», shown, printedWithin};
+
+// The room that the longest text needs.
+pub const ROOM: usize = 4400000;
+
+fn blank() -> State
+    ensures { λ s. ⌜ s ≡ «blankOf» ⌝ }
+{
+    let idle = Record {
+        line: 0,
+        wanted: 0,
+        kind: 0,
+        cell: 0,
+        expected: 0,
+        new: 0,
+        held: 0,
+        taken: 0,
+        loaded: 0,
+        steps: 0,
+        hard: 0,
+    };
+    State {
+        tasks: 0,
+        cells: 0,
+        blocks: 0,
+        last: 0,
+        current: [0; 16],
+        records: [idle; 32],
+    }
+}
+
+// Opens on a lent pool, and plays where that is not refused.
+fn start(
+    out: &mut [u8],
+    pool: &mut [u32],
+    tasks: u32,
+    n: u32,
+    blocks: u32,
+    values: &[u32],
+    forms: &[u32],
+    kept: &[u32],
+) -> usize
+    requires { ⌜ length (now kept) ≤ 65535 ⌝ }
+    requires { ⌜ Named (length (now forms)) (now kept) ⌝ }
+    requires { ⌜ 4400000 ≤ length (now out) ⌝ }
+    ensures { λ r. ⌜ Appended (now (out .entry)) (now (out .exit)) 0 r (started tasks n (map (actAt (now (forms .entry))) (now (kept .entry))) (opened «blankOf» (now (pool .entry)) tasks n blocks (now (values .entry)))) ⌝ }
+{
+    let first = cells::open(blank(), pool, tasks, n, blocks, values);
+    let outcome = first.outcome;
+    match outcome {
+        Outcome::Refused(k) => lines::put_no(out, 0, 0, k),
+        Outcome::Acted => {
+            let s = first.state;
+            play::play(out, tasks, n, s, pool, forms, kept)
+        }
+        Outcome::Ended(_) => 0,
+    }
+}
+
+// Five words for each block, at most 128; more are refused whatever the pool has.
+fn pool_words(blocks: u32) -> usize
+    ensures { λ r. ⌜ (r ≡ poolWords blocks) × (r ≤ 640) ⌝ }
+{
+    if blocks <= 128 {
+        return 5 * blocks as usize;
+    }
+    640
+}
+
+fn pool_space() -> [u32; 640]
+    ensures { λ r. ⌜ r ≡ replicate 640 0 ⌝ }
+{
+    [0; 640]
+}
+
+fn run(
+    out: &mut [u8],
+    tasks: u32,
+    n: u32,
+    blocks: u32,
+    values: &[u32],
+    forms: &[u32],
+    kept: &[u32],
+) -> usize
+    requires { ⌜ length (now kept) ≤ 65535 ⌝ }
+    requires { ⌜ Named (length (now forms)) (now kept) ⌝ }
+    requires { ⌜ 4400000 ≤ length (now out) ⌝ }
+    ensures { λ r. ⌜ Appended (now (out .entry)) (now (out .exit)) 0 r («runOf» (record { tasks = tasks; cells = n; blocks = blocks; values = now (values .entry) }) (map (actAt (now (forms .entry))) (now (kept .entry)))) ⌝ }
+{
+    let words = pool_words(blocks);
+    let mut pool = pool_space();
+    start(
+        out,
+        &mut pool[..words],
+        tasks,
+        n,
+        blocks,
+        values,
+        forms,
+        kept,
+    )
+}
+
+fn print(out: &mut [u8], found: Reading, values: &[u32], forms: &[u32], actions: &[u32]) -> usize
+    requires { ⌜ Within found (now values) (now forms) (now actions) ⌝ }
+    requires { ⌜ length (now actions) ≤ 65535 ⌝ }
+    requires { ⌜ 4400000 ≤ length (now out) ⌝ }
+    ensures { λ r. ⌜ Appended (now (out .entry)) (now (out .exit)) 0 r (shown (verdictOf found (now (values .entry)) (now (forms .entry)) (now (actions .entry)))) ⌝ }
+{
+    match found {
+        Reading::Bad(n) => lines::put_bad(out, 0, n),
+        Reading::Session {
+            tasks,
+            cells,
+            blocks,
+            values: v,
+            actions: n,
+        } => run(
+            out,
+            tasks,
+            cells,
+            blocks,
+            &values[..v],
+            forms,
+            &actions[..n],
+        ),
+    }
+}
+
+fn value_space() -> [u32; 32768]
+    ensures { λ r. ⌜ length r ≡ 32768 ⌝ }
+{
+    [0; 32768]
+}
+
+fn form_space() -> [u32; 40960]
+    ensures { λ r. ⌜ length r ≡ 40960 ⌝ }
+{
+    [0; 40960]
+}
+
+fn action_space() -> [u32; 65535]
+    ensures { λ r. ⌜ length r ≡ 65535 ⌝ }
+{
+    [0; 65535]
+}
+
+// Prints what a session file prints at the start of out, and returns its length; nothing where out has no ROOM.
+pub fn run_session(file: &[u8], out: &mut [u8]) -> usize
+    ensures { λ r. ⌜ take r (now (out .exit)) ≡ printedWithin (length (now (out .entry))) (now (file .entry)) ⌝ }
+    ensures { λ r. ⌜ Counts r (now (out .exit)) ⌝ }
+{
+    if out.len() < ROOM {
+        return 0;
+    }
+    let mut values = value_space();
+    let mut forms = form_space();
+    let mut actions = action_space();
+    let found = session_reader::read_session(file, &mut values, &mut forms, &mut actions);
+    print(out, found, &values, &forms, &actions)
+}

@@ -1,0 +1,150 @@
+// The actions in their order, each with its line, and what is printed after the last.
+use crate::actions;
+use crate::actions::Action;
+use crate::lines;
+use cells::Looked;
+use cells::Outcome;
+use cells::Reply;
+use cells::State;
+ghost use mathlib.Core.Path.{_≡_};
+ghost use mathlib.Core.List.{map};
+ghost use Prim.Native.Nat.{_+_, _*_, _≤_};
+ghost use lib.ListN.{length};
+ghost use Rattle.text.specs.Append.{Appended};
+ghost use Rattle.cells.specs.Open.{leaving};
+ghost use Rattle.session_reader.specs.Reading.{actAt};
+ghost use Rattle.session_reader.specs.Kept.{Named};
+ghost use Rattle.session_runner.specs.Printed.{Totals, totals, done, reported, counted, lookLine, cellLines, pending as «pendingOf», closed, played};
+ghost use Rattle.session_runner.specs.Actions.{actOf, totalsOf};
+
+// Finished calls, and their hardware CAS attempts.
+pub struct Tally {
+    pub finished: u64,
+    pub hard: u64,
+}
+
+fn act(s: State, pool: &mut [u32], a: Action) -> Reply
+    ensures { λ r. ⌜ leaving (r .state) (now (pool .exit)) (r .outcome) ≡ done s (now (pool .entry)) (actOf a) ⌝ }
+{
+    match a {
+        Action::Read(t, k) => cells::begin_read(s, pool, t, k),
+        Action::Swap(t, k, e, n) => cells::begin_swap(s, pool, t, k, e, n),
+        Action::Step(t) => cells::step(s, pool, t),
+    }
+}
+
+fn report(out: &mut [u8], at: usize, i: u32, task: u32, outcome: Outcome) -> usize
+    requires { ⌜ at + 67 ≤ length (now out) ⌝ }
+    ensures { λ r. ⌜ Appended (now (out .entry)) (now (out .exit)) at r (reported i task outcome) ⌝ }
+    ensures { λ r. ⌜ r ≤ at + 67 ⌝ }
+{
+    match outcome {
+        Outcome::Refused(n) => lines::put_no(out, at, i, n),
+        Outcome::Acted => at,
+        Outcome::Ended(f) => lines::put_done(out, at, task, f),
+    }
+}
+
+fn count(z: Tally, outcome: Outcome) -> Tally
+    requires { ⌜ (z .finished ≤ 65535) × (z .hard ≤ 65535 * 4294967295) ⌝ }
+    ensures { λ r. ⌜ totalsOf r ≡ counted (totalsOf z) outcome ⌝ }
+    ensures { λ r. ⌜ (r .finished ≤ z .finished + 1) × (r .hard ≤ z .hard + 4294967295) ⌝ }
+{
+    match outcome {
+        Outcome::Refused(_) => z,
+        Outcome::Acted => z,
+        Outcome::Ended(f) => Tally {
+            finished: z.finished + 1,
+            hard: z.hard + lines::wide(f.hard),
+        },
+    }
+}
+
+fn put_look(out: &mut [u8], at: usize, k: u32, seen: Looked) -> usize
+    requires { ⌜ at + 67 ≤ length (now out) ⌝ }
+    ensures { λ r. ⌜ Appended (now (out .entry)) (now (out .exit)) at r (lookLine k seen) ⌝ }
+    ensures { λ r. ⌜ r ≤ at + 67 ⌝ }
+{
+    match seen {
+        Looked::Shown(v) => lines::put_cell(out, at, k, v),
+        Looked::NotShown(_) => at,
+    }
+}
+
+fn put_cells(out: &mut [u8], at: usize, s: State, pool: &[u32], n: u32) -> usize
+    requires { ⌜ at + 67 * n ≤ length (now out) ⌝ }
+    ensures { λ r. ⌜ Appended (now (out .entry)) (now (out .exit)) at r (cellLines s (now (pool .entry)) 0 n) ⌝ }
+    ensures { λ r. ⌜ r ≤ at + 67 * n ⌝ }
+{
+    let mut k = 0;
+    let mut a = at;
+    while k < n {
+        let seen = cells::look(s, pool, k);
+        a = put_look(out, a, k, seen);
+        k += 1;
+    }
+    a
+}
+
+// How many of the first n tasks have a pending call.
+fn pending(s: State, n: usize) -> u64
+    requires { ⌜ n ≤ 32 ⌝ }
+    ensures { λ r. ⌜ r ≡ «pendingOf» s 0 n ⌝ }
+{
+    let mut t = 0;
+    let mut busy: u64 = 0;
+    while t < n {
+        let r = s.records[t];
+        if r.line != 0 {
+            busy += 1;
+        }
+        t += 1;
+    }
+    busy
+}
+
+fn finish(out: &mut [u8], at: usize, tasks: u32, n: u32, z: Tally, s: State, pool: &[u32]) -> usize
+    requires { ⌜ (tasks ≤ 32) × (n ≤ 16) ⌝ }
+    requires { ⌜ at + 2000 ≤ length (now out) ⌝ }
+    requires { ⌜ z .hard ≤ 65535 * 4294967295 ⌝ }
+    ensures { λ r. ⌜ Appended (now (out .entry)) (now (out .exit)) at r (closed tasks n (totalsOf z) s (now (pool .entry))) ⌝ }
+{
+    let a = put_cells(out, at, s, pool, n);
+    let unfinished = pending(s, tasks as usize);
+    lines::put_end(out, a, z.finished, unfinished, z.hard)
+}
+
+// Every action, and what is printed after the last.
+pub fn play(
+    out: &mut [u8],
+    tasks: u32,
+    n: u32,
+    first: State,
+    pool: &mut [u32],
+    forms: &[u32],
+    kept: &[u32],
+) -> usize
+    requires { ⌜ (tasks ≤ 32) × (n ≤ 16) ⌝ }
+    requires { ⌜ length (now kept) ≤ 65535 ⌝ }
+    requires { ⌜ Named (length (now forms)) (now kept) ⌝ }
+    requires { ⌜ 4400000 ≤ length (now out) ⌝ }
+    ensures { λ r. ⌜ Appended (now (out .entry)) (now (out .exit)) 0 r (played tasks n 0 (totals 0 0) first (now (pool .entry)) (map (actAt (now (forms .entry))) (now (kept .entry)))) ⌝ }
+{
+    let mut i = 0;
+    let mut at = 0;
+    let mut s = first;
+    let mut z = Tally {
+        finished: 0,
+        hard: 0,
+    };
+    while i < kept.len() {
+        let a = actions::action_at(forms, kept[i]);
+        let r = act(s, pool, a);
+        let outcome = r.outcome;
+        at = report(out, at, i as u32, actions::task_of(a), outcome);
+        z = count(z, outcome);
+        s = r.state;
+        i += 1;
+    }
+    finish(out, at, tasks, n, z, s, pool)
+}

@@ -1,0 +1,4 @@
+pub mod Bytes
+pub mod Append
+pub mod Readers
+pub mod Answers
