@@ -1,0 +1,509 @@
+"""The library of cells: pool, blocks, task records, the lines of figure 2.
+
+Written from document 01 ("Shared cells for the milling unit's tasks") and
+source document 003, figure 2, alone.  Sentences of document 01 are quoted in
+the comments where they decide something.
+"""
+
+from typing import NamedTuple
+
+# "A value is a 32-bit unsigned number. 4,294,967,295 is reserved and written
+# 'none'."
+NONE = 4294967295
+
+# "X is a task number, or 255 for no task."
+NO_TASK = 255
+
+# "A block is five neighbouring words of the lent pool: X, Y, C, V, D."
+X, Y, C, V, D = range(5)
+WORDS = 5
+
+# "Tasks N: 1 to 32 ... Cells V: 1 to 16 ... Blocks B: at least V + 2 x N, at
+# most 128."
+MOST_TASKS = 32
+MOST_CELLS = 16
+MOST_BLOCKS = 128
+
+
+def least_blocks(n, v):
+    return v + 2 * n
+
+
+# "A read ends within 6 own steps with at most 1 hardware swap, a swap within
+# 17 with at most 3" (demand 3), so the fit question allows 16 and 3 so far.
+MOST_STEPS_SO_FAR = 16
+MOST_HARD_SO_FAR = 3
+
+IDLE = 0  # the next line of a task without a call
+
+# The kinds of call, as begun.
+READ = "read"
+SWAP = "swap"
+
+# "Steps are lines 10 to 12 (read), 15 to 24, 26, 27, 29 and 30 (swap), and 1
+# to 3 of the deciding part. Lines 13, 25 and 28 run the deciding part."
+READ_LINES = frozenset((10, 11, 12))
+SWAP_LINES = frozenset((*range(15, 25), 26, 27, 29, 30))
+DECIDING_LINES = frozenset((1, 2, 3))
+READ_WANTS = frozenset((13,))
+SWAP_WANTS = frozenset((25, 28))
+
+# What each line does to memory; line 29, the one-step fill, is "a step and
+# none of the other three".
+LOAD_LINES = frozenset((1, 3, 10, 11, 12, 15, 17, 19, 20, 21, 24))
+STORE_LINES = frozenset((16, 18, 22, 23, 26, 27))
+HARD_LINES = frozenset((2, 30))
+
+
+class Refused(NamedTuple):
+    """"A refusal returns the number alone."""
+
+    number: int
+
+
+class Finished(NamedTuple):
+    """What the step that ends a call hands back."""
+
+    kind: str
+    cell: int
+    answer: object  # a value for a read, a bool for a swap
+    steps: int
+    hard: int
+
+
+class Record:
+    """A task's record.
+
+    "The record also holds cell, kind, both swap values, the held block, the
+    block being installed, the value loaded, and steps and hardware swaps so
+    far."  The next line is there too, and in the deciding part the line that
+    wanted it.
+    """
+
+    __slots__ = ("line", "wanted_by", "kind", "cell", "expected", "new",
+                 "held", "installing", "loaded", "steps", "hard")
+
+    def __init__(self):
+        self.clear()
+
+    def clear(self):
+        """"A finished call leaves it idle, its other fields 0."""
+        self.line = IDLE
+        self.wanted_by = 0
+        self.kind = 0
+        self.cell = 0
+        self.expected = 0
+        self.new = 0
+        self.held = 0
+        self.installing = 0
+        self.loaded = 0
+        self.steps = 0
+        self.hard = 0
+
+    def words(self):
+        return tuple(getattr(self, name) for name in self.__slots__)
+
+    @property
+    def busy(self):
+        return self.line != IDLE
+
+    @property
+    def runs_read_lines(self):
+        """"a swap whose two values are equal becomes a read"."""
+        return self.kind == READ or self.expected == self.new
+
+    @property
+    def holds_a_block(self):
+        """"held by a busy task that has done its first load": the first load
+        is line 10 or line 15."""
+        return self.busy and self.line not in (10, 15)
+
+    @property
+    def has_taken_a_block(self):
+        """"taken by a task whose next line is 30"."""
+        return self.line == 30
+
+
+class Cells:
+    """N tasks, V cells and B blocks in a lent pool, as one opening left them."""
+
+    def __init__(self, n, v, b, pool, values, ask_fit=True):
+        """An opening whose questions were all answered yes; see open_cells."""
+        self.n = n
+        self.v = v
+        self.b = b
+        self.pool = pool
+        self.ask_fit = ask_fit
+        # "Opening gives cell k block k, with X 255, Y 0, C 0, D none and V
+        # its starting value; the other blocks' words are set to 0."
+        for word in range(WORDS * b):
+            pool[word] = 0
+        self.current = list(range(v))
+        for block, value in enumerate(values):
+            self.fill(block, value)
+        # "at opening the last taken is block V - 1."
+        self.last_taken = v - 1
+        # "It leaves every task's record idle, its other fields 0."
+        self.tasks = [Record() for _ in range(n)]
+
+    # ----------------------------------------------------------- the pool
+
+    def fill(self, block, value):
+        """"fills it with X 255, Y 0, C 0, D none, V the new value."""
+        at = WORDS * block
+        self.pool[at + X] = NO_TASK
+        self.pool[at + Y] = 0
+        self.pool[at + C] = 0
+        self.pool[at + V] = value
+        self.pool[at + D] = NONE
+
+    def is_used(self, block):
+        """"A block is used while it is current, or held by a busy task that
+        has done its first load, or taken by a task whose next line is 30."""
+        if block in self.current:
+            return True
+        for record in self.tasks:
+            if record.holds_a_block and record.held == block:
+                return True
+            if record.has_taken_a_block and record.installing == block:
+                return True
+        return False
+
+    def take_unused_block(self):
+        """"The unused block taken is the first met going upward from the
+        block after the last one taken, going round after B - 1."""
+        for onward in range(1, self.b + 1):
+            block = (self.last_taken + onward) % self.b
+            if not self.is_used(block):
+                self.last_taken = block
+                return block
+        # "By counting, one is always unused."
+        raise AssertionError("every block is used")
+
+    # ------------------------------------------------- questions 6 to 11
+
+    def is_fit(self):
+        """Question 6; a session cannot break it."""
+        if open_refusal(self.n, self.v, self.b, self.pool, None):
+            return False
+        # "every cell's block and the last taken are below B"
+        if len(self.current) != self.v or len(self.tasks) != self.n:
+            return False
+        if any(block >= self.b for block in self.current):
+            return False
+        if self.last_taken >= self.b:
+            return False
+        # "each record is idle or busy"
+        return all(self.is_record_fit(record) for record in self.tasks)
+
+    def is_record_fit(self, record):
+        if not record.busy:
+            return True
+        if record.kind not in (READ, SWAP) or record.cell >= self.v:
+            return False
+        # "a next line its kind has (10 to 12 and the deciding for 13 in a
+        # read or a swap of equal values, the others in a swap of unequal
+        # ones; in the deciding part, also the line that wanted it)"
+        if record.runs_read_lines:
+            lines, wants = READ_LINES, READ_WANTS
+        else:
+            lines, wants = SWAP_LINES, SWAP_WANTS
+        if record.line in DECIDING_LINES:
+            if record.wanted_by not in wants:
+                return False
+        elif record.line not in lines:
+            return False
+        # "each block it holds or has taken below B"
+        if record.holds_a_block and record.held >= self.b:
+            return False
+        if record.has_taken_a_block and record.installing >= self.b:
+            return False
+        # "no value equal to none in a swap"
+        if record.kind == SWAP and NONE in (record.expected, record.new):
+            return False
+        # "at most 16 steps and 3 hardware swaps so far"
+        return (record.steps <= MOST_STEPS_SO_FAR
+                and record.hard <= MOST_HARD_SO_FAR)
+
+    def refusal(self, task=None, cell=None, begin=False, swap=None,
+                step=False):
+        """The number of the first question answered no, or 0.  The questions
+        follow in the paper's order, "as far as the entry names them"."""
+        if self.ask_fit and not self.is_fit():
+            return 6
+        if task is not None and not task < self.n:
+            return 7
+        if cell is not None and not cell < self.v:
+            return 8
+        if begin and self.tasks[task].busy:
+            return 9
+        if swap is not None and NONE in swap:
+            return 10
+        if step and not self.tasks[task].busy:
+            return 11
+        return 0
+
+    # ------------------------------------------------------- the entries
+
+    def begin_read(self, task, cell):
+        number = self.refusal(task=task, cell=cell, begin=True)
+        if number:
+            return Refused(number)
+        self.begin(task, READ, cell, 0, 0)
+        return None
+
+    def begin_swap(self, task, cell, expected, new):
+        number = self.refusal(task=task, cell=cell, begin=True,
+                              swap=(expected, new))
+        if number:
+            return Refused(number)
+        self.begin(task, SWAP, cell, expected, new)
+        return None
+
+    def begin(self, task, kind, cell, expected, new):
+        record = self.tasks[task]
+        record.kind = kind
+        record.cell = cell
+        record.expected = expected
+        record.new = new
+        # "Line 14 is done by the begin: a swap whose two values are equal
+        # becomes a read".
+        record.line = 10 if record.runs_read_lines else 15
+
+    def step(self, task):
+        """"One step is one line of figure 2."  Hands back Refused, Finished,
+        or None while the call goes on."""
+        number = self.refusal(task=task, step=True)
+        if number:
+            return Refused(number)
+        record = self.tasks[task]
+        record.steps += 1
+        # "A hardware swap counts when attempted, successful or not."
+        if record.line in HARD_LINES:
+            record.hard += 1
+        answer = self.do_line(task, record)
+        if answer is None:
+            return None
+        # "A call returns with its last step."
+        finished = Finished(record.kind, record.cell, answer, record.steps,
+                            record.hard)
+        record.clear()
+        return finished
+
+    def look(self, cell):
+        """"Look answers what a read would return if it ran now and nothing
+        else moved: V while C is false; otherwise D, or V where D is none."""
+        number = self.refusal(cell=cell)
+        if number:
+            return Refused(number)
+        at = WORDS * self.current[cell]
+        if self.pool[at + C] == 0:
+            return self.pool[at + V]
+        if self.pool[at + D] == NONE:
+            return self.pool[at + V]
+        return self.pool[at + D]
+
+    # -------------------------------------------------- lines of figure 2
+
+    def do_line(self, task, record):
+        """Does the record's next line and leaves the line after it there.
+
+        Hands back the call's answer with its last line, else None.  "Other
+        tests belong to the load before them."
+        """
+        pool = self.pool
+        at = WORDS * record.held
+        line = record.line
+
+        # decide(b); "three steps (load V, hardware swap of D from none to the
+        # loaded value, load D)", the last with the test of the line that
+        # wanted it.
+        if line == 1:
+            record.loaded = pool[at + V]
+            record.line = 2
+        elif line == 2:
+            if pool[at + D] == NONE:
+                pool[at + D] = record.loaded
+            record.line = 3
+        elif line == 3:
+            return self.test_decision(record, pool[at + D])
+
+        # WFRead
+        elif line == 10:
+            record.held = self.current[record.cell]
+            record.line = 11
+        elif line == 11:
+            record.loaded = pool[at + V]
+            record.line = 12
+        elif line == 12:
+            if pool[at + C] == 0:
+                return self.end_of_read(record, record.loaded)
+            self.want_decision(record, 13)
+
+        # WFCAS
+        elif line == 15:
+            record.held = self.current[record.cell]
+            record.line = 16
+        elif line == 16:
+            pool[at + X] = task
+            record.line = 17
+        elif line == 17:
+            record.line = 27 if pool[at + Y] != 0 else 18
+        elif line == 18:
+            pool[at + Y] = 1
+            record.line = 19
+        elif line == 19:
+            record.line = 27 if pool[at + X] != task else 20
+        elif line == 20:
+            record.loaded = pool[at + V]
+            record.line = 21
+        elif line == 21:
+            if pool[at + C] != 0:
+                self.want_decision(record, 28)
+            elif record.loaded != record.expected:
+                # "line 22 is a step only when its values differ, and
+                # otherwise 23 follows 21."
+                record.line = 22
+            else:
+                record.line = 23
+        elif line == 22:
+            pool[at + Y] = 0
+            return False
+        elif line == 23:
+            pool[at + V] = record.new
+            record.line = 24
+        elif line == 24:
+            if pool[at + C] != 0:
+                self.want_decision(record, 25)
+            else:
+                record.line = 26
+        elif line == 26:
+            pool[at + Y] = 0
+            return True
+        elif line == 27:
+            pool[at + C] = 1
+            self.want_decision(record, 28)
+        elif line == 29:
+            # "Line 29 is one step here: it takes an unused block and fills
+            # it".
+            record.installing = self.take_unused_block()
+            self.fill(record.installing, record.new)
+            record.line = 30
+        elif line == 30:
+            if self.current[record.cell] != record.held:
+                return False
+            self.current[record.cell] = record.installing
+            return True
+        else:
+            raise AssertionError("no such line: %d" % line)
+        return None
+
+    def want_decision(self, record, line):
+        record.line = 1
+        record.wanted_by = line
+
+    def test_decision(self, record, decided):
+        """Lines 13, 25 and 28 "test its result with the last" of the three
+        deciding steps."""
+        wanted_by = record.wanted_by
+        record.wanted_by = 0
+        if wanted_by == 13:
+            return self.end_of_read(record, decided)
+        if wanted_by == 25:
+            if decided == record.new:
+                return True
+            self.want_decision(record, 28)
+            return None
+        if decided != record.expected:
+            return False
+        record.line = 29
+        return None
+
+    def end_of_read(self, record, value):
+        """"becomes a read, and answers yes if the value read is the expected
+        one."""
+        if record.kind == SWAP:
+            return value == record.expected
+        return value
+
+
+def open_refusal(n, v, b, pool, values):
+    """Questions 1 to 5: the first one answered no, or 0.  With values None
+    the questions about starting values are left out (question 6 asks only
+    about "N, V, B and the pool length")."""
+    if not 1 <= n <= MOST_TASKS:
+        return 1
+    if not 1 <= v <= MOST_CELLS:
+        return 2
+    if not least_blocks(n, v) <= b <= MOST_BLOCKS or len(pool) != WORDS * b:
+        return 3
+    if values is None:
+        return 0
+    if len(values) != v:
+        return 4
+    if NONE in values:
+        return 5
+    return 0
+
+
+def open_cells(n, v, b, pool, values, ask_fit=True):
+    """The opening: Refused, or the cells."""
+    number = open_refusal(n, v, b, pool, values)
+    if number:
+        return Refused(number)
+    return Cells(n, v, b, pool, values, ask_fit)
+
+
+# ------------------------------------------------------------------- paths
+
+# "Steps / loads / stores / hardware swaps of each complete path"
+PATHS = {
+    "read_active": (3, 3, 0, 0),
+    "read_decided": (6, 5, 0, 1),
+    "no_from_22": (8, 5, 3, 0),
+    "yes_from_26": (10, 6, 4, 0),
+    "yes_from_25": (12, 8, 3, 1),
+    "no_from_28_by_17": (7, 4, 2, 1),
+    "no_from_28_by_19": (9, 5, 3, 1),
+    "no_from_28_by_21": (10, 7, 2, 1),
+    "no_from_28_by_25": (15, 10, 3, 2),
+    "end_at_30_by_17": (9, 4, 2, 2),
+    "end_at_30_by_19": (11, 5, 3, 2),
+    "end_at_30_by_21": (12, 7, 2, 2),
+    "end_at_30_by_25": (17, 10, 3, 3),
+}
+
+# "'no from 28 by 25' is a path of the lines that no fresh opening reaches"
+UNREACHED = "no_from_28_by_25"
+
+
+def path_of(lines):
+    """The table's path that a finished call's lines make.  Each entry is the
+    pair (line, line that wanted the deciding part or 0)."""
+    last = lines[-1]
+    if lines[0][0] == 10:
+        return "read_active" if last[0] == 12 else "read_decided"
+    if last[0] == 22:
+        return "no_from_22"
+    if last[0] == 26:
+        return "yes_from_26"
+    if last == (3, 25):
+        return "yes_from_25"
+    if (3, 25) in lines:
+        way = 25
+    elif (27, 0) not in lines:
+        way = 21
+    elif (18, 0) in lines:
+        way = 19
+    else:
+        way = 17
+    return "%s_by_%d" % ("end_at_30" if last[0] == 30 else "no_from_28", way)
+
+
+def counts_of(lines):
+    """Steps, loads, stores and hardware swaps of the lines done."""
+    numbers = [line for line, _ in lines]
+    return (len(numbers),
+            sum(line in LOAD_LINES for line in numbers),
+            sum(line in STORE_LINES for line in numbers),
+            sum(line in HARD_LINES for line in numbers))

@@ -1,0 +1,34 @@
+#!/bin/sh
+# Makes the session cases anew from the model and compares them with the ones
+# kept in crates/session_cases.  Ends with 1, naming the first difference, if
+# data, args or stdout differ.
+set -u
+here=$(cd "$(dirname "$0")" && pwd) || exit 1
+kept=$here/../crates/session_cases
+made=$(mktemp -d) || exit 1
+trap 'rm -rf "$made"' EXIT
+
+python3 -B "$here/make_cases.py" "$made" || exit 1
+
+if ! first=$(diff -rq "$made/data" "$kept/data"); then
+    echo "check_cases: data differ: $(printf '%s\n' "$first" | head -n 1)"
+    exit 1
+fi
+if ! first=$(cmp "$made/args" "$kept/args" 2>&1); then
+    echo "check_cases: args differ: $first"
+    exit 1
+fi
+if ! cmp -s "$made/stdout" "$kept/stdout"; then
+    if [ ! -f "$kept/stdout" ]; then
+        echo "check_cases: there is no stdout"
+        exit 1
+    fi
+    # the line, and the case it belongs to
+    line=$(cmp "$made/stdout" "$kept/stdout" 2>&1 | sed 's/.*line //;s/[^0-9].*//')
+    name=$(head -n "${line:-1}" "$made/stdout" | grep '^# ' | tail -n 1)
+    echo "check_cases: stdout differs at line ${line:-1}, case ${name#\# }"
+    echo "  model: $(sed -n "${line:-1}p" "$made/stdout")"
+    echo "  kept:  $(sed -n "${line:-1}p" "$kept/stdout")"
+    exit 1
+fi
+echo "check_cases: data, args and stdout are the model's"

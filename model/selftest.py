@@ -1,0 +1,411 @@
+#!/usr/bin/env python3
+"""Self test of the model: P1 to P10, and the papers' claims on drawn lists.
+
+The drawn lists check what documents 00 and 01 say of every list: counts by
+path, the figure with a new block each time, the bounds, the promise of no
+hardware swap, and that the calls can be told one after another on plain cells.
+"""
+
+import sys
+
+import cells
+import draw
+import fuzz
+import reader
+import session
+
+NONE = cells.NONE
+
+
+def check(what, found, wanted):
+    if found != wanted:
+        print("selftest: %s\n  found  %r\n  wanted %r" % (what, found, wanted))
+        sys.exit(1)
+
+
+def printed(text):
+    """The lines the model prints for these session lines."""
+    data = draw.text(line.strip() for line in text.strip().split("\n"))
+    return session.run(data, ask_fit=True).decode().split("\n")[:-1]
+
+
+# ------------------------------------------------------ cases from the shop
+
+def cases_from_the_shop():
+    check("P1", printed("""(open 2 1 5 (5))
+                           (swap 0 0 5 7)
+                           (again 10 (step 0))
+                           (read 1 0)
+                           (again 3 (step 1))"""),
+          ["(done 0 swap 0 yes 10 0)", "(done 1 read 0 7 3 0)",
+           "(cell 0 7)", "(end 2 0 0 0)"])
+
+    check("P2, N 32", printed("(open 32 1 65 (5))"),
+          ["(cell 0 5)", "(end 0 0 0 0)"])
+    check("P2, N 33", printed("(open 33 1 67 (5))"), ["(no 0 1)"])
+
+    check("P3, B 5", printed("(open 2 1 5 (5))"),
+          ["(cell 0 5)", "(end 0 0 0 0)"])
+    check("P3, B 4", printed("(open 2 1 4 (5))"), ["(no 0 3)"])
+
+    check("P4, 4294967294", printed("(open 2 1 5 (4294967294))"),
+          ["(cell 0 4294967294)", "(end 0 0 0 0)"])
+    check("P4, none", printed("(open 2 1 5 (4294967295))"), ["(no 0 5)"])
+
+    check("P5", printed("""(open 2 1 5 (5))
+                           (swap 0 0 5 5)
+                           (again 3 (step 0))"""),
+          ["(done 0 swap 0 yes 3 0)", "(cell 0 5)", "(end 1 0 0 0)"])
+
+    check("P6", printed("""(open 2 1 5 (5))
+                           (swap 0 0 4 6)
+                           (again 8 (step 0))"""),
+          ["(done 0 swap 0 no 8 0)", "(cell 0 5)", "(end 1 0 0 0)"])
+
+    check("P7", printed("""(open 2 1 5 (5))
+                           (step 0)"""),
+          ["(no 0 11)", "(cell 0 5)", "(end 0 0 0 0)"])
+
+    check("P8", printed("""(open 2 1 5 (5))
+                           (read 2 1)
+                           (swap 2 1 5 7)"""),
+          ["(no 0 7)", "(no 1 7)", "(cell 0 5)", "(end 0 0 0 0)"])
+
+    # "Task 0 takes 2 steps, task 1 takes 7."
+    start = """(open 2 1 5 (5))
+               (swap 0 0 5 7)
+               (swap 1 0 5 9)
+               (again 2 (step 0))
+               (again 7 (step 1))
+            """
+    check("P9", printed(start + """(again 2 (step 0))
+                                   (again 5 (step 1))
+                                   (again 3 (step 0))
+                                   (swap 0 0 9 4)
+                                   (again 9 (step 0))
+                                   (swap 0 0 4 6)
+                                   (again 10 (step 0))"""),
+          ["(done 1 swap 0 yes 12 1)", "(done 0 swap 0 no 7 1)",
+           "(done 0 swap 0 yes 9 2)", "(done 0 swap 0 yes 10 0)",
+           "(cell 0 6)", "(end 4 0 4 1000)"])
+    check("P10", printed(start + """(again 5 (step 0))
+                                    (again 10 (step 1))
+                                    (again 2 (step 0))"""),
+          ["(done 1 swap 0 yes 17 3)", "(done 0 swap 0 no 9 2)",
+           "(cell 0 9)", "(end 2 0 5 2500)"])
+
+
+# --------------------------------------------------- reading of the papers
+
+def session_file_questions():
+    check("empty file", session.run(b""), b"(bad 14)\n")
+    check("65537 bytes", session.run(b"(" * 65537), b"(bad 12)\n")
+    check("open alone", session.run(b"(open 1 1 3 (0))\n"),
+          b"(cell 0 0)\n(end 0 0 0 0)\n")
+    # neither time nor memory in the size of the counts
+    huge = b"4294967295"
+    nested = b"(step 0)"
+    nothing = b"(again " + huge + b")"
+    for _ in range(6):
+        nested = b"(again %s %s)" % (huge, nested)
+        nothing = b"(again %s %s %s)" % (huge, nothing, nothing)
+    check("too many", session.run(b"(open 1 1 3 (0))\n" + nested + b"\n"),
+          b"(bad 15)\n")
+    check("of nothing", session.run(b"(open 1 1 3 (0))\n" + nothing + b"\n"),
+          b"(cell 0 0)\n(end 0 0 0 0)\n")
+    check("most actions", reader.count_actions(
+        reader.Again(65535, (reader.Step(0),))), 65535)
+
+
+def breaks_question_13(data):
+    """Question 13 once more, by the sentence's parts instead of a reader:
+    what may stand next to what."""
+    if data and not data.endswith(b"\n"):
+        return True
+    for line in data.split(b"\n")[:-1]:
+        depth = 0
+        for at, byte in enumerate(line):
+            before = line[at - 1:at] if at else b""
+            after = line[at + 1:at + 2]
+            if byte == ord("("):
+                # an item starts: first in its list, or after one space
+                if at and before not in (b"(", b" "):
+                    return True
+                depth += 1
+                if depth > 8 or (depth == 1 and at):
+                    return True
+            elif byte == ord(")"):
+                depth -= 1
+                if depth < 0 or (after and after not in (b")", b" ")):
+                    return True
+                if depth == 0 and after:
+                    return True
+            elif depth == 0:
+                return True
+            elif byte == ord(" "):
+                # it parts two items
+                if before in (b"(", b" ") or after in (b")", b" ", b""):
+                    return True
+        if depth or not line:
+            return True
+    return False
+
+
+def question_13_two_ways(count):
+    drawn = draw.Draw(13)
+    seen = {True: 0, False: 0}
+    for _ in range(count):
+        data = drawn.pick((fuzz.damaged, fuzz.token_soup, fuzz.deep))(drawn)
+        try:
+            reader.take_lines(data)
+            bad = False
+        except reader.Bad:
+            bad = True
+        check("question 13 of %r" % data, bad, breaks_question_13(data))
+        seen[bad] += 1
+    check("both answers come up", min(seen.values()) > count // 10, True)
+
+
+def every_refusal_changes_nothing():
+    drawn = draw.Draw(11)
+    for _ in range(40):
+        n, v = drawn.between(1, 4), drawn.between(1, 3)
+        b = cells.least_blocks(n, v) + drawn.below(3)
+        model = cells.open_cells(n, v, b, [7] * (5 * b), [1] * v)
+        draw.draw_actions(drawn, model, draw.Style(length=30))
+        for _ in range(40):
+            word, *args = draw.draw_refused(drawn, model)
+            before = everything(model)
+            result = {"read": model.begin_read, "swap": model.begin_swap,
+                      "step": model.step}[word](*args)
+            if isinstance(result, cells.Refused):
+                check("a refusal changes nothing", everything(model), before)
+
+
+def everything(model):
+    return (list(model.pool), list(model.current), model.last_taken,
+            [record.words() for record in model.tasks])
+
+
+def unfit_states_are_refused():
+    """Question 6, field by field, from a state that is fit."""
+    damages = [
+        lambda m: setattr(m, "n", 0), lambda m: setattr(m, "n", 33),
+        lambda m: setattr(m, "v", 17), lambda m: setattr(m, "b", 129),
+        lambda m: m.pool.append(0), lambda m: setattr(m, "last_taken", m.b),
+        lambda m: m.current.__setitem__(0, m.b),
+        lambda m: setattr(m.tasks[0], "cell", m.v),
+        lambda m: setattr(m.tasks[0], "line", 10),
+        lambda m: setattr(m.tasks[0], "line", 13),
+        lambda m: setattr(m.tasks[0], "line", 25),
+        lambda m: setattr(m.tasks[0], "line", 28),
+        lambda m: setattr(m.tasks[0], "line", 1),
+        lambda m: setattr(m.tasks[0], "held", m.b),
+        lambda m: setattr(m.tasks[0], "expected", NONE),
+        lambda m: setattr(m.tasks[0], "new", NONE),
+        lambda m: setattr(m.tasks[0], "steps", 17),
+        lambda m: setattr(m.tasks[0], "hard", 4),
+    ]
+    for damage in damages:
+        model = cells.open_cells(2, 1, 5, [0] * 25, [5])
+        model.begin_swap(0, 0, 5, 7)
+        model.step(0)
+        check("fit", model.is_fit(), True)
+        damage(model)
+        check("unfit", (model.begin_read(9, 9), model.step(9), model.look(9),
+                        model.begin_swap(9, 9, 9, 9)),
+              (cells.Refused(6),) * 4)
+
+
+# --------------------------------------------------------- the drawn lists
+
+class NewBlockEachTime(cells.Cells):
+    """The figure itself: "with a new block each time"."""
+
+    def take_unused_block(self):
+        self.pool.extend([0] * cells.WORDS)
+        return len(self.pool) // cells.WORDS - 1
+
+
+def open_figure(n, v, b, pool, values, ask_fit):
+    return NewBlockEachTime(n, v, b, pool, values, False)
+
+
+class Call:
+    def __init__(self, begin, action, active):
+        self.begin = begin
+        self.word, self.task, self.cell, *self.swap = action
+        self.last = begin      # its last step so far
+        self.answer = None
+        self.finished = False
+        self.hard = 0
+        self.unhindered = active
+
+    def is_unequal_swap(self):
+        return bool(self.swap) and self.swap[0] != self.swap[1]
+
+    def on_plain_cell(self, value):
+        """The answer, and the cell's value after it."""
+        if not self.swap:
+            return value, value
+        expected, new = self.swap
+        return (True, new) if value == expected else (False, value)
+
+
+def calls_of(model, actions):
+    """Runs the actions; the calls, for the tellings."""
+    calls, under_way = [], {}
+    for i, action in enumerate(actions):
+        word, task = action[0], action[1]
+        if word == "step":
+            result = model.step(task)
+            if isinstance(result, cells.Refused):
+                continue
+            call = under_way[task]
+            call.last = i
+            call.hard = result.hard if result else model.tasks[task].hard
+            if result:
+                call.answer, call.finished = result.answer, True
+                del under_way[task]
+            continue
+        begin = model.begin_read if word == "read" else model.begin_swap
+        if isinstance(begin(*action[1:]), cells.Refused):
+            continue
+        cell = action[2]
+        at = cells.WORDS * model.current[cell]
+        call = Call(i, action, model.pool[at + cells.C] == 0)
+        for other in under_way.values():
+            if other.cell == cell:
+                if call.is_unequal_swap():
+                    other.unhindered = False
+                if other.is_unequal_swap():
+                    call.unhindered = False
+        under_way[task] = call
+        calls.append(call)
+    return calls
+
+
+def can_be_told(calls, start):
+    """Whether some order of one cell's calls gives every finished one its
+    answer: "Every finished call stands there once, and some unfinished ones
+    once each, every one at a moment after its begin and no later than its
+    last step."""
+    calls = [c for c in calls if c.last > c.begin or c.finished]
+    everyone = [i for i, c in enumerate(calls) if c.finished]
+    wanted = sum(1 << i for i in everyone)
+    before = [sum(1 << j for j, d in enumerate(calls) if d.last < c.begin)
+              for c in calls]
+    seen = set()
+    todo = [(0, start)]
+    while todo:
+        told, value = todo.pop()
+        if told & wanted == wanted:
+            return True
+        if (told, value) in seen:
+            continue
+        seen.add((told, value))
+        for i, call in enumerate(calls):
+            if told >> i & 1:
+                continue
+            # finished calls that ended before it began come first; an
+            # unfinished one that did may no longer be told
+            if before[i] & wanted & ~told:
+                continue
+            if any(told >> j & 1 and before[j] >> i & 1
+                   for j in range(len(calls))):
+                continue
+            answer, after = call.on_plain_cell(value)
+            if call.finished and answer != call.answer:
+                continue
+            todo.append((told | 1 << i, after))
+    return False
+
+
+def drawn_lists(count):
+    seen = session.Trace()
+    drawn = draw.Draw(2003)
+    for number in range(count):
+        n = drawn.pick((2, 2, 3, 3, 4, 6))
+        v = drawn.between(1, 2)
+        b = cells.least_blocks(n, v) + drawn.pick((0, 0, 1, 5))
+        style = draw.Style(length=drawn.between(20, 120), hot_cells=v,
+                           values=drawn.between(2, 4),
+                           burst=drawn.between(1, 7),
+                           refusals=drawn.pick((0, 5)),
+                           halts=drawn.below(3),
+                           runs_out=drawn.pick((0, 30)))
+        values = [drawn.below(style.values) for _ in range(v)]
+        model = cells.open_cells(n, v, b, [9] * (5 * b), values)
+        actions = draw.draw_actions(drawn, model, style)
+        data = draw.text([draw.opening_line(n, v, b, values)]
+                         + draw.lines_of(actions))
+        name = "drawn list %d\n%s" % (number, data.decode())
+
+        trace = session.Trace()
+        pool_text = session.run(data, trace, ask_fit=True)
+        check(name + "the figure with a new block each time", pool_text,
+              session.run(data, open_cells=open_figure))
+        for task, finished, lines in trace.calls:
+            path = cells.path_of(lines)
+            check(name + path, cells.counts_of(lines), cells.PATHS[path])
+            check(name + path, (finished.steps, finished.hard),
+                  (cells.PATHS[path][0], cells.PATHS[path][3]))
+        seen.paths.update(trace.paths)
+        seen.refusals.update(trace.refusals)
+        check(name + "question 6", trace.refusals[6], 0)
+
+        model = cells.open_cells(n, v, b, [9] * (5 * b), values)
+        calls = calls_of(model, actions)
+        for call in calls:
+            if call.unhindered:
+                check(name + "no hardware swap", call.hard, 0)
+        for cell in range(v):
+            check(name + "the telling of cell %d" % cell, can_be_told(
+                [c for c in calls if c.cell == cell], values[cell]), True)
+    missing = set(cells.PATHS) - {cells.UNREACHED} - set(seen.paths)
+    check("paths not come by", missing, set())
+    check(cells.UNREACHED, seen.paths[cells.UNREACHED], 0)
+    return sum(seen.paths.values())
+
+
+def tellings_are_judged():
+    """can_be_told on lists known to have a telling, or none."""
+    def call(begin, last, swap, answer, finished=True):
+        c = Call(begin, ("swap", 0, 0, *swap) if swap else ("read", 0, 0),
+                 True)
+        c.last, c.answer, c.finished = last, answer, finished
+        return c
+
+    first, second = (5, 7), (5, 9)
+    for wanted, calls in (
+            (True, [call(0, 9, first, True), call(1, 8, second, False)]),
+            # "If a cell told two tasks that both had won it"
+            (False, [call(0, 9, first, True), call(1, 8, second, True)]),
+            (False, [call(0, 9, first, False), call(1, 8, second, False)]),
+            (True, [call(0, 3, first, True), call(4, 8, None, 7)]),
+            (False, [call(0, 3, first, True), call(4, 8, None, 5)]),
+            (True, [call(0, 5, first, True), call(4, 8, None, 5)]),
+            # an unfinished call may stand there, up to its last step
+            (True, [call(0, 5, first, None, False), call(4, 8, None, 7)]),
+            (True, [call(0, 5, first, None, False), call(4, 8, None, 5)]),
+            (False, [call(0, 3, first, None, False), call(4, 6, None, 5),
+                     call(7, 9, None, 7)]),
+            (False, [call(0, 0, first, None, False), call(4, 8, None, 7)])):
+        check("a telling", can_be_told(calls, 5), wanted)
+
+
+def main():
+    cases_from_the_shop()
+    session_file_questions()
+    question_13_two_ways(3000)
+    tellings_are_judged()
+    every_refusal_changes_nothing()
+    unfit_states_are_refused()
+    count = int(sys.argv[1]) if len(sys.argv) > 1 else 400
+    calls = drawn_lists(count)
+    print("selftest: P1 to P10 and %d drawn lists with %d calls agree"
+          % (count, calls))
+
+
+if __name__ == "__main__":
+    main()

@@ -1,0 +1,150 @@
+#!/usr/bin/env python3
+"""The session program: a file of actions in, the printed results out.
+
+run(data) is the exact text for a session file's bytes.  As a program it reads
+standard input and writes standard output.  Written from the papers alone; see
+README.md.
+"""
+
+import sys
+from collections import Counter
+
+import cells
+import reader
+
+
+class Trace:
+    """What a session came by, for coverage; no part of the printed text."""
+
+    def __init__(self):
+        self.refusals = Counter()  # number -> how often
+        self.paths = Counter()     # the table's path -> how often
+        self.calls = []            # (task, Finished, lines done), as finished
+        self.next_lines = []       # (line, wanted by) left by each task
+
+    def finished(self, task, finished, lines):
+        self.paths[cells.path_of(lines)] += 1
+        self.calls.append((task, finished, tuple(lines)))
+
+
+class Session:
+    """One opening, its actions in order and the lines they print."""
+
+    def __init__(self, opening, trace=None, ask_fit=False,
+                 open_cells=cells.open_cells):
+        self.out = []
+        self.trace = trace
+        # The session lends a pool of exactly 5 x B words.  A B above its
+        # limit is refused whatever the pool, so none is made for it.
+        pool = [0] * (cells.WORDS * min(opening.b, cells.MOST_BLOCKS))
+        self.cells = open_cells(opening.n, opening.v, opening.b, pool,
+                                opening.values, ask_fit)
+        self.finished = 0
+        self.hard = 0
+        self.lines = [[] for _ in range(opening.n)] if self.is_open() else []
+
+    def is_open(self):
+        return not isinstance(self.cells, cells.Refused)
+
+    def run(self, actions):
+        # "A refused open prints `(no 0 R)` and ends."
+        if not self.is_open():
+            self.refused(0, self.cells.number)
+            return
+        # "Actions are counted from 0 after open."
+        for i, action in enumerate(actions):
+            result = self.act(action)
+            if result is None:
+                continue
+            if isinstance(result, cells.Refused):
+                # "A refused action prints `(no i R)`, i its action number,
+                # and the session goes on."
+                self.refused(i, result.number)
+            else:
+                self.done(action.task, result)
+        self.end()
+
+    def act(self, action):
+        if isinstance(action, reader.Step):
+            if self.trace is not None:
+                self.note_line(action.task)
+            return self.cells.step(action.task)
+        if isinstance(action, reader.Read):
+            return self.cells.begin_read(action.task, action.cell)
+        return self.cells.begin_swap(action.task, action.cell,
+                                     action.expected, action.new)
+
+    def note_line(self, task):
+        if task < self.cells.n and self.cells.tasks[task].busy:
+            record = self.cells.tasks[task]
+            self.lines[task].append((record.line, record.wanted_by))
+
+    # ------------------------------------------------------ printed lines
+
+    def refused(self, i, number):
+        self.out.append("(no %d %d)" % (i, number))
+        if self.trace is not None:
+            self.trace.refusals[number] += 1
+
+    def done(self, task, result):
+        """"A finished call prints `(done T word K answer steps hard)`; word
+        is read or swap as begun, answer a value or yes/no"."""
+        self.finished += 1
+        self.hard += result.hard
+        if result.kind == cells.SWAP:
+            answer = "yes" if result.answer else "no"
+        else:
+            answer = "%d" % result.answer
+        self.out.append("(done %d %s %d %s %d %d)" % (
+            task, result.kind, result.cell, answer, result.steps,
+            result.hard))
+        if self.trace is not None:
+            self.trace.finished(task, result, self.lines[task])
+            self.lines[task] = []
+
+    def end(self):
+        """"At the end, for each cell, `(cell K value)` by look, then `(end f
+        u h r)`"."""
+        for k in range(self.cells.v):
+            self.out.append("(cell %d %d)" % (k, self.cells.look(k)))
+        unfinished = sum(record.busy for record in self.cells.tasks)
+        self.out.append("(end %d %d %d %d)" % (
+            self.finished, unfinished, self.hard,
+            rate(self.hard, self.finished)))
+        if self.trace is not None:
+            self.trace.next_lines = [(record.line, record.wanted_by)
+                                     for record in self.cells.tasks]
+
+
+def rate(hard, finished):
+    """"h x 1000 / f rounded down, 0 if f is 0"."""
+    return hard * 1000 // finished if finished else 0
+
+
+def run(data, trace=None, ask_fit=False, open_cells=cells.open_cells):
+    """The printed text for a session file's bytes.
+
+    ask_fit asks question 6 before every entry.  No opening leads to a state
+    that is not fit and nobody else writes here, so the text is the same;
+    selftest.py runs with it.
+    """
+    try:
+        opening, actions = reader.read_session(data)
+    except reader.Bad as bad:
+        # "Refusals 12 to 15 print only `(bad R)`."
+        if trace is not None:
+            trace.refusals[bad.number] += 1
+        return b"(bad %d)\n" % bad.number
+    session = Session(opening, trace, ask_fit, open_cells)
+    session.run(actions)
+    return "".join(line + "\n" for line in session.out).encode("ascii")
+
+
+def main():
+    # One byte more than question 12 allows is enough to answer it.
+    data = sys.stdin.buffer.read(reader.MOST_BYTES + 1)
+    sys.stdout.buffer.write(run(data))
+
+
+if __name__ == "__main__":
+    main()
