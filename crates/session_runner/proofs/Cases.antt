@@ -11,7 +11,8 @@ use Rattle.cells.specs.Open.{opened}
 use Rattle.cells.specs.Begin.{readBegun, swapBegun}
 use Rattle.cells.specs.Step.{ran, stepped}
 use Rattle.cells.specs.Look.{looked}
-use Rattle.session_reader.specs.Session.{fits, deeper, shapedAfter, numbers, manyWithin, values, opening, keyword, head, body, form, line, count, counts, times, actions, actionsOf, counted, formed, verdict}
+use Rattle.session_reader.specs.Session.{fits, deeper, shapedAfter, numbers, manyWithin, values, opening, keyword, head, body, form, line, count, times, actions, counted, formed, verdict}
+use Rattle.session_reader.specs.Session as reader
 use Rattle.session_runner.specs.Lines as lines
 use Rattle.session_runner.specs.Printed.{reported, cellLines, pending, closed, played, started, printed}
 
@@ -42,5 +43,5 @@ cases =
 
 -- every case, computed from the definitions
 pub cases-hold : Holds cases
-unfolding word digitsAfter number digits hasNone openQuestions recordFit cellsFit recordsFit fit isCurrent isHeld used unused opened readBegun swapBegun ran stepped looked fits deeper shapedAfter numbers manyWithin values opening keyword head body form line count times actions counted formed verdict lines.numbers lines.doneStart reported cellLines pending closed played started printed
+unfolding word digitsAfter number digits hasNone openQuestions recordFit cellsFit recordsFit fit isCurrent isHeld used unused opened readBegun swapBegun ran stepped looked fits deeper shapedAfter numbers manyWithin values opening keyword head body form line count times actions counted formed reader.played verdict lines.numbers lines.doneStart reported cellLines pending closed played started printed
 cases-hold = (refl, (refl, (refl, (refl, (refl, (refl, (refl, (refl, (refl, (refl, (refl, (refl, (refl, tt)))))))))))))
