@@ -1,5 +1,6 @@
 // Reads a session from standard input and writes what it prints.
 use libc::STDOUT_FILENO;
+use session_runner::ROOM;
 ghost use mathlib.Core.Path.{_≡_};
 ghost use lib.ListN.{length};
 
@@ -10,10 +11,10 @@ fn in_space() -> [u8; 65537]
     [0; 65537]
 }
 
-fn out_space() -> [u8; 4400000]
+fn out_space() -> [u8; ROOM]
     ensures { λ r. ⌜ 4400000 ≡ length r ⌝ }
 {
-    [0; 4400000]
+    [0; ROOM]
 }
 
 fn main() {

@@ -1,5 +1,5 @@
 -- What is kept of a session lies within the buffers.
-use mathlib.Core.Path.{_≡_, _∙_}
+use mathlib.Core.Path.{_≡_}
 use mathlib.Core.Bool.{false}
 use mathlib.Core.List.{List}
 use Prim.Native.Nat.{ℕ, zero, suc, _+_, _*_}
@@ -7,7 +7,7 @@ use native.Mathlib.Omega.{arith}
 use lib.ListN.{length, take, length-take}
 use Rattle.session_reader.specs.Session.{Act}
 use Rattle.session_reader.specs.Answers.{Told, untold, told, Stands}
-use Rattle.session_reader.specs.Kept.{Named, Held}
+use Rattle.session_reader.specs.Kept.{Named}
 use Rattle.session_reader.specs.declared.forms.Kept.{Kept}
 
 told-named : {table w : List ℕ} {l : List Act} → Told table w l → Named (length table) w

@@ -1,12 +1,12 @@
 -- Actions and their outcomes.
-use mathlib.Core.Path.{_≡_, refl, sym, ap, _∙_}
+use mathlib.Core.Path.{_≡_, ap, _∙_}
 use mathlib.Core.List.{List}
-use Prim.Native.Nat.{ℕ, _+_, _*_, _≤_, _<_}
+use Prim.Native.Nat.{ℕ, _+_, _*_, _<_}
 use native.Mathlib.Omega.{arith}
-use borrow.Author.Tests.{eq-eqb, ne-eqb}
-use lib.ListN.{length, take, drop, getD}
+use borrow.Author.Tests.{ne-eqb}
+use lib.ListN.{take, drop, getD}
 use lib.Seq.{getD-take, getD-drop}
-use Rattle.session_reader.specs.Session.{Act, read, swap, step}
+use Rattle.session_reader.specs.Session.{read, swap, step}
 use Rattle.session_reader.specs.Reading.{actAt}
 
 field : (l : List ℕ) (a j k : ℕ) → j < 4 → a + j ≡ k → getD (take 4 (drop a l)) j 0 ≡ getD l k 0

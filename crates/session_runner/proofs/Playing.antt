@@ -1,14 +1,12 @@
 -- The loop over the actions, the opening before it, and the whole.
 use mathlib.Core.Path.{_≡_, refl, sym, ap, _∙_}
-use mathlib.Core.Bool.{Bool, true, cond}
 use mathlib.Core.List.{List, [], _∷_, _++_, map}
-use Prim.Native.Nat.{ℕ, zero, suc, _+_, _*_, _≤_, _<_}
+use Prim.Native.Nat.{ℕ, zero, suc, _+_, _≤_, _<_}
 use native.Mathlib.Numerals.{add-one}
 use native.Mathlib.Omega.{arith}
-use borrow.Author.Tests.{le-leb, lt-leb, eq-eqb}
+use borrow.Author.Tests.{le-leb, lt-leb}
 use lib.ListN.{length, take, drop, getD, replicate, drop-of-length-le, length-map, length-take, length-replicate}
 use lib.Seq.{length-take-le}
-use lib.Dec.{leb}
 use Rattle.io.specs.Counts.{Counts}
 use Rattle.text.specs.Append.{Appended}
 use Rattle.cells.specs.declared.State.{State}
@@ -20,6 +18,8 @@ use Rattle.cells.specs.Questions.{openQuestions}
 use Rattle.cells.proofs.Tests.{nth, answers, within-true}
 use Rattle.cells.proofs.Acts.{acts, open-acts}
 use Rattle.session_reader.specs.Session.{Act, Verdict, verdict}
+use Rattle.session_reader.specs.Reading.{judged}
+use Rattle.session_reader.proofs.Verdicts.{right-sizes}
 use Rattle.session_runner.specs.Lines.{noLine}
 use Rattle.session_runner.specs.Printed.{Totals, totals, taskOf, done, reported, counted, closed, played, started, blank, poolWords, shown, printed, printedWithin}
 
@@ -86,18 +86,17 @@ pool-length {l} {w} e h = let d : length l ≡ 640 = ap length e ∙ length-repl
 pub taken : {n m : ℕ} (l : List ℕ) → n ≤ length l → length l ≤ m → length (take n l) ≤ m
 taken {n} {m} l h k = omega (arith, length-take-le n l h)
 
-module _ (s : List ℕ) where
-  pub printed-as : {v : Verdict} → v ≡ verdict s → shown v ≡ printed s
-  unfolding printed
-  printed-as e = ap shown e
+pub no-room : (s : List ℕ) (n : ℕ) → n < 4400000 → [] ≡ printedWithin n s
+unfolding printedWithin
+no-room s n h = rw (lt-leb 4400000 n h)
 
-  pub room-yes : (n : ℕ) → 4400000 ≤ n → printedWithin n s ≡ printed s
-  unfolding printedWithin
-  room-yes n h = rw (le-leb 4400000 n h)
+with-room : (s : List ℕ) (n : ℕ) → 4400000 ≤ n → shown (verdict s) ≡ printedWithin n s
+unfolding printedWithin printed
+with-room s n h = rw (le-leb 4400000 n h)
 
-  pub room-no : (n : ℕ) → n < 4400000 → [] ≡ printedWithin n s
-  unfolding printedWithin
-  room-no n h = rw (lt-leb 4400000 n h)
+-- the reader's answer, printed
+pub whole : (s : List ℕ) (n : ℕ) {a b c r : ℕ} {v : Verdict} {old new : List ℕ} → Appended old new 0 r (shown v) → v ≡ judged a b c s → a ≡ 32768 → b ≡ 40960 → c ≡ 65535 → 4400000 ≤ n → take r new ≡ printedWithin n s
+whole s n {a} {b} {c} x e p q r h = x .words ∙ ap shown (e ∙ right-sizes a b c s p q r) ∙ with-room s n h
 
 -- what is appended from the start lies within the buffer
 pub counts : {old new : List ℕ} {r : ℕ} {t : List ℕ} → Appended old new 0 r t → Counts r new

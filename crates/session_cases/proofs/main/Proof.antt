@@ -1,12 +1,7 @@
 use borrow.Author.Needs.{needs}
-use native.Mathlib.Omega.{arith}
 use Prim.Native.Nat.{_-_}
 use Rattle.session_cases.proofs.main.Statement.{statement}
 use Rattle.session_cases.proofs.main.Tie as tie
-use Rattle.session_cases.proofs.main.Reads as reads
-use Rattle.session_cases.proofs.main.Lts as lts
-use Rattle.session_cases.proofs.run_one.Reads as run-one-reads
-use Rattle.os.proofs.arg_count.Reads as arg-count-reads
 
 abbrev Inv-loop : tie.InvT-loop
 Inv-loop count i₀ i = Unit {0}

@@ -2,8 +2,6 @@ use borrow.Author.Tests.{le-leb, lt-leb}
 use borrow.Author.Needs.{needs}
 use Rattle.session_runner.proofs.pool_words.Statement.{statement}
 use Rattle.session_runner.proofs.pool_words.Tie as tie
-use Rattle.session_runner.proofs.pool_words.Reads as reads
-use Rattle.session_runner.proofs.pool_words.Lts as lts
 
 mul-result : tie.Need-mul-result
 mul-result c = search needs

@@ -1,14 +1,9 @@
 use Rattle.session_runner.proofs.Playing.{taken}
-use native.Mathlib.Omega.{arith}
 use mathlib.Core.Path.{sym}
 use lib.Seq.{length-take-le}
 use borrow.Author.Needs.{needs}
 use Rattle.session_runner.proofs.print.Statement.{statement}
 use Rattle.session_runner.proofs.print.Tie as tie
-use Rattle.session_runner.proofs.print.Reads as reads
-use Rattle.session_runner.proofs.print.Lts as lts
-use Rattle.session_runner.proofs.lines.put_bad.Reads as put-bad-reads
-use Rattle.session_runner.proofs.run.Reads as run-reads
 
 enum-known-found : tie.Need-enum-known-found
 enum-known-found c = search needs

@@ -2,11 +2,6 @@ use Rattle.session_runner.proofs.Playing.{pool-zeros, pool-length}
 use borrow.Author.Needs.{needs}
 use Rattle.session_runner.proofs.run.Statement.{statement}
 use Rattle.session_runner.proofs.run.Tie as tie
-use Rattle.session_runner.proofs.run.Reads as reads
-use Rattle.session_runner.proofs.run.Lts as lts
-use Rattle.session_runner.proofs.pool_space.Reads as pool-space-reads
-use Rattle.session_runner.proofs.pool_words.Reads as pool-words-reads
-use Rattle.session_runner.proofs.start.Reads as start-reads
 
 pool-words-requires : tie.Need-pool-words-requires
 pool-words-requires c κs = search needs

@@ -5,12 +5,6 @@ use Rattle.session_runner.proofs.Playing.{opens-small, on-refused, on-a
 use borrow.Author.Needs.{needs}
 use Rattle.session_runner.proofs.start.Statement.{statement}
 use Rattle.session_runner.proofs.start.Tie as tie
-use Rattle.session_runner.proofs.start.Reads as reads
-use Rattle.session_runner.proofs.start.Lts as lts
-use Rattle.cells.proofs.open.Reads as open-reads
-use Rattle.session_runner.proofs.blank.Reads as blank-reads
-use Rattle.session_runner.proofs.lines.put_no.Reads as put-no-reads
-use Rattle.session_runner.proofs.play.play.Reads as play-reads
 
 blank-requires : tie.Need-blank-requires
 blank-requires c κs = search needs

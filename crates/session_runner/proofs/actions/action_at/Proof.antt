@@ -3,7 +3,6 @@ use borrow.Author.Needs.{needs}
 use Rattle.session_runner.proofs.actions.action_at.Statement.{statement}
 use Rattle.session_runner.proofs.actions.action_at.Tie as tie
 use Rattle.session_runner.proofs.actions.action_at.Reads as reads
-use Rattle.session_runner.proofs.actions.action_at.Lts as lts
 
 mul-at : tie.Need-mul-at
 mul-at c = search needs

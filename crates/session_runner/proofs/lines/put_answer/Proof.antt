@@ -2,10 +2,6 @@ use native.Mathlib.Omega.{arith}
 use borrow.Author.Needs.{needs}
 use Rattle.session_runner.proofs.lines.put_answer.Statement.{statement}
 use Rattle.session_runner.proofs.lines.put_answer.Tie as tie
-use Rattle.session_runner.proofs.lines.put_answer.Reads as reads
-use Rattle.session_runner.proofs.lines.put_answer.Lts as lts
-use Rattle.session_runner.proofs.lines.put_small.Reads as put-small-reads
-use Rattle.text.proofs.put.Reads as put-reads
 
 enum-known-a : tie.Need-enum-known-a
 enum-known-a c = search needs

@@ -4,10 +4,6 @@ use Rattle.text.specs.Bytes.{bytes}
 use borrow.Author.Needs.{needs}
 use Rattle.session_runner.proofs.lines.put_bad.Statement.{statement}
 use Rattle.session_runner.proofs.lines.put_bad.Tie as tie
-use Rattle.session_runner.proofs.lines.put_bad.Reads as reads
-use Rattle.session_runner.proofs.lines.put_bad.Lts as lts
-use Rattle.session_runner.proofs.lines.put_line.Reads as put-line-reads
-use Rattle.session_runner.proofs.lines.wide.Reads as wide-reads
 
 slice-aggregate-put-line : tie.Need-slice-aggregate-put-line
 slice-aggregate-put-line c = search needs

@@ -5,12 +5,6 @@ use Rattle.session_runner.proofs.Lengths.{numbers-2}
 use borrow.Author.Needs.{needs}
 use Rattle.session_runner.proofs.lines.put_done.Statement.{statement}
 use Rattle.session_runner.proofs.lines.put_done.Tie as tie
-use Rattle.session_runner.proofs.lines.put_done.Reads as reads
-use Rattle.session_runner.proofs.lines.put_done.Lts as lts
-use Rattle.session_runner.proofs.lines.put_done_start.Reads as put-done-start-reads
-use Rattle.session_runner.proofs.lines.put_numbers.Reads as put-numbers-reads
-use Rattle.session_runner.proofs.lines.wide.Reads as wide-reads
-use Rattle.text.proofs.put.Reads as put-reads
 
 put-done-start-requires : tie.Need-put-done-start-requires
 put-done-start-requires c κs = search needs

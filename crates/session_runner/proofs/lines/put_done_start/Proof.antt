@@ -4,12 +4,6 @@ use Rattle.session_runner.specs.Lines.{doneStart}
 use borrow.Author.Needs.{needs}
 use Rattle.session_runner.proofs.lines.put_done_start.Statement.{statement}
 use Rattle.session_runner.proofs.lines.put_done_start.Tie as tie
-use Rattle.session_runner.proofs.lines.put_done_start.Reads as reads
-use Rattle.session_runner.proofs.lines.put_done_start.Lts as lts
-use Rattle.session_runner.proofs.lines.put_answer.Reads as put-answer-reads
-use Rattle.session_runner.proofs.lines.put_kind.Reads as put-kind-reads
-use Rattle.session_runner.proofs.lines.put_small.Reads as put-small-reads
-use Rattle.text.proofs.put.Reads as put-reads
 
 slice-aggregate-put : tie.Need-slice-aggregate-put
 slice-aggregate-put c = search needs

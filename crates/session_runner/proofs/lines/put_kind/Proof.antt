@@ -3,9 +3,6 @@ use borrow.Author.Tests.{eq-eqb, ne-eqb}
 use borrow.Author.Needs.{needs}
 use Rattle.session_runner.proofs.lines.put_kind.Statement.{statement}
 use Rattle.session_runner.proofs.lines.put_kind.Tie as tie
-use Rattle.session_runner.proofs.lines.put_kind.Reads as reads
-use Rattle.session_runner.proofs.lines.put_kind.Lts as lts
-use Rattle.text.proofs.put.Reads as put-reads
 
 slice-aggregate-put : tie.Need-slice-aggregate-put
 slice-aggregate-put c = search needs

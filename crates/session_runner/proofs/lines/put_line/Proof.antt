@@ -4,10 +4,6 @@ use Rattle.session_runner.proofs.Lengths.{line-length}
 use borrow.Author.Needs.{needs}
 use Rattle.session_runner.proofs.lines.put_line.Statement.{statement}
 use Rattle.session_runner.proofs.lines.put_line.Tie as tie
-use Rattle.session_runner.proofs.lines.put_line.Reads as reads
-use Rattle.session_runner.proofs.lines.put_line.Lts as lts
-use Rattle.session_runner.proofs.lines.put_numbers.Reads as put-numbers-reads
-use Rattle.text.proofs.put.Reads as put-reads
 
 put-requires : tie.Need-put-requires
 put-requires c κs = let a = c .before .before .before .before .args in omega (arith, c .before .before .before .before .pre, line-length a.start.now a.l.now)

@@ -8,10 +8,6 @@ use Rattle.session_runner.proofs.Toward.{Toward, toward-start, toward-m
 use Rattle.session_runner.proofs.Loops.{numbers-at, numbers-room, numbers-end}
 use Rattle.session_runner.proofs.lines.put_numbers.Statement.{statement}
 use Rattle.session_runner.proofs.lines.put_numbers.Tie as tie
-use Rattle.session_runner.proofs.lines.put_numbers.Reads as reads
-use Rattle.session_runner.proofs.lines.put_numbers.Lts as lts
-use Rattle.text.proofs.put.Reads as put-reads
-use Rattle.text.proofs.put_number.Reads as put-number-reads
 
 abbrev Inv-loop : tie.InvT-loop
 Inv-loop out₀ at l i₀ a₀ t7 out i a = Toward out₀ out at a (numbers (drop i l)) (numbers l) × (i ≤ length l) × (a + length (numbers (drop i l)) ≤ length out)

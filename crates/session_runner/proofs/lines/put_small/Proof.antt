@@ -3,10 +3,6 @@ use Rattle.session_runner.proofs.Lengths.{decimal-32}
 use borrow.Author.Needs.{needs}
 use Rattle.session_runner.proofs.lines.put_small.Statement.{statement}
 use Rattle.session_runner.proofs.lines.put_small.Tie as tie
-use Rattle.session_runner.proofs.lines.put_small.Reads as reads
-use Rattle.session_runner.proofs.lines.put_small.Lts as lts
-use Rattle.session_runner.proofs.lines.wide.Reads as wide-reads
-use Rattle.text.proofs.put_number.Reads as put-number-reads
 
 wide-requires : tie.Need-wide-requires
 wide-requires c κs = search needs

@@ -2,8 +2,6 @@ use borrow.Author.Tests.{eq-eqb, ne-eqb}
 use borrow.Author.Needs.{needs}
 use Rattle.session_runner.proofs.lines.rate.Statement.{statement}
 use Rattle.session_runner.proofs.lines.rate.Tie as tie
-use Rattle.session_runner.proofs.lines.rate.Reads as reads
-use Rattle.session_runner.proofs.lines.rate.Lts as lts
 
 returns : tie.Need-returns
 returns c = rw (eq-eqb _ _ (c .if1 .taken))

@@ -1,11 +1,6 @@
 use borrow.Author.Needs.{needs}
 use Rattle.session_runner.proofs.play.act.Statement.{statement}
 use Rattle.session_runner.proofs.play.act.Tie as tie
-use Rattle.session_runner.proofs.play.act.Reads as reads
-use Rattle.session_runner.proofs.play.act.Lts as lts
-use Rattle.cells.proofs.begin_read.Reads as begin-read-reads
-use Rattle.cells.proofs.begin_swap.Reads as begin-swap-reads
-use Rattle.cells.proofs.step.Reads as step-reads
 
 enum-known-a : tie.Need-enum-known-a
 enum-known-a c = search needs

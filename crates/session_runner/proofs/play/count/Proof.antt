@@ -2,9 +2,6 @@ use native.Mathlib.Omega.{arith}
 use borrow.Author.Needs.{needs}
 use Rattle.session_runner.proofs.play.count.Statement.{statement}
 use Rattle.session_runner.proofs.play.count.Tie as tie
-use Rattle.session_runner.proofs.play.count.Reads as reads
-use Rattle.session_runner.proofs.play.count.Lts as lts
-use Rattle.session_runner.proofs.lines.wide.Reads as wide-reads
 
 enum-told : tie.Need-enum-told
 enum-told c = search needs

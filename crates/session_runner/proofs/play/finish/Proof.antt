@@ -3,11 +3,6 @@ use Rattle.session_runner.specs.Printed.{closed}
 use borrow.Author.Needs.{needs}
 use Rattle.session_runner.proofs.play.finish.Statement.{statement}
 use Rattle.session_runner.proofs.play.finish.Tie as tie
-use Rattle.session_runner.proofs.play.finish.Reads as reads
-use Rattle.session_runner.proofs.play.finish.Lts as lts
-use Rattle.session_runner.proofs.lines.put_end.Reads as put-end-reads
-use Rattle.session_runner.proofs.play.pending.Reads as pending-reads
-use Rattle.session_runner.proofs.play.put_cells.Reads as put-cells-reads
 
 put-cells-requires : tie.Need-put-cells-requires
 put-cells-requires c κs = search needs

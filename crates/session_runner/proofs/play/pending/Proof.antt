@@ -8,8 +8,6 @@ use mathlib.Core.Path.{_≡_}
 use Rattle.session_runner.specs.Printed.{pending}
 use Rattle.session_runner.proofs.play.pending.Statement.{statement}
 use Rattle.session_runner.proofs.play.pending.Tie as tie
-use Rattle.session_runner.proofs.play.pending.Reads as reads
-use Rattle.session_runner.proofs.play.pending.Lts as lts
 
 abbrev Inv-loop : tie.InvT-loop
 Inv-loop n s t₀ busy₀ t busy = (busy + pending s t (n - t) ≡ pending s 0 n) × (t ≤ n) × (busy ≤ t)

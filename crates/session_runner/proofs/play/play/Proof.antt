@@ -2,7 +2,7 @@ use mathlib.Core.Path.{_≡_}
 use native.Mathlib.Omega.{arith}
 use borrow.Author.Needs.{needs}
 use mathlib.Core.List.{map}
-use Prim.Native.Nat.{_+_, _-_, _*_, _≤_, _<_}
+use Prim.Native.Nat.{_-_, _*_, _≤_, _<_}
 use lib.ListN.{length, drop}
 use Rattle.session_reader.specs.Reading.{actAt}
 use Rattle.session_runner.specs.Printed.{totals, played}
@@ -11,14 +11,6 @@ use Rattle.session_runner.proofs.Toward.{Toward, toward-start, toward-m
 use Rattle.session_runner.proofs.Playing.{one-action, no-action}
 use Rattle.session_runner.proofs.play.play.Statement.{statement}
 use Rattle.session_runner.proofs.play.play.Tie as tie
-use Rattle.session_runner.proofs.play.play.Reads as reads
-use Rattle.session_runner.proofs.play.play.Lts as lts
-use Rattle.session_runner.proofs.actions.action_at.Reads as action-at-reads
-use Rattle.session_runner.proofs.actions.task_of.Reads as task-of-reads
-use Rattle.session_runner.proofs.play.act.Reads as act-reads
-use Rattle.session_runner.proofs.play.count.Reads as count-reads
-use Rattle.session_runner.proofs.play.finish.Reads as finish-reads
-use Rattle.session_runner.proofs.play.report.Reads as report-reads
 
 abbrev Inv-loop : tie.InvT-loop
 Inv-loop out₀ tasks n pool₀ forms kept i₀ at₀ s₀ z₀ out pool i at s z = Toward out₀ out 0 at (played tasks n i (totalsOf z) s pool (drop i (map (actAt forms) kept))) (played tasks n 0 (totals 0 0) s₀ pool₀ (map (actAt forms) kept)) × (i ≤ length kept) × (at ≤ 67 * i) × (z .finished ≤ i) × (z .hard ≤ i * 4294967295) × (length pool ≡ length pool₀)

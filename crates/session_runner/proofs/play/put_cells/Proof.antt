@@ -7,10 +7,6 @@ use Rattle.session_runner.proofs.Toward.{Toward, toward-start, toward-m
 use Rattle.session_runner.proofs.Loops.{cell-at, cell-end}
 use Rattle.session_runner.proofs.play.put_cells.Statement.{statement}
 use Rattle.session_runner.proofs.play.put_cells.Tie as tie
-use Rattle.session_runner.proofs.play.put_cells.Reads as reads
-use Rattle.session_runner.proofs.play.put_cells.Lts as lts
-use Rattle.cells.proofs.look.Reads as look-reads
-use Rattle.session_runner.proofs.play.put_look.Reads as put-look-reads
 
 abbrev Inv-loop : tie.InvT-loop
 Inv-loop out₀ at s pool n k₀ a₀ out k a = Toward out₀ out at a (cellLines s pool k (n - k)) (cellLines s pool 0 n) × (k ≤ n) × (a ≤ at + 67 * k)

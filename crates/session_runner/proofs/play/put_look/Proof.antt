@@ -2,9 +2,6 @@ use Rattle.text.proofs.Appending.{nothing}
 use borrow.Author.Needs.{needs}
 use Rattle.session_runner.proofs.play.put_look.Statement.{statement}
 use Rattle.session_runner.proofs.play.put_look.Tie as tie
-use Rattle.session_runner.proofs.play.put_look.Reads as reads
-use Rattle.session_runner.proofs.play.put_look.Lts as lts
-use Rattle.session_runner.proofs.lines.put_cell.Reads as put-cell-reads
 
 enum-known-seen : tie.Need-enum-known-seen
 enum-known-seen c = search needs

@@ -3,10 +3,6 @@ use Rattle.session_runner.specs.Printed.{reported}
 use borrow.Author.Needs.{needs}
 use Rattle.session_runner.proofs.play.report.Statement.{statement}
 use Rattle.session_runner.proofs.play.report.Tie as tie
-use Rattle.session_runner.proofs.play.report.Reads as reads
-use Rattle.session_runner.proofs.play.report.Lts as lts
-use Rattle.session_runner.proofs.lines.put_done.Reads as put-done-reads
-use Rattle.session_runner.proofs.lines.put_no.Reads as put-no-reads
 
 enum-known-outcome : tie.Need-enum-known-outcome
 enum-known-outcome c = search needs
