@@ -57,7 +57,7 @@ module _ (s n : List ℕ) {a b c d e : ℕ} {v : List ℕ} where
   pub opening-at : Reads (word (bytes "(open")) s 0 5 tt a → Reads (numbers 3) s a 6 (take 3 n) b → Reads (word (bytes " (")) s b 2 tt c → Reads values s c 1 v d → Reads (word (bytes ")\n")) s d 2 tt e → Reads opening s 0 0 (record { tasks = getD n 0 0; cells = getD n 1 0; blocks = getD n 2 0; values = v }) e
   unfolding opening
   opening-at x y z w q = record {
-        finds = rw (x .finds, y .finds, z .finds, w .finds, q .finds, getD-take 3 n 0 0 (omega arith), getD-take 3 n 1 0 (omega arith), getD-take 3 n 2 0 (omega arith));
-        past = omega arith;
-        within = q .within
-      }
+    finds = rw (x .finds, y .finds, z .finds, w .finds, q .finds, getD-take 3 n 0 0 (omega arith), getD-take 3 n 1 0 (omega arith), getD-take 3 n 2 0 (omega arith));
+    past = omega arith;
+    within = q .within;
+  }

@@ -26,7 +26,7 @@ module _ {A : Type 0} where
   times-last zero l = times-more zero l ∙ ap (λ (x : List A). l ++ x) (times-none l) ∙ append-nil l ∙ ap (λ (x : List A). x ++ l) (sym (times-none l))
   times-last (suc c) l =
       times-more (suc c) l ∙ ap (λ (x : List A). l ++ x) (times-last c l) ∙ sym (append-assoc l (times c l) l)
-          ∙ ap (λ (x : List A). x ++ l) (sym (times-more c l))
+      ∙ ap (λ (x : List A). x ++ l) (sym (times-more c l))
 
   pub length-times : (c : ℕ) (l : List A) → length (times c l) ≡ c * length l
   length-times zero l = ap length (times-none l) ∙ omega arith
@@ -36,7 +36,7 @@ module _ {A : Type 0} where
 again-same : (c i : ℕ) (l : List ℕ) → i < c * length l → getD (times (suc c) l) (length l + i) 0 ≡ getD (times (suc c) l) i 0
 again-same c i l h =
     ap (λ (x : List ℕ). getD x (length l + i) 0) (times-more c l) ∙ getD-append-add l (times c l) i 0
-        ∙ sym (List·getD-append (times c l) l 0 i (omega (arith, length-times c l))) ∙ ap (λ (x : List ℕ). getD x i 0) (sym (times-last c l))
+    ∙ sym (List·getD-append (times c l) l 0 i (omega (arith, length-times c l))) ∙ ap (λ (x : List ℕ). getD x i 0) (sym (times-last c l))
 
 some-words : (c k i : ℕ) → i < c * k → 0 < k
 some-words c zero i h = omega (arith, mul-zero c)
@@ -55,11 +55,11 @@ module _ (old : List ℕ) (n m c : ℕ) (h : n ≤ m) (g : m ≤ length old) (po
       let e : suc (c - 1) ≡ c = omega arith in
       let b : n + (m - n) ≡ m = omega arith in
       let first : take (m - n) (times c block) ≡ block =
-          ap (λ (k : ℕ). take (m - n) (times k block)) (sym e) ∙ ap (take (m - n)) (times-more (c - 1) block)
-              ∙ take-at block (times (c - 1) block) (m - n) block-length in
+      ap (λ (k : ℕ). take (m - n) (times k block)) (sym e) ∙ ap (take (m - n)) (times-more (c - 1) block)
+      ∙ take-at block (times (c - 1) block) (m - n) block-length in
       record {
         words = ap (λ (k : ℕ). take k old) (sym b) ∙ take-add n (m - n) old ∙ ap (λ (x : List ℕ). take n old ++ x) (sym first);
-        next = omega (arith, ap length first, block-length)
+        next = omega (arith, ap length first, block-length);
       }
 
   all : length (times c block) ≡ c * (m - n)
@@ -81,9 +81,9 @@ module _ (old : List ℕ) (n m c : ℕ) (h : n ≤ m) (g : m ≤ length old) (po
         let far : length block + i ≡ to - n = omega arith in
         let fits : i < (c - 1) * length block = rw b (omega (arith, suc-mul (c - 1) (m - n), ap (λ (j : ℕ). j * (m - n)) e)) in
         sym (getD-take to new (to - (m - n)) 0 (omega arith)) ∙ ap (λ (l : List ℕ). getD l (to - (m - n)) 0) (x .words)
-            ∙ ap (λ (j : ℕ). getD (take n old ++ take (to - n) (times c block)) j 0) (sym there)
-            ∙ getD-append-add (take n old) (take (to - n) (times c block)) i 0 ∙ getD-take (to - n) (times c block) i 0 (omega arith)
-            ∙ rw (e, far) at (sym (again-same (c - 1) i block fits))
+        ∙ ap (λ (j : ℕ). getD (take n old ++ take (to - n) (times c block)) j 0) (sym there)
+        ∙ getD-append-add (take n old) (take (to - n) (times c block)) i 0 ∙ getD-take (to - n) (times c block) i 0 (omega arith)
+        ∙ rw (e, far) at (sym (again-same (c - 1) i block fits))
 
     pub copied-more : to < length new → Appended old (set new to (getD new (to - (m - n)) 0)) n (to + 1) (take (to + 1 - n) (times c block))
     copied-more k =

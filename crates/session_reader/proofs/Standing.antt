@@ -22,14 +22,14 @@ kept o f n = record { over = o; forms = f; actions = n }
 -- nothing read
 pub stands-nothing : (F A : List ℕ) (f n : ℕ) → 5 * f ≤ length F → n ≤ length A → Stands F F A A f n (kept false f n) 0 []
 stands-nothing F A f n g h = record {
-      table = [];
-      words = [];
-      forms = nothing F (5 * f);
-      acts = nothing A n;
-      fits = g;
-      room = h;
-      far = (omega arith, untold)
-    }
+  table = [];
+  words = [];
+  forms = nothing F (5 * f);
+  acts = nothing A n;
+  fits = g;
+  room = h;
+  far = (omega arith, untold);
+}
 
 module _ (room n m r i j : ℕ) (T U more v w : List ℕ) (k l : List Act) (e : U ≡ T ++ more) where
   far-join : (x y : Bool) → Far x room n m i T v k → Far y room m r j U w l → Far (x || y) room n r (i + j) U (v ++ w) (k ++ l)
@@ -40,14 +40,14 @@ module _ (room n m r i j : ℕ) (T U more v w : List ℕ) (k l : List Act) (e : 
 -- forms, and then more of them
 pub stands-join : {F G H A B C : List ℕ} {f n : ℕ} {b d : Kept} {i j : ℕ} {k l : List Act} → length G ≡ length F → length B ≡ length A → Stands F G A B f n b i k → Stands G H B C (b .forms) (b .actions) d j l → Stands F H A C f n (kept (b .over || d .over) (d .forms) (d .actions)) (i + j) (k ++ l)
 stands-join {A = A} {B = B} {n = n} {b = b} {d = d} {i = i} {j = j} {k = k} {l = l} e q x y = record {
-      table = x .table ++ y .table;
-      words = x .words ++ y .words;
-      forms = then (x .forms) (y .forms);
-      acts = then (x .acts) (y .acts);
-      fits = omega (arith, y .fits);
-      room = omega (arith, y .room);
-      far = far-join (length A) n (b .actions) (d .actions) i j _ _ (y .table) (x .words) (y .words) k l (y .forms .words) (b .over) (d .over) (x .far) (rw q at (y .far))
-    }
+  table = x .table ++ y .table;
+  words = x .words ++ y .words;
+  forms = then (x .forms) (y .forms);
+  acts = then (x .acts) (y .acts);
+  fits = omega (arith, y .fits);
+  room = omega (arith, y .room);
+  far = far-join (length A) n (b .actions) (d .actions) i j _ _ (y .table) (x .words) (y .words) k l (y .forms .words) (b .over) (d .over) (x .far) (rw q at (y .far));
+}
 
 module _ {F G A B : List ℕ} {f n : ℕ} {b : Kept} {k : ℕ} {l : List Act} (x : Stands F G A B f n b k l) where
   low : n ≤ length A
@@ -77,7 +77,7 @@ module _ {F G A B : List ℕ} {f n : ℕ} {b : Kept} {k : ℕ} {l : List Act} (x
           acts = x .acts;
           fits = x .fits;
           room = x .room;
-          far = far-over (b .over) e (omega arith)
+          far = far-over (b .over) e (omega arith);
         }
       where
         far-over : (o : Bool) → o ≡ true → length A < n + c * k → Far o (length A) n (b .actions) (c * k) (take (5 * b .forms) G) (x .words) (times c l)
@@ -106,7 +106,7 @@ module _ {F G A B : List ℕ} {f n : ℕ} {b : Kept} {k : ℕ} {l : List Act} (x
             acts = then (front low (x .acts)) copies;
             fits = x .fits;
             room = rw (end, ← same) h;
-            far = (end, told-times c (just .1))
+            far = (end, told-times c (just .1));
           }
 
   -- all that was read, where nothing stood before
@@ -157,5 +157,5 @@ module _ (F A : List ℕ) (f n kind : ℕ) (numbers : List ℕ) (g : 5 * f + 5 �
         acts = one A n f k;
         fits = omega arith;
         room = omega arith;
-        far = (refl, rw (five-kept .words) (told {i = f} (omega (arith, p, length-append (take (5 * f) F) five)) (made (take (5 * f) F) p) untold))
+        far = (refl, rw (five-kept .words) (told {i = f} (omega (arith, p, length-append (take (5 * f) F) five)) (made (take (5 * f) F) p) untold));
       }

@@ -19,12 +19,12 @@ module _ {A B : Type 0} (add : B → A → B) (each : Reader A) (end : Reader (U
 
   pub turn-start : (s : List ℕ) (at : ℕ) (l : B) → at ≤ length s → Turn (many add each end l (drop at s)) s at at l
   turn-start s at l h = record {
-        fuel = length (drop at s);
-        from = omega arith;
-        within = h;
-        enough = omega (arith, length-drop at s);
-        goes = refl
-      }
+    fuel = length (drop at s);
+    from = omega arith;
+    within = h;
+    enough = omega (arith, length-drop at s);
+    goes = refl;
+  }
 
   module _ {whole : Option (B × List ℕ)} {s : List ℕ} {at i : ℕ} {l : B} (x : Turn whole s at i l) where
     pub turn-end : {r : List ℕ} → end (drop i s) ≡ some (tt, r) → whole ≡ some (l, r)
@@ -45,5 +45,5 @@ module _ {A B : Type 0} (add : B → A → B) (each : Reader A) (end : Reader (U
           from = omega (arith, x .from);
           within = g;
           enough = omega (arith, x .enough);
-          goes = ap (λ (k : ℕ). manyWithin add each end k (add l a) (drop j s)) one ∙ sym next ∙ x .goes
+          goes = ap (λ (k : ℕ). manyWithin add each end k (add l a) (drop j s)) one ∙ sym next ∙ x .goes;
         }

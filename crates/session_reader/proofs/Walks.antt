@@ -43,13 +43,13 @@ module _ (each : Reader Form) (end : Reader (Unit {0})) (s : List ℕ) (at : ℕ
   pub walk-start : Ready s at F f A n → Walk F A at f n false
   unfolding counts actionsOf
   walk-start r = record {
-        ready = r;
-        same-forms = refl;
-        same-actions = refl;
-        l = empty;
-        turn = turn-start with each end s at empty (r .here);
-        stands = stands-nothing F A f n (omega (arith, r .here, r .table, r .few)) (r .room)
-      }
+    ready = r;
+    same-forms = refl;
+    same-actions = refl;
+    l = empty;
+    turn = turn-start with each end s at empty (r .here);
+    stands = stands-nothing F A f n (omega (arith, r .here, r .table, r .few)) (r .room);
+  }
 
   module _ {F′ A′ : List ℕ} {i g m : ℕ} {over : Bool} (w : Walk F′ A′ i g m over) where
     pub walk-end : {next : ℕ} (long : ℕ) → end (drop i s) ≡ some (tt, drop next s) → i + long ≤ next → next ≤ length s → GotIs counts actionsOf (many with each end empty) s at long F F′ A A′ f n (got.At next (kept over g m))
@@ -69,7 +69,7 @@ module _ (each : Reader Form) (end : Reader (Unit {0})) (s : List ℕ) (at : ℕ
           same-actions = o ∙ w .same-actions;
           l = with (w .l) x;
           turn = turn-more with each end (w .turn) e q h k;
-          stands = stands-join (w .same-forms) (w .same-actions) (w .stands) y
+          stands = stands-join (w .same-forms) (w .same-actions) (w .stands) y;
         }
 
 -- what ends the lines

@@ -26,25 +26,25 @@ plays l = session (record { tasks = 1; cells = 1; blocks = 3; values = 429496729
 
 judged :
     Judged (
-      ("", plays []) ∷
-      ("(read 0  0)\n", bad 13) ∷
-      ("(read 0 0 )\n", bad 13) ∷
-      ("(read 0 0)", bad 13) ∷
-      ("(read 0 0)\n\n", bad 13) ∷
-      ("(read 0 0)(read 0 0)\n", bad 13) ∷
-      ("(again 1 (again 1 (again 1 (again 1 (again 1 (again 1 (again 1 (again 1 (step 0)))))))))\n", bad 13) ∷
-      ("(again 1 (again 1 (again 1 (again 1 (again 1 (again 1 (again 1 (step 0))))))))\n", plays (step 0 ∷ [])) ∷
-      ("(read 0 4294967295)\n", plays (read 0 4294967295 ∷ [])) ∷
-      ("(read 0 4294967296)\n", bad 14) ∷
-      ("(read 0 00)\n", bad 14) ∷
-      ("(read 0)\n", bad 14) ∷
-      ("(look 0)\n", bad 14) ∷
-      ("(open 1 1 3 (5))\n", bad 14) ∷
-      ("(again 65536 (step 0))\n", bad 15) ∷
-      ("(again 65536 (step 0))\n(step)\n", bad 14) ∷
-      ("(again 0 (again 65536 (step 0)))\n", plays []) ∷
-      ("(again 4294967295 (again 4294967295))\n", plays []) ∷
-      []
+    ("", plays []) ∷
+    ("(read 0  0)\n", bad 13) ∷
+    ("(read 0 0 )\n", bad 13) ∷
+    ("(read 0 0)", bad 13) ∷
+    ("(read 0 0)\n\n", bad 13) ∷
+    ("(read 0 0)(read 0 0)\n", bad 13) ∷
+    ("(again 1 (again 1 (again 1 (again 1 (again 1 (again 1 (again 1 (again 1 (step 0)))))))))\n", bad 13) ∷
+    ("(again 1 (again 1 (again 1 (again 1 (again 1 (again 1 (again 1 (step 0))))))))\n", plays (step 0 ∷ [])) ∷
+    ("(read 0 4294967295)\n", plays (read 0 4294967295 ∷ [])) ∷
+    ("(read 0 4294967296)\n", bad 14) ∷
+    ("(read 0 00)\n", bad 14) ∷
+    ("(read 0)\n", bad 14) ∷
+    ("(look 0)\n", bad 14) ∷
+    ("(open 1 1 3 (5))\n", bad 14) ∷
+    ("(again 65536 (step 0))\n", bad 15) ∷
+    ("(again 65536 (step 0))\n(step)\n", bad 14) ∷
+    ("(again 0 (again 65536 (step 0)))\n", plays []) ∷
+    ("(again 4294967295 (again 4294967295))\n", plays []) ∷
+    []
     )
 unfolding word digitsAfter number fits deeper shapedAfter numbers manyWithin values opening keyword head body form line count times actions formed played counted verdict
 judged = (refl, (refl, (refl, (refl, (refl, (refl, (refl, (refl, (refl, (refl, (refl, (refl, (refl, (refl, (refl, (refl, (refl, (refl, tt))))))))))))))))))

@@ -1,7 +1,6 @@
 // The forms after the first line, and the actions that they make.
 use crate::items;
 use text::Place;
-
 ghost use mathlib.Core.Path.{_≡_};
 ghost use mathlib.Core.List.{List, [], _∷_};
 ghost use Prim.Native.Nat.{ℕ, _+_, _-_, _*_, _≤_, _<_};
@@ -77,7 +76,14 @@ fn head(s: &[u8], at: usize, out: &mut [u32]) -> Start
 }
 
 // Keeps a form of five words and one action of it, if there is room for the action.
-fn keep(forms: &mut [u32], f: usize, actions: &mut [u32], n: usize, kind: u32, numbers: &[u32]) -> Kept
+fn keep(
+    forms: &mut [u32],
+    f: usize,
+    actions: &mut [u32],
+    n: usize,
+    kind: u32,
+    numbers: &[u32],
+) -> Kept
     requires { ⌜ 5 * f + 5 ≤ length (now forms) ⌝ }
     requires { ⌜ f < 65536 ⌝ }
     requires { ⌜ n ≤ length (now actions) ⌝ }
@@ -86,7 +92,11 @@ fn keep(forms: &mut [u32], f: usize, actions: &mut [u32], n: usize, kind: u32, n
     ensures { λ r. ⌜ r .forms ≤ f + 1 ⌝ }
 {
     if actions.len() <= n {
-        return Kept { over: true, forms: f, actions: n };
+        return Kept {
+            over: true,
+            forms: f,
+            actions: n,
+        };
     }
     let at = 5 * f;
     forms[at] = kind;
@@ -95,7 +105,11 @@ fn keep(forms: &mut [u32], f: usize, actions: &mut [u32], n: usize, kind: u32, n
     forms[at + 3] = numbers[2];
     forms[at + 4] = numbers[3];
     actions[n] = f as u32;
-    Kept { over: false, forms: f + 1, actions: n + 1 }
+    Kept {
+        over: false,
+        forms: f + 1,
+        actions: n + 1,
+    }
 }
 
 // Copies the words from n to m behind them, so that they stand there c times.
@@ -123,7 +137,11 @@ fn again(actions: &mut [u32], f: usize, n: usize, c: u32, once: Kept) -> Kept
     ensures { λ r. ⌜ r .forms ≤ once .forms ⌝ }
 {
     if c == 0 {
-        return Kept { over: false, forms: f, actions: n };
+        return Kept {
+            over: false,
+            forms: f,
+            actions: n,
+        };
     }
     if once.over {
         return once;
@@ -131,14 +149,30 @@ fn again(actions: &mut [u32], f: usize, n: usize, c: u32, once: Kept) -> Kept
     let m = once.actions;
     let count = c as usize;
     if actions.len() < n + count * (m - n) {
-        return Kept { over: true, forms: f, actions: n };
+        return Kept {
+            over: true,
+            forms: f,
+            actions: n,
+        };
     }
     let to = repeat(actions, n, m, count);
-    Kept { over: false, forms: once.forms, actions: to }
+    Kept {
+        over: false,
+        forms: once.forms,
+        actions: to,
+    }
 }
 
 // The form that starts at `at`, at most `depth` deep: f forms and n actions are kept before it.
-fn form(s: &[u8], at: usize, depth: usize, forms: &mut [u32], f: usize, actions: &mut [u32], n: usize) -> Got
+fn form(
+    s: &[u8],
+    at: usize,
+    depth: usize,
+    forms: &mut [u32],
+    f: usize,
+    actions: &mut [u32],
+    n: usize,
+) -> Got
     requires { ⌜ Ready (now s) at (now forms) f (now actions) n ⌝ }
     ensures { λ r. ⌜ GotIs count «actionsOf1» («formOf» depth) (now (s .entry)) at 8 (now (forms .entry)) (now (forms .exit)) (now (actions .entry)) (now (actions .exit)) f n r ⌝ }
 {
@@ -165,7 +199,15 @@ fn form(s: &[u8], at: usize, depth: usize, forms: &mut [u32], f: usize, actions:
 }
 
 // The forms of a list up to its bracket, each at most `depth` deep.
-fn list(s: &[u8], at: usize, depth: usize, forms: &mut [u32], f: usize, actions: &mut [u32], n: usize) -> Got
+fn list(
+    s: &[u8],
+    at: usize,
+    depth: usize,
+    forms: &mut [u32],
+    f: usize,
+    actions: &mut [u32],
+    n: usize,
+) -> Got
     requires { ⌜ Ready (now s) at (now forms) f (now actions) n ⌝ }
     ensures { λ r. ⌜ GotIs counts actionsOf («listOf» («formOf» depth)) (now (s .entry)) at 1 (now (forms .entry)) (now (forms .exit)) (now (actions .entry)) (now (actions .exit)) f n r ⌝ }
 {
@@ -176,7 +218,14 @@ fn list(s: &[u8], at: usize, depth: usize, forms: &mut [u32], f: usize, actions:
     loop {
         let end = items::close(s, i);
         if let Place::At(next) = end {
-            return Got::At(next, Kept { over, forms: g, actions: m });
+            return Got::At(
+                next,
+                Kept {
+                    over,
+                    forms: g,
+                    actions: m,
+                },
+            );
         }
         let gap = items::space(s, i);
         let Place::At(a) = gap else {
@@ -228,5 +277,12 @@ pub fn lines(s: &[u8], at: usize, forms: &mut [u32], actions: &mut [u32]) -> Got
         m = kept.actions;
         i = next;
     }
-    Got::At(i, Kept { over, forms: g, actions: m })
+    Got::At(
+        i,
+        Kept {
+            over,
+            forms: g,
+            actions: m,
+        },
+    )
 }

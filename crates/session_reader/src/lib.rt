@@ -25,7 +25,9 @@ pub enum Reading {
 
 // Words that a file can fill: a value takes at least 2 bytes, and a form of five words at least 8.
 const VALUES: usize = 32768;
+
 const FORMS: usize = 40960;
+
 const ACTIONS: usize = 65535;
 
 fn read(file: &[u8], values: &mut [u32], kept: &mut [u32], actions: &mut [u32]) -> Reading
@@ -63,7 +65,12 @@ fn read(file: &[u8], values: &mut [u32], kept: &mut [u32], actions: &mut [u32]) 
 
 // The session's values, its forms of five words (kind 1 read, 2 swap, 3 step; then its numbers) and its actions, each
 // the number of its form, are left in the buffers.
-pub fn read_session(file: &[u8], values: &mut [u32], forms: &mut [u32], actions: &mut [u32]) -> Reading
+pub fn read_session(
+    file: &[u8],
+    values: &mut [u32],
+    forms: &mut [u32],
+    actions: &mut [u32],
+) -> Reading
     ensures { λ r. ⌜ verdictOf r (now (values .exit)) (now (forms .exit)) (now (actions .exit)) ≡ judged (length (now (values .entry))) (length (now (forms .entry))) (length (now (actions .entry))) (now (file .entry)) ⌝ }
     ensures { λ r. ⌜ Within r (now (values .exit)) (now (forms .exit)) (now (actions .exit)) ⌝ }
 {

@@ -1,7 +1,7 @@
 // The first line: (open N V B (values)).
 use crate::items;
-use text::{Numeral, Place};
-
+use text::Numeral;
+use text::Place;
 ghost use mathlib.Core.Path.{_≡_};
 ghost use Prim.Native.Nat.{_+_, _*_, _≤_};
 ghost use lib.ListN.{length};

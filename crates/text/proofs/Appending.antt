@@ -33,9 +33,9 @@ more {o} {o₀} t at i x h k =
 -- what stood before is still there
 pub front : {o p : List ℕ} {at r : ℕ} {t : List ℕ} → at ≤ length o → Appended o p at r t → Appended o p at at []
 front {o} {p} {at} {r} {t} h x = record {
-      words = sym (take-take at r p (omega (arith, x .next))) ∙ ap (take at) (x .words) ∙ take-at (take at o) t at (length-take-le at o h) ∙ sym (append-nil (take at o));
-      next = omega arith
-    }
+  words = sym (take-take at r p (omega (arith, x .next))) ∙ ap (take at) (x .words) ∙ take-at (take at o) t at (length-take-le at o h) ∙ sym (append-nil (take at o));
+  next = omega arith;
+}
 
 -- the text alone
 pub behind : {o p : List ℕ} {at r : ℕ} {t : List ℕ} → at ≤ length o → Appended o p at r t → take (r - at) (drop at p) ≡ t
@@ -43,4 +43,4 @@ behind {o} {p} {at} {r} {t} h x =
     let e : at + (r - at) ≡ r = omega (arith, x .next) in
     append-cancel-left (take at o) (take (r - at) (drop at p)) t
     (ap (λ (l : List ℕ). l ++ take (r - at) (drop at p)) (sym (front h x .words ∙ append-nil (take at o)))
-        ∙ sym (take-add at (r - at) p) ∙ ap (λ (k : ℕ). take k p) e ∙ x .words)
+    ∙ sym (take-add at (r - at) p) ∙ ap (λ (k : ℕ). take k p) e ∙ x .words)
