@@ -105,7 +105,15 @@ fn pending(s: State, n: usize) -> u64
     busy
 }
 
-fn finish(out: &mut [u8], at: usize, tasks: u32, cells: u32, z: Tally, s: State, pool: &[u32]) -> usize
+fn finish(
+    out: &mut [u8],
+    at: usize,
+    tasks: u32,
+    cells: u32,
+    z: Tally,
+    s: State,
+    pool: &[u32],
+) -> usize
     requires { ⌜ (tasks ≤ 32) × (cells ≤ 16) ⌝ }
     requires { ⌜ at + 2000 ≤ length (now out) ⌝ }
     requires { ⌜ z .hard ≤ 65535 * 4294967295 ⌝ }
