@@ -19,7 +19,7 @@ ghost use Rattle.session_reader.specs.Reading.{actAt, verdictOf};
 ghost use Rattle.session_reader.specs.Kept.{Named, Within};
 ghost use Rattle.session_runner.specs.Printed.{started, blank as «blankOf», poolWords, run as «runOf», shown, printedWithin};
 
-// The room that the longest text needs.
+// Enough for 65,535 lines of 67 bytes, one of each cell and the end.
 pub const ROOM: usize = 4400000;
 
 fn blank() -> State
@@ -53,7 +53,7 @@ fn start(
     out: &mut [u8],
     pool: &mut [u32],
     tasks: u32,
-    n: u32,
+    cells: u32,
     blocks: u32,
     values: &[u32],
     forms: &[u32],
@@ -62,15 +62,15 @@ fn start(
     requires { ⌜ length (now kept) ≤ 65535 ⌝ }
     requires { ⌜ Named (length (now forms)) (now kept) ⌝ }
     requires { ⌜ 4400000 ≤ length (now out) ⌝ }
-    ensures { λ r. ⌜ Appended (now (out .entry)) (now (out .exit)) 0 r (started tasks n (map (actAt (now (forms .entry))) (now (kept .entry))) (opened «blankOf» (now (pool .entry)) tasks n blocks (now (values .entry)))) ⌝ }
+    ensures { λ r. ⌜ Appended (now (out .entry)) (now (out .exit)) 0 r (started tasks cells (map (actAt (now (forms .entry))) (now (kept .entry))) (opened «blankOf» (now (pool .entry)) tasks cells blocks (now (values .entry)))) ⌝ }
 {
-    let first = cells::open(blank(), pool, tasks, n, blocks, values);
+    let first = cells::open(blank(), pool, tasks, cells, blocks, values);
     let outcome = first.outcome;
     match outcome {
         Outcome::Refused(k) => lines::put_no(out, 0, 0, k),
         Outcome::Acted => {
             let s = first.state;
-            play::play(out, tasks, n, s, pool, forms, kept)
+            play::play(out, tasks, cells, s, pool, forms, kept)
         }
         Outcome::Ended(_) => 0,
     }
@@ -92,10 +92,11 @@ fn pool_space() -> [u32; 640]
     [0; 640]
 }
 
+// Runs the session that was read, on a pool of its own.
 fn run(
     out: &mut [u8],
     tasks: u32,
-    n: u32,
+    cells: u32,
     blocks: u32,
     values: &[u32],
     forms: &[u32],
@@ -104,7 +105,7 @@ fn run(
     requires { ⌜ length (now kept) ≤ 65535 ⌝ }
     requires { ⌜ Named (length (now forms)) (now kept) ⌝ }
     requires { ⌜ 4400000 ≤ length (now out) ⌝ }
-    ensures { λ r. ⌜ Appended (now (out .entry)) (now (out .exit)) 0 r («runOf» (record { tasks = tasks; cells = n; blocks = blocks; values = now (values .entry) }) (map (actAt (now (forms .entry))) (now (kept .entry)))) ⌝ }
+    ensures { λ r. ⌜ Appended (now (out .entry)) (now (out .exit)) 0 r («runOf» (record { tasks = tasks; cells = cells; blocks = blocks; values = now (values .entry) }) (map (actAt (now (forms .entry))) (now (kept .entry)))) ⌝ }
 {
     let words = pool_words(blocks);
     let mut pool = pool_space();
@@ -112,7 +113,7 @@ fn run(
         out,
         &mut pool[..words],
         tasks,
-        n,
+        cells,
         blocks,
         values,
         forms,
@@ -120,6 +121,7 @@ fn run(
     )
 }
 
+// Prints what follows from the reader's answer.
 fn print(out: &mut [u8], found: Reading, values: &[u32], forms: &[u32], actions: &[u32]) -> usize
     requires { ⌜ Within found (now values) (now forms) (now actions) ⌝ }
     requires { ⌜ length (now actions) ≤ 65535 ⌝ }

@@ -33,6 +33,7 @@ fn act(s: State, pool: &mut [u32], a: Action) -> Reply
     }
 }
 
+// The action's line, where it has one.
 fn report(out: &mut [u8], at: usize, i: u32, task: u32, outcome: Outcome) -> usize
     requires { ⌜ at + 67 ≤ length (now out) ⌝ }
     ensures { λ r. ⌜ Appended (now (out .entry)) (now (out .exit)) at r (reported i task outcome) ⌝ }
@@ -45,6 +46,7 @@ fn report(out: &mut [u8], at: usize, i: u32, task: u32, outcome: Outcome) -> usi
     }
 }
 
+// At most 65,535 calls, each of a 32-bit count: no sum wraps.
 fn count(z: Tally, outcome: Outcome) -> Tally
     requires { ⌜ (z .finished ≤ 65535) × (z .hard ≤ 65535 * 4294967295) ⌝ }
     ensures { λ r. ⌜ totalsOf r ≡ counted (totalsOf z) outcome ⌝ }
@@ -71,14 +73,14 @@ fn put_look(out: &mut [u8], at: usize, k: u32, seen: Looked) -> usize
     }
 }
 
-fn put_cells(out: &mut [u8], at: usize, s: State, pool: &[u32], n: u32) -> usize
-    requires { ⌜ at + 67 * n ≤ length (now out) ⌝ }
-    ensures { λ r. ⌜ Appended (now (out .entry)) (now (out .exit)) at r (cellLines s (now (pool .entry)) 0 n) ⌝ }
-    ensures { λ r. ⌜ r ≤ at + 67 * n ⌝ }
+fn put_cells(out: &mut [u8], at: usize, s: State, pool: &[u32], cells: u32) -> usize
+    requires { ⌜ at + 67 * cells ≤ length (now out) ⌝ }
+    ensures { λ r. ⌜ Appended (now (out .entry)) (now (out .exit)) at r (cellLines s (now (pool .entry)) 0 cells) ⌝ }
+    ensures { λ r. ⌜ r ≤ at + 67 * cells ⌝ }
 {
     let mut k = 0;
     let mut a = at;
-    while k < n {
+    while k < cells {
         let seen = cells::look(s, pool, k);
         a = put_look(out, a, k, seen);
         k += 1;
@@ -103,13 +105,21 @@ fn pending(s: State, n: usize) -> u64
     busy
 }
 
-fn finish(out: &mut [u8], at: usize, tasks: u32, n: u32, z: Tally, s: State, pool: &[u32]) -> usize
-    requires { ⌜ (tasks ≤ 32) × (n ≤ 16) ⌝ }
+fn finish(
+    out: &mut [u8],
+    at: usize,
+    tasks: u32,
+    cells: u32,
+    z: Tally,
+    s: State,
+    pool: &[u32],
+) -> usize
+    requires { ⌜ (tasks ≤ 32) × (cells ≤ 16) ⌝ }
     requires { ⌜ at + 2000 ≤ length (now out) ⌝ }
     requires { ⌜ z .hard ≤ 65535 * 4294967295 ⌝ }
-    ensures { λ r. ⌜ Appended (now (out .entry)) (now (out .exit)) at r (closed tasks n (totalsOf z) s (now (pool .entry))) ⌝ }
+    ensures { λ r. ⌜ Appended (now (out .entry)) (now (out .exit)) at r (closed tasks cells (totalsOf z) s (now (pool .entry))) ⌝ }
 {
-    let a = put_cells(out, at, s, pool, n);
+    let a = put_cells(out, at, s, pool, cells);
     let unfinished = pending(s, tasks as usize);
     lines::put_end(out, a, z.finished, unfinished, z.hard)
 }
@@ -118,17 +128,17 @@ fn finish(out: &mut [u8], at: usize, tasks: u32, n: u32, z: Tally, s: State, poo
 pub fn play(
     out: &mut [u8],
     tasks: u32,
-    n: u32,
+    cells: u32,
     first: State,
     pool: &mut [u32],
     forms: &[u32],
     kept: &[u32],
 ) -> usize
-    requires { ⌜ (tasks ≤ 32) × (n ≤ 16) ⌝ }
+    requires { ⌜ (tasks ≤ 32) × (cells ≤ 16) ⌝ }
     requires { ⌜ length (now kept) ≤ 65535 ⌝ }
     requires { ⌜ Named (length (now forms)) (now kept) ⌝ }
     requires { ⌜ 4400000 ≤ length (now out) ⌝ }
-    ensures { λ r. ⌜ Appended (now (out .entry)) (now (out .exit)) 0 r (played tasks n 0 (totals 0 0) first (now (pool .entry)) (map (actAt (now (forms .entry))) (now (kept .entry)))) ⌝ }
+    ensures { λ r. ⌜ Appended (now (out .entry)) (now (out .exit)) 0 r (played tasks cells 0 (totals 0 0) first (now (pool .entry)) (map (actAt (now (forms .entry))) (now (kept .entry)))) ⌝ }
 {
     let mut i = 0;
     let mut at = 0;
@@ -146,5 +156,5 @@ pub fn play(
         s = r.state;
         i += 1;
     }
-    finish(out, at, tasks, n, z, s, pool)
+    finish(out, at, tasks, cells, z, s, pool)
 }

@@ -13,10 +13,10 @@ use Rattle.session_runner.proofs.play.play.Statement.{statement}
 use Rattle.session_runner.proofs.play.play.Tie as tie
 
 abbrev Inv-loop : tie.InvT-loop
-Inv-loop out₀ tasks n pool₀ forms kept i₀ at₀ s₀ z₀ out pool i at s z = Toward out₀ out 0 at (played tasks n i (totalsOf z) s pool (drop i (map (actAt forms) kept))) (played tasks n 0 (totals 0 0) s₀ pool₀ (map (actAt forms) kept)) × (i ≤ length kept) × (at ≤ 67 * i) × (z .finished ≤ i) × (z .hard ≤ i * 4294967295) × (length pool ≡ length pool₀)
+Inv-loop out₀ tasks cells pool₀ forms kept i₀ at₀ s₀ z₀ out pool i at s z = Toward out₀ out 0 at (played tasks cells i (totalsOf z) s pool (drop i (map (actAt forms) kept))) (played tasks cells 0 (totals 0 0) s₀ pool₀ (map (actAt forms) kept)) × (i ≤ length kept) × (at ≤ 67 * i) × (z .finished ≤ i) × (z .hard ≤ i * 4294967295) × (length pool ≡ length pool₀)
 
 abbrev μ-loop : tie.MeasureT-loop
-μ-loop out₀ tasks n pool₀ forms kept i₀ at₀ s₀ z₀ out pool i at s z = length kept - i
+μ-loop out₀ tasks cells pool₀ forms kept i₀ at₀ s₀ z₀ out pool i at s z = length kept - i
 
 loop-holds : tie.Need-loop-holds Inv-loop μ-loop
 loop-holds c = (toward-start _ _ _, search needs, search needs, search needs, search needs, search needs)
@@ -52,7 +52,7 @@ loop-less : tie.Need-loop-less Inv-loop μ-loop
 loop-less c = search needs
 
 loop-again : tie.Need-loop-again Inv-loop μ-loop
-loop-again c = let l = c .before .before .before .before .before .before .before .before .before .before .before .before .before .before .loop in let a = c .before .before .before .before .before .before .before .before .before .before .before .before .before .before .before .before .before .before .before .args in let h : l .i < length a.kept.now = omega arith in let r = c .before .before .before .before .report .ensures in let k = c .before .count .ensures in (toward-more (l .inv .0) (r .0) (search needs) (one-action a.tasks a.n (actAt a.forms.now) a.kept.now l.i (totalsOf l.z) l.s l.pool h (c .before .before .before .before .before .before .before .before .before .before .before .action-at .ensures) (c .before .before .before .before .before .before .before .before .before .act .ensures) (c .before .before .before .before .before .task-of .ensures) (k .0)), search needs, omega (arith, l .inv .2, r .1), omega (arith, l .inv .3, k .1 .0), omega (arith, l .inv .4, k .1 .1), search needs)
+loop-again c = let l = c .before .before .before .before .before .before .before .before .before .before .before .before .before .before .loop in let a = c .before .before .before .before .before .before .before .before .before .before .before .before .before .before .before .before .before .before .before .args in let h : l .i < length a.kept.now = omega arith in let r = c .before .before .before .before .report .ensures in let k = c .before .count .ensures in (toward-more (l .inv .0) (r .0) (search needs) (one-action a.tasks a.cells (actAt a.forms.now) a.kept.now l.i (totalsOf l.z) l.s l.pool h (c .before .before .before .before .before .before .before .before .before .before .before .action-at .ensures) (c .before .before .before .before .before .before .before .before .before .act .ensures) (c .before .before .before .before .before .task-of .ensures) (k .0)), search needs, omega (arith, l .inv .2, r .1), omega (arith, l .inv .3, k .1 .0), omega (arith, l .inv .4, k .1 .1), search needs)
 
 finish-requires : tie.Need-finish-requires Inv-loop μ-loop
 finish-requires c κs = let l = c .before .before .before .loop in (c .before .before .before .before .before .before .before .before .pre .0, (omega (arith, l .inv .0 .same, l .inv .2), omega (arith, l .inv .4)))
@@ -64,7 +64,7 @@ same-length-2 : tie.Need-same-length-2 Inv-loop μ-loop
 same-length-2 c = search needs
 
 returns : tie.Need-returns Inv-loop μ-loop
-returns c = let l = c .before .before .before .before .before .before .loop in let a = c .before .before .before .before .before .before .before .before .before .before .before .args in toward-last (l .inv .0) (rw (no-action a.tasks a.n (actAt a.forms.now) a.kept.now l.i (totalsOf l.z) l.s l.pool (omega arith)) (c .before .before .finish .ensures))
+returns c = let l = c .before .before .before .before .before .before .loop in let a = c .before .before .before .before .before .before .before .before .before .before .before .args in toward-last (l .inv .0) (rw (no-action a.tasks a.cells (actAt a.forms.now) a.kept.now l.i (totalsOf l.z) l.s l.pool (omega arith)) (c .before .before .finish .ensures))
 
 pub play-spec : {M : Type 1} → statement M
 play-spec =

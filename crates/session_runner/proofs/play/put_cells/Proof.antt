@@ -9,13 +9,13 @@ use Rattle.session_runner.proofs.play.put_cells.Statement.{statement}
 use Rattle.session_runner.proofs.play.put_cells.Tie as tie
 
 abbrev Inv-loop : tie.InvT-loop
-Inv-loop out₀ at s pool n k₀ a₀ out k a = Toward out₀ out at a (cellLines s pool k (n - k)) (cellLines s pool 0 n) × (k ≤ n) × (a ≤ at + 67 * k)
+Inv-loop out₀ at s pool cells k₀ a₀ out k a = Toward out₀ out at a (cellLines s pool k (cells - k)) (cellLines s pool 0 cells) × (k ≤ cells) × (a ≤ at + 67 * k)
 
 abbrev μ-loop : tie.MeasureT-loop
-μ-loop out₀ at s pool n k₀ a₀ out k a = n - k
+μ-loop out₀ at s pool cells k₀ a₀ out k a = cells - k
 
 loop-holds : tie.Need-loop-holds Inv-loop μ-loop
-loop-holds c = let a = c .before .before .args in (rw (sub-zero) (toward-start a.out.now a.at (cellLines a.s a.pool.now 0 a.n)), search needs, search needs)
+loop-holds c = let a = c .before .before .args in (rw (sub-zero) (toward-start a.out.now a.at (cellLines a.s a.pool.now 0 a.cells)), search needs, search needs)
 
 look-requires : tie.Need-look-requires Inv-loop μ-loop
 look-requires c κs = search needs
@@ -30,13 +30,13 @@ loop-less : tie.Need-loop-less Inv-loop μ-loop
 loop-less c = search needs
 
 loop-again : tie.Need-loop-again Inv-loop μ-loop
-loop-again c = let l = c .before .before .before .before .before .before .loop in let a = c .before .before .before .before .before .before .before .before .before .args in let p = c .before .before .put-look in let h : l .k < a.n = omega arith in (toward-more (l .inv .0) (rw (c .before .before .before .before .look .ensures) at (p .ensures .0)) (search needs) (cell-at a.s a.pool.now l.k a.n h), search needs, omega (arith, l .inv .2, p .ensures .1))
+loop-again c = let l = c .before .before .before .before .before .before .loop in let a = c .before .before .before .before .before .before .before .before .before .args in let p = c .before .before .put-look in let h : l .k < a.cells = omega arith in (toward-more (l .inv .0) (rw (c .before .before .before .before .look .ensures) at (p .ensures .0)) (search needs) (cell-at a.s a.pool.now l.k a.cells h), search needs, omega (arith, l .inv .2, p .ensures .1))
 
 same-length : tie.Need-same-length Inv-loop μ-loop
 same-length c = search needs
 
 returns : tie.Need-returns Inv-loop μ-loop
-returns c = let l = c .before .loop in let a = c .before .before .before .before .args in (toward-end (l .inv .0) (cell-end a.s a.pool.now l.k a.n (omega arith)), omega (arith, l .inv .1, l .inv .2))
+returns c = let l = c .before .loop in let a = c .before .before .before .before .args in (toward-end (l .inv .0) (cell-end a.s a.pool.now l.k a.cells (omega arith)), omega (arith, l .inv .1, l .inv .2))
 
 pub put-cells-spec : {M : Type 1} → statement M
 put-cells-spec =

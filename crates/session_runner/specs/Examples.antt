@@ -1,0 +1,52 @@
+-- Cases from the shop, P1 to P10, as session files with what they print: one table, computed.
+use mathlib.Core.Path.{_≡_, refl}
+use mathlib.Core.List.{List, [], _∷_}
+use Prim.Native.String.{String}
+use Rattle.text.specs.Bytes.{bytes, digits}
+use Rattle.text.specs.Readers.{word, digitsAfter, number}
+use Rattle.cells.specs.Questions.{fit, recordFit, cellsFit, recordsFit, hasNone, openQuestions}
+use Rattle.cells.specs.Blocks.{isCurrent, isHeld, used, unused}
+use Rattle.cells.specs.Open.{opened}
+use Rattle.cells.specs.Begin.{readBegun, swapBegun}
+use Rattle.cells.specs.Step.{ran, stepped}
+use Rattle.cells.specs.Look.{looked}
+use Rattle.session_reader.specs.Session as reader
+use Rattle.session_runner.specs.Lines.{numbers, doneStart}
+use Rattle.session_runner.specs.Printed.{reported, cellLines, pending, closed, played, started, printed}
+
+abbrev Prints : List (String × String) → Type 0
+Prints [] = Unit {0}
+Prints ((s, r) ∷ l) = (printed (bytes s) ≡ bytes r) × Prints l
+
+prints :
+    Prints (
+    -- P1
+    ("(open 2 1 5 (5))\n(swap 0 0 5 7)\n(again 10 (step 0))\n(read 1 0)\n(again 3 (step 1))\n", "(done 0 swap 0 yes 10 0)\n(done 1 read 0 7 3 0)\n(cell 0 7)\n(end 2 0 0 0)\n") ∷
+    -- P2
+    ("(open 32 1 65 (5))\n", "(cell 0 5)\n(end 0 0 0 0)\n") ∷
+    ("(open 33 1 67 (5))\n", "(no 0 1)\n") ∷
+    -- P3
+    ("(open 2 1 5 (5))\n", "(cell 0 5)\n(end 0 0 0 0)\n") ∷
+    ("(open 2 1 4 (5))\n", "(no 0 3)\n") ∷
+    -- P4
+    ("(open 2 1 5 (4294967294))\n", "(cell 0 4294967294)\n(end 0 0 0 0)\n") ∷
+    ("(open 2 1 5 (4294967295))\n", "(no 0 5)\n") ∷
+    -- P5
+    ("(open 2 1 5 (5))\n(swap 0 0 5 5)\n(again 3 (step 0))\n", "(done 0 swap 0 yes 3 0)\n(cell 0 5)\n(end 1 0 0 0)\n") ∷
+    -- P6
+    ("(open 2 1 5 (5))\n(swap 0 0 4 6)\n(again 8 (step 0))\n", "(done 0 swap 0 no 8 0)\n(cell 0 5)\n(end 1 0 0 0)\n") ∷
+    -- P7
+    ("(open 2 1 5 (5))\n(step 0)\n", "(no 0 11)\n(cell 0 5)\n(end 0 0 0 0)\n") ∷
+    -- P8
+    ("(open 2 1 5 (5))\n(read 2 1)\n(swap 2 1 5 7)\n", "(no 0 7)\n(no 1 7)\n(cell 0 5)\n(end 0 0 0 0)\n") ∷
+    -- P9
+    ("(open 2 1 5 (5))\n(swap 0 0 5 7)\n(swap 1 0 5 9)\n(again 2 (step 0))\n(again 7 (step 1))\n(again 2 (step 0))\n(again 5 (step 1))\n(again 3 (step 0))\n(swap 0 0 9 4)\n(again 9 (step 0))\n(swap 0 0 4 6)\n(again 10 (step 0))\n", "(done 1 swap 0 yes 12 1)\n(done 0 swap 0 no 7 1)\n(done 0 swap 0 yes 9 2)\n(done 0 swap 0 yes 10 0)\n(cell 0 6)\n(end 4 0 4 1000)\n") ∷
+    -- P10
+    ("(open 2 1 5 (5))\n(swap 0 0 5 7)\n(swap 1 0 5 9)\n(again 2 (step 0))\n(again 7 (step 1))\n(again 5 (step 0))\n(again 10 (step 1))\n(again 2 (step 0))\n", "(done 1 swap 0 yes 17 3)\n(done 0 swap 0 no 9 2)\n(cell 0 9)\n(end 2 0 5 2500)\n") ∷
+    -- a file that is none, a refused action and an unfinished call
+    ("(open 2 1 5 (5))", "(bad 13)\n") ∷
+    ("(open 2 1 5 (5))\n(read 1 0)\n(step 0)\n(step 1)\n", "(no 1 11)\n(cell 0 5)\n(end 0 1 0 0)\n") ∷
+    []
+    )
+unfolding digits word digitsAfter number fit recordFit cellsFit recordsFit hasNone openQuestions isCurrent isHeld used unused opened readBegun swapBegun ran stepped looked reader.fits reader.deeper reader.shapedAfter reader.numbers reader.manyWithin reader.values reader.opening reader.keyword reader.head reader.body reader.form reader.line reader.count reader.times reader.actions reader.counted reader.formed reader.verdict numbers doneStart reported cellLines pending closed played started printed reader.played
+prints = (refl, (refl, (refl, (refl, (refl, (refl, (refl, (refl, (refl, (refl, (refl, (refl, (refl, (refl, (refl, tt)))))))))))))))
