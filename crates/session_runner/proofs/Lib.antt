@@ -3,4 +3,3 @@ mod Lengths
 mod Loops
 mod Acting
 mod Playing
-pub mod Cases
