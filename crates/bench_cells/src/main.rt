@@ -1,12 +1,12 @@
 // Steps 32 tasks on 16 cells 60,000 times by a fixed random schedule, and prints one line of totals. bench/cells has the
 // same loop in plain Rust.
-use cells::Answer;
-use cells::Finished;
 use cells::Outcome;
-use cells::Record;
 use cells::Reply;
-use cells::State;
 use libc::STDOUT_FILENO;
+use lines::Answer;
+use lines::Finished;
+use lines::Record;
+use questions::State;
 use std::num::wrapping_add_u32;
 
 struct Totals {

@@ -6,26 +6,27 @@ use mathlib.Core.Option.{Option, none, some}
 use mathlib.Core.List.{List, [], _∷_}
 use Prim.Native.Nat.{ℕ}
 use lib.ListN.{length}
-use Rattle.cells.specs.declared.Record.{Record}
-use Rattle.cells.specs.declared.State.{State}
+use Rattle.lines.specs.declared.Record.{Record}
+use Rattle.questions.specs.declared.State.{State}
 use Rattle.cells.specs.declared.Outcome.{Outcome}
 use Rattle.cells.specs.declared.Outcome.the-variants.{Refused, Acted, Ended}
 use Rattle.cells.specs.declared.Looked.{Looked}
 use Rattle.cells.specs.declared.Looked.the-variants.{NotShown, Shown}
-use Rattle.cells.specs.declared.lines.Field.{Field}
-use Rattle.cells.specs.declared.lines.Field.the-variants.{C, D}
-use Rattle.cells.specs.declared.lines.Next.{Next}
-use Rattle.cells.specs.declared.lines.Next.the-variants.{Go, Done}
-use Rattle.cells.specs.Basics.{ands}
-use Rattle.cells.specs.Record.{recordAt}
-use Rattle.cells.specs.Lines.{accessOf, nextOf}
+use Rattle.lines.specs.declared.Field.{Field}
+use Rattle.lines.specs.declared.Field.the-variants.{C, D}
+use Rattle.lines.specs.declared.Next.{Next}
+use Rattle.lines.specs.declared.Next.the-variants.{Go, Done}
+use Rattle.lines.specs.Basics.{ands}
+use Rattle.lines.specs.Record.{recordAt}
+use Rattle.lines.specs.Lines.{accessOf, nextOf}
 use Rattle.cells.specs.Pool.{word}
-use Rattle.cells.specs.Questions.{Question, refusal, fit, openQuestions, beginQuestions, swapQuestions, stepQuestions, lookQuestions}
+use Rattle.questions.specs.Questions.{Question, refusal, fit, openQuestions, beginQuestions, swapQuestions, stepQuestions, lookQuestions}
 use Rattle.cells.specs.Open.{After, leaving, unless, openState, openPool, opened}
-use Rattle.cells.specs.Begin.{started, firstRead, firstSwap, readBegun, swapBegun}
+use Rattle.lines.specs.Record.{firstRead, firstSwap}
+use Rattle.cells.specs.Begin.{started, readBegun, swapBegun}
 use Rattle.cells.specs.Step.{Memory, current, perform, followed, ran, stepped}
 use Rattle.cells.specs.Look.{shownValue, shown, looked}
-use Rattle.cells.proofs.Tests.{answers, all-yes}
+use Rattle.questions.proofs.Tests.{answers, all-yes}
 
 abbrev pub acts : Outcome → Bool
 acts (Refused n) = false

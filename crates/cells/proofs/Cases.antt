@@ -3,13 +3,13 @@ use mathlib.Core.Path.{_≡_, refl}
 use mathlib.Core.List.{List, [], _∷_, _++_}
 use Prim.Native.Nat.{ℕ, zero, suc, _*_}
 use lib.ListN.{replicate}
-use Rattle.cells.specs.declared.State.{State}
-use Rattle.cells.specs.declared.Answer.{Answer}
-use Rattle.cells.specs.declared.Answer.the-variants.{Value, Yes, No}
+use Rattle.questions.specs.declared.State.{State}
+use Rattle.lines.specs.declared.Answer.{Answer}
+use Rattle.lines.specs.declared.Answer.the-variants.{Value, Yes, No}
 use Rattle.cells.specs.declared.Outcome.{Outcome}
 use Rattle.cells.specs.declared.Outcome.the-variants.{Refused, Acted, Ended}
-use Rattle.cells.specs.Record.{noValue, idle}
-use Rattle.cells.specs.Questions.{hasNone, openQuestions, recordFit, cellsFit, recordsFit, fit}
+use Rattle.lines.specs.Record.{noValue, idle}
+use Rattle.questions.specs.Questions.{hasNone, openQuestions, recordFit, cellsFit, recordsFit, fit}
 use Rattle.cells.specs.Blocks.{isCurrent, isHeld, used, unused}
 use Rattle.cells.specs.Open.{After, opened}
 use Rattle.cells.specs.Begin.{readBegun, swapBegun}

@@ -7,7 +7,7 @@ use native.Mathlib.Omega.{arith}
 use native.Mathlib.Nat.{eq-or-lt-of-le}
 use lib.Dec.{eqb}
 use borrow.Author.Tests.{eqb-true, ne-eqb}
-use Rattle.cells.specs.Basics.{anyFrom}
+use Rattle.lines.specs.Basics.{anyFrom}
 
 abbrev one : Bool → ℕ
 one true = 1

@@ -10,11 +10,11 @@ use lib.Seq.{set-out}
 use mir.Val.{Val}
 use denote.Laws.{Is}
 use denote.Struct.Laws as LL
-use Rattle.cells.specs.declared.Record.{Record}
-use Rattle.cells.specs.declared.State.{State}
+use Rattle.lines.specs.declared.Record.{Record}
+use Rattle.questions.specs.declared.State.{State}
 use Rattle.cells.specs.declared.Outcome.{Outcome}
 use Rattle.cells.specs.declared.Outcome.the-variants.{Refused, Acted, Ended}
-use Rattle.cells.specs.Record.{isIdle, recordAt}
+use Rattle.lines.specs.Record.{isIdle, recordAt}
 use Rattle.cells.specs.Open.{After, leaving}
 use Rattle.cells.specs.Begin.{withRecord}
 use Rattle.cells.specs.Step.{stepped}
@@ -22,8 +22,8 @@ use Rattle.cells.specs.Lent.{isRefused, lent, steppedLent}
 use Rattle.cells.proofs.Acts.{acts, acts-iff, step-acts, step-untouched}
 use Rattle.cells.proofs.Replies.{asked-below}
 use Rattle.cells.proofs.Stepping.{asked}
-use Rattle.cells.proofs.State as S
-use Rattle.cells.proofs.State.Laws as S′
+use Rattle.questions.proofs.State as S
+use Rattle.questions.proofs.State.Laws as S′
 
 -- a state has 32 records, by its type
 pub has-32 : (s : State) (vs : List Val) → Is S.the-row s vs → length (s .records) ≡ 32

@@ -9,14 +9,14 @@ use native.Mathlib.Omega.{arith}
 use lib.Dec.{ltb}
 use lib.ListN.{getD, length}
 use borrow.Author.Tests.{ltb-true, eqb-true}
-use Rattle.cells.specs.declared.Record.{Record}
-use Rattle.cells.specs.declared.State.{State}
+use Rattle.lines.specs.declared.Record.{Record}
+use Rattle.questions.specs.declared.State.{State}
 use Rattle.cells.specs.declared.Outcome.the-variants.{Refused}
-use Rattle.cells.specs.Questions.{Question, refusal, fit, openQuestions}
+use Rattle.questions.specs.Questions.{Question, refusal, fit, openQuestions}
 use Rattle.cells.specs.Open.{After, leaving, unless}
-use Rattle.cells.proofs.Tests.{answers, all-yes, nth, within-true, blocks-true}
-use Rattle.cells.proofs.Refusals.{numbered, unrefused, refused}
-use Rattle.cells.proofs.Fits.{sizes}
+use Rattle.questions.proofs.Tests.{answers, all-yes, nth, within-true, blocks-true}
+use Rattle.questions.proofs.Refusals.{numbered, unrefused, refused}
+use Rattle.questions.proofs.Fits.{sizes}
 
 module _ (l : List Question) (n : ℕ) (e : n ≡ Option·getD (refusal l) 0) where
   pub is-refused : (n ≡ 0 → ⊥) → (s : State) (p : List ℕ) (a : After) → leaving s p (Refused n) ≡ unless (refusal l) s p a

@@ -4,7 +4,7 @@ use mathlib.Core.Bool.{Bool, true, false}
 use mathlib.Core.Option.{Option, none, some}
 use Prim.Native.Nat.{ℕ, zero, suc, _-_, _<_}
 use native.Mathlib.Omega.{arith}
-use Rattle.cells.specs.declared.State.{State}
+use Rattle.questions.specs.declared.State.{State}
 use Rattle.cells.specs.Blocks.{used, after, unusedFrom, unused}
 use Rattle.cells.proofs.Unused.{after-below}
 

@@ -9,15 +9,15 @@ use native.Mathlib.Omega.{arith}
 use lib.Dec.{ltb}
 use lib.ListN.{getD, length}
 use borrow.Author.Tests.{ltb-true, ne-eqb}
-use Rattle.cells.specs.declared.Record.{Record}
-use Rattle.cells.specs.declared.State.{State}
-use Rattle.cells.specs.Record.{recordAt}
-use Rattle.cells.specs.Questions.{Question, refusal, recordFit, busyTests, recordsFit, fit, fitTests, stepQuestions}
+use Rattle.lines.specs.declared.Record.{Record}
+use Rattle.questions.specs.declared.State.{State}
+use Rattle.lines.specs.Record.{recordAt}
+use Rattle.questions.specs.Questions.{Question, refusal, recordFit, busyTests, recordsFit, fit, fitTests, stepQuestions}
 use Rattle.cells.specs.Blocks.{unused}
 use Rattle.cells.specs.Step.{current, stepped}
 use Rattle.cells.specs.Turn.{turn, There, Ready}
-use Rattle.cells.proofs.Tests.{answers, all-yes, all-at, nth}
-use Rattle.cells.proofs.Fits.{sizes}
+use Rattle.questions.proofs.Tests.{answers, all-yes, all-at, nth}
+use Rattle.questions.proofs.Fits.{sizes}
 use Rattle.cells.proofs.Search.{unused-below}
 use Rattle.cells.proofs.TurnLaw.{putBack, ran-turn, ready, turn-free}
 

@@ -9,24 +9,24 @@ use lib.Dec.{eqb, ltb}
 use lib.ListN.{getD, set}
 use lib.Seq.{set-getD}
 use borrow.Author.Tests.{ltb-true, leb-true, ne-eqb}
-use Rattle.cells.specs.declared.Record.{Record}
-use Rattle.cells.specs.declared.State.{State}
-use Rattle.cells.specs.declared.lines.Field.{Field}
-use Rattle.cells.specs.declared.lines.Field.the-variants.{X, Y, C, D}
-use Rattle.cells.specs.declared.lines.Access.{Access}
-use Rattle.cells.specs.declared.lines.Access.the-variants.{LoadCell, Load, Store, DecideCas, InstallCas, Allocate, Nothing}
-use Rattle.cells.specs.declared.lines.Next.{Next}
-use Rattle.cells.specs.declared.lines.Next.the-variants.{Go, Done}
-use Rattle.cells.specs.Record.{noValue}
-use Rattle.cells.specs.Lines.{Line, l1, l2, l3, l10, l11, l12, l15, l16, l17, l18, l19, l20, l21, l22, l23, l24, l26, l27, l29, l30, nowhere, lineOf, accessAt, accessOf, nextAt, nextOf, counted}
+use Rattle.lines.specs.declared.Record.{Record}
+use Rattle.questions.specs.declared.State.{State}
+use Rattle.lines.specs.declared.Field.{Field}
+use Rattle.lines.specs.declared.Field.the-variants.{X, Y, C, D}
+use Rattle.lines.specs.declared.Access.{Access}
+use Rattle.lines.specs.declared.Access.the-variants.{LoadCell, Load, Store, DecideCas, InstallCas, Allocate, Nothing}
+use Rattle.lines.specs.declared.Next.{Next}
+use Rattle.lines.specs.declared.Next.the-variants.{Go, Done}
+use Rattle.lines.specs.Record.{noValue}
+use Rattle.lines.specs.Lines.{Line, l1, l2, l3, l10, l11, l12, l15, l16, l17, l18, l19, l20, l21, l22, l23, l24, l26, l27, l29, l30, nowhere, lineOf, accessAt, accessOf, nextAt, nextOf, counted}
 use Rattle.cells.specs.Pool.{word}
-use Rattle.cells.specs.Questions.{recordFit, busyTests, holds, installs}
+use Rattle.questions.specs.Questions.{recordFit, busyTests, holds, installs}
 use Rattle.cells.specs.Blocks.{unused}
 use Rattle.cells.specs.Open.{After}
 use Rattle.cells.specs.Step.{Memory, memory, current, perform, followed, ran}
 use Rattle.cells.specs.Turn.{Touched, performed, Turned, ending, turn, Reaches, Ready}
-use Rattle.cells.proofs.Tests.{nth}
-use Rattle.cells.proofs.Numbers.{number, at-number}
+use Rattle.questions.proofs.Tests.{nth}
+use Rattle.questions.proofs.Numbers.{number, at-number}
 
 -- ITS PARTS: its access, what memory answers, the counted record, and what follows
 pub turns : (p : List ℕ) (t : ℕ) (r : Record) (c l : ℕ) (f : Option ℕ) (a : Access) (m : Touched) (q : Record) (n : Next)

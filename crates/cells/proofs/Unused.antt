@@ -10,12 +10,12 @@ use native.Mathlib.Decide.{decLe}
 use lib.Dec.{eqb}
 use lib.ListN.{getD, length}
 use borrow.Author.Tests.{eqb-true, eqb-false, ltb-true}
-use Rattle.cells.specs.declared.Record.{Record}
-use Rattle.cells.specs.declared.State.{State}
-use Rattle.cells.specs.Record.{isIdle, recordAt}
-use Rattle.cells.specs.Questions.{holds, installs, fit, fitTests}
+use Rattle.lines.specs.declared.Record.{Record}
+use Rattle.questions.specs.declared.State.{State}
+use Rattle.lines.specs.Record.{isIdle, recordAt}
+use Rattle.questions.specs.Questions.{holds, installs, fit, fitTests}
 use Rattle.cells.specs.Blocks.{isCurrent, isHeld, used, usesBlock, after, unusedFrom, unused}
-use Rattle.cells.proofs.Tests.{nth, blocks-true}
+use Rattle.questions.proofs.Tests.{nth, blocks-true}
 use Rattle.cells.proofs.Counting.{count, gap, count-or, count-and, count-none, count-one, count-any, count-less}
 
 -- COUNTING

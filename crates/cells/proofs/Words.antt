@@ -9,9 +9,9 @@ use lib.Dec.{eqb, lit<}
 use lib.ListN.{getD, length, length-set}
 use lib.Seq.{getD-set-same, getD-set-other}
 use borrow.Author.Tests.{eq-eqb, ne-eqb}
-use Rattle.cells.specs.declared.lines.Field.{Field}
-use Rattle.cells.specs.declared.lines.Field.the-variants.{X, Y, C, D}
-use Rattle.cells.specs.Record.{noValue}
+use Rattle.lines.specs.declared.Field.{Field}
+use Rattle.lines.specs.declared.Field.the-variants.{X, Y, C, D}
+use Rattle.lines.specs.Record.{noValue}
 use Rattle.cells.specs.Pool.{offset, word, setWord, fresh, fill}
 use Rattle.cells.specs.Open.{filled}
 

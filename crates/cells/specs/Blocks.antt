@@ -4,13 +4,13 @@ use mathlib.Core.Option.{Option, none, some}
 use Prim.Native.Nat.{ℕ, zero, suc, _+_}
 use lib.Dec.{eqb}
 use lib.ListN.{getD}
-use Rattle.cells.specs.declared.Record.{Record}
-use Rattle.cells.specs.declared.State.{State}
+use Rattle.lines.specs.declared.Record.{Record}
+use Rattle.questions.specs.declared.State.{State}
 use Rattle.cells.specs.declared.blocks.Found.{Found}
 use Rattle.cells.specs.declared.blocks.Found.the-variants.{At, Nowhere}
-use Rattle.cells.specs.Basics.{anyFrom}
-use Rattle.cells.specs.Record.{isIdle, recordAt}
-use Rattle.cells.specs.Questions.{holds, installs}
+use Rattle.lines.specs.Basics.{anyFrom}
+use Rattle.lines.specs.Record.{isIdle, recordAt}
+use Rattle.questions.specs.Questions.{holds, installs}
 
 -- some cell's current block is b
 unfoldable pub isCurrent : State → ℕ → Bool

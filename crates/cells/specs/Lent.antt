@@ -2,11 +2,11 @@
 use mathlib.Core.Bool.{Bool, true, false, cond}
 use mathlib.Core.List.{List}
 use Prim.Native.Nat.{ℕ}
-use Rattle.cells.specs.declared.Record.{Record}
-use Rattle.cells.specs.declared.State.{State}
+use Rattle.lines.specs.declared.Record.{Record}
+use Rattle.questions.specs.declared.State.{State}
 use Rattle.cells.specs.declared.Outcome.{Outcome}
 use Rattle.cells.specs.declared.Outcome.the-variants.{Refused, Acted, Ended}
-use Rattle.cells.specs.Record.{recordAt}
+use Rattle.lines.specs.Record.{recordAt}
 use Rattle.cells.specs.Open.{After, leaving}
 use Rattle.cells.specs.Begin.{withRecord}
 use Rattle.cells.specs.Step.{stepped}

@@ -1,13 +1,8 @@
-pub mod Basics
-pub mod Record
-pub mod Lines
 pub mod Pool
-pub mod Questions
 pub mod Blocks
 pub mod Open
 pub mod Begin
 pub mod Step
 pub mod Lent
 pub mod Look
-pub mod Paths
 pub mod Turn

@@ -4,14 +4,14 @@ use mathlib.Core.Option.{Option, none, some}
 use mathlib.Core.List.{List, _∷_}
 use Prim.Native.Nat.{ℕ}
 use lib.Dec.{eqb}
-use Rattle.cells.specs.declared.State.{State}
+use Rattle.questions.specs.declared.State.{State}
 use Rattle.cells.specs.declared.Looked.{Looked}
 use Rattle.cells.specs.declared.Looked.the-variants.{NotShown, Shown}
-use Rattle.cells.specs.declared.lines.Field.{Field}
-use Rattle.cells.specs.declared.lines.Field.the-variants.{C, D}
-use Rattle.cells.specs.Record.{noValue}
+use Rattle.lines.specs.declared.Field.{Field}
+use Rattle.lines.specs.declared.Field.the-variants.{C, D}
+use Rattle.lines.specs.Record.{noValue}
 use Rattle.cells.specs.Pool.{word}
-use Rattle.cells.specs.Questions.{refusal, fit, lookQuestions}
+use Rattle.questions.specs.Questions.{refusal, fit, lookQuestions}
 use Rattle.cells.specs.Step.{current}
 
 -- V while C is false; otherwise D, or V where D is none

@@ -3,12 +3,12 @@ use mathlib.Core.Option.{Option, none, some}
 use mathlib.Core.List.{List, [], _∷_}
 use Prim.Native.Nat.{ℕ, _+_, _-_}
 use lib.ListN.{length, replicate}
-use Rattle.cells.specs.declared.State.{State}
+use Rattle.questions.specs.declared.State.{State}
 use Rattle.cells.specs.declared.Outcome.{Outcome}
 use Rattle.cells.specs.declared.Outcome.the-variants.{Refused, Acted}
-use Rattle.cells.specs.Record.{idle}
+use Rattle.lines.specs.Record.{idle}
 use Rattle.cells.specs.Pool.{fill}
-use Rattle.cells.specs.Questions.{refusal, openQuestions}
+use Rattle.questions.specs.Questions.{refusal, openQuestions}
 
 -- what an entry leaves and answers
 pub record After : Type 0 where

@@ -2,9 +2,9 @@
 use mathlib.Core.List.{List}
 use Prim.Native.Nat.{ℕ, _+_, _*_}
 use lib.ListN.{getD, set}
-use Rattle.cells.specs.declared.lines.Field.{Field}
-use Rattle.cells.specs.declared.lines.Field.the-variants.{X, Y, C, D}
-use Rattle.cells.specs.Record.{noValue}
+use Rattle.lines.specs.declared.Field.{Field}
+use Rattle.lines.specs.declared.Field.the-variants.{X, Y, C, D}
+use Rattle.lines.specs.Record.{noValue}
 
 abbrev pub offset : Field → ℕ
 offset X = 0

@@ -5,18 +5,18 @@ use mathlib.Core.List.{List, _∷_}
 use Prim.Native.Nat.{ℕ}
 use lib.Dec.{eqb}
 use lib.ListN.{getD, set}
-use Rattle.cells.specs.declared.Record.{Record}
-use Rattle.cells.specs.declared.State.{State}
+use Rattle.lines.specs.declared.Record.{Record}
+use Rattle.questions.specs.declared.State.{State}
 use Rattle.cells.specs.declared.Outcome.the-variants.{Acted, Ended}
-use Rattle.cells.specs.declared.lines.Field.the-variants.{D}
-use Rattle.cells.specs.declared.lines.Access.{Access}
-use Rattle.cells.specs.declared.lines.Access.the-variants.{LoadCell, Load, Store, DecideCas, InstallCas, Allocate, Nothing}
-use Rattle.cells.specs.declared.lines.Next.{Next}
-use Rattle.cells.specs.declared.lines.Next.the-variants.{Go, Done}
-use Rattle.cells.specs.Record.{noValue, idle, recordAt}
-use Rattle.cells.specs.Lines.{accessOf, nextOf}
+use Rattle.lines.specs.declared.Field.the-variants.{D}
+use Rattle.lines.specs.declared.Access.{Access}
+use Rattle.lines.specs.declared.Access.the-variants.{LoadCell, Load, Store, DecideCas, InstallCas, Allocate, Nothing}
+use Rattle.lines.specs.declared.Next.{Next}
+use Rattle.lines.specs.declared.Next.the-variants.{Go, Done}
+use Rattle.lines.specs.Record.{noValue, idle, recordAt}
+use Rattle.lines.specs.Lines.{accessOf, nextOf}
 use Rattle.cells.specs.Pool.{word, setWord, fill}
-use Rattle.cells.specs.Questions.{refusal, fit, stepQuestions}
+use Rattle.questions.specs.Questions.{refusal, fit, stepQuestions}
 use Rattle.cells.specs.Blocks.{unused}
 use Rattle.cells.specs.Open.{After, unless}
 use Rattle.cells.specs.Begin.{withRecord}

@@ -5,16 +5,16 @@ use mathlib.Core.Option.{Option, none, some}
 use mathlib.Core.List.{List}
 use Prim.Native.Nat.{ℕ, _+_, _*_, _≤_, _<_}
 use lib.Dec.{eqb}
-use Rattle.cells.specs.declared.Record.{Record}
+use Rattle.lines.specs.declared.Record.{Record}
 use Rattle.cells.specs.declared.Outcome.{Outcome}
 use Rattle.cells.specs.declared.Outcome.the-variants.{Acted, Ended}
-use Rattle.cells.specs.declared.lines.Field.the-variants.{D}
-use Rattle.cells.specs.declared.lines.Access.{Access}
-use Rattle.cells.specs.declared.lines.Access.the-variants.{LoadCell, Load, Store, DecideCas, InstallCas, Allocate, Nothing}
-use Rattle.cells.specs.declared.lines.Next.{Next}
-use Rattle.cells.specs.declared.lines.Next.the-variants.{Go, Done}
-use Rattle.cells.specs.Record.{noValue, idle}
-use Rattle.cells.specs.Lines.{accessOf, nextOf}
+use Rattle.lines.specs.declared.Field.the-variants.{D}
+use Rattle.lines.specs.declared.Access.{Access}
+use Rattle.lines.specs.declared.Access.the-variants.{LoadCell, Load, Store, DecideCas, InstallCas, Allocate, Nothing}
+use Rattle.lines.specs.declared.Next.{Next}
+use Rattle.lines.specs.declared.Next.the-variants.{Go, Done}
+use Rattle.lines.specs.Record.{noValue, idle}
+use Rattle.lines.specs.Lines.{accessOf, nextOf}
 use Rattle.cells.specs.Pool.{word, setWord, fill}
 
 -- MEMORY

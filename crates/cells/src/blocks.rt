@@ -3,10 +3,10 @@ ghost use mathlib.Core.Path.{_≡_};
 ghost use lib.Dec.{eqb};
 ghost use lib.ListN.{getD};
 ghost use Prim.Native.Nat.{_≤_, _<_};
-ghost use Rattle.cells.specs.Basics.{anyFrom};
+ghost use Rattle.lines.specs.Basics.{anyFrom};
 ghost use Rattle.cells.specs.Blocks.{usesBlock, used, after, unused, foundOf};
-use crate::Record;
-use crate::State;
+use lines::Record;
+use questions::State;
 
 pub enum Found {
     At(u32),

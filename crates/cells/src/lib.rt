@@ -5,70 +5,23 @@ ghost use Prim.Native.Nat.{_+_, _*_, _<_};
 ghost use lib.ListN.{length};
 ghost use Rattle.cells.specs.Pool.{word};
 ghost use Rattle.cells.specs.Open.{opened, leaving};
-ghost use Rattle.cells.specs.Begin.{readBegun, swapBegun};
+ghost use Rattle.cells.specs.Begin.{begun, readBegun, swapBegun};
 ghost use Rattle.cells.specs.Step.{stepped};
 ghost use Rattle.cells.specs.Lent.{isRefused, lent, steppedLent};
 ghost use Rattle.cells.specs.Look.{looked, shownValue};
 
 mod blocks;
-mod lines;
 mod opening;
-mod paths;
 mod pool;
-mod questions;
-mod records;
 mod turn;
 
 use blocks::Found;
 use lines::Field;
-use records::NO_VALUE;
-
-// What a task's pending call is about to do, and with what. Idle: line 0; an opening and a finished call leave every
-// other field 0 too.
-pub struct Record {
-    // The figure's line that its next step runs.
-    pub line: u32,
-    // In the deciding part (lines 1 to 3), the line that wanted the decision: 13, 25 or 28.
-    pub wanted: u32,
-    // 1 for a read, 2 for a swap, as begun.
-    pub kind: u32,
-    pub cell: u32,
-    pub expected: u32,
-    pub new: u32,
-    // The block that its first load found in the cell.
-    pub held: u32,
-    // The block that it is about to install.
-    pub taken: u32,
-    pub loaded: u32,
-    pub steps: u32,
-    // Hardware CAS attempts so far.
-    pub hard: u32,
-}
-
-pub struct State {
-    pub tasks: u32,
-    pub cells: u32,
-    pub blocks: u32,
-    // The block taken last.
-    pub last: u32,
-    // Each cell's current block.
-    pub current: [u32; 16],
-    pub records: [Record; 32],
-}
-
-pub enum Answer {
-    Value(u32),
-    Yes,
-    No,
-}
-
-pub struct Finished {
-    pub kind: u32,
-    pub cell: u32,
-    pub answer: Answer,
-    pub steps: u32,
-    pub hard: u32,
-}
+use lines::Finished;
+use lines::Record;
+use lines::records;
+use lines::records::NO_VALUE;
+use questions::State;
 
 // What an entry answers: the number of the first question answered no; that it acted; that it acted and
 // the task's call is finished.
@@ -115,8 +68,9 @@ pub fn open(
     }
 }
 
-pub fn begin_read(mut s: State, pool: &[u32], task: u32, cell: u32) -> Reply
-    ensures { λ r. ⌜ leaving (r .state) (now (pool .entry)) (r .outcome) ≡ readBegun s (now (pool .entry)) task cell ⌝ }
+// The task's call begins with the record q.
+fn begin(mut s: State, pool: &[u32], task: u32, q: Record) -> Reply
+    ensures { λ r. ⌜ leaving (r .state) (now (pool .entry)) (r .outcome) ≡ begun s (now (pool .entry)) task q ⌝ }
 {
     let t = task as usize;
     let fit = questions::is_fit(s, pool);
@@ -126,50 +80,30 @@ pub fn begin_read(mut s: State, pool: &[u32], task: u32, cell: u32) -> Reply
     } else {
         records::idle()
     };
-    let n = questions::begin_refusal(fit, s.tasks, s.cells, r, task, cell);
+    let n = questions::begin_refusal(fit, s.tasks, s.cells, r, task, q);
     if n != 0 {
         return Reply {
             state: s,
             outcome: Outcome::Refused(n),
         };
     }
-    s.records[t] = records::first_read(cell);
+    s.records[t] = q;
     Reply {
         state: s,
         outcome: Outcome::Acted,
     }
 }
 
-pub fn begin_swap(
-    mut s: State,
-    pool: &[u32],
-    task: u32,
-    cell: u32,
-    expected: u32,
-    new: u32,
-) -> Reply
+pub fn begin_read(s: State, pool: &[u32], task: u32, cell: u32) -> Reply
+    ensures { λ r. ⌜ leaving (r .state) (now (pool .entry)) (r .outcome) ≡ readBegun s (now (pool .entry)) task cell ⌝ }
+{
+    begin(s, pool, task, records::first_read(cell))
+}
+
+pub fn begin_swap(s: State, pool: &[u32], task: u32, cell: u32, expected: u32, new: u32) -> Reply
     ensures { λ r. ⌜ leaving (r .state) (now (pool .entry)) (r .outcome) ≡ swapBegun s (now (pool .entry)) task cell expected new ⌝ }
 {
-    let t = task as usize;
-    let fit = questions::is_fit(s, pool);
-    // Only a task of a fit state has a record to ask about.
-    let r = if fit & (task < s.tasks) {
-        s.records[t]
-    } else {
-        records::idle()
-    };
-    let n = questions::swap_refusal(fit, s.tasks, s.cells, r, task, cell, expected, new);
-    if n != 0 {
-        return Reply {
-            state: s,
-            outcome: Outcome::Refused(n),
-        };
-    }
-    s.records[t] = records::first_swap(cell, expected, new);
-    Reply {
-        state: s,
-        outcome: Outcome::Acted,
-    }
+    begin(s, pool, task, records::first_swap(cell, expected, new))
 }
 
 // A busy task's next line.

@@ -3,9 +3,9 @@ ghost use mathlib.Core.Path.{_≡_};
 ghost use Prim.Native.Nat.{_*_, _≤_};
 ghost use lib.ListN.{length, replicate};
 ghost use Rattle.cells.specs.Open.{filled, openState};
-use crate::State;
 use crate::pool::fill;
-use crate::records::idle;
+use lines::records::idle;
+use questions::State;
 
 pub fn open_state(tasks: u32, cells: u32, blocks: u32) -> State
     requires { ⌜ 1 ≤ cells ⌝ }

@@ -3,11 +3,11 @@ ghost use mathlib.Core.Path.{_≡_};
 ghost use mathlib.Core.Option.{none};
 ghost use Prim.Native.Nat.{ℕ, _+_, _*_, _<_};
 ghost use lib.ListN.{length, set};
-ghost use Rattle.cells.specs.declared.lines.Access.the-variants.{DecideCas};
+ghost use Rattle.lines.specs.declared.Access.the-variants.{DecideCas};
 ghost use Rattle.cells.specs.Pool.{offset, word, setWord, fill};
 ghost use Rattle.cells.specs.Turn.{touched, performed};
-use crate::lines::Field;
-use crate::records::NO_VALUE;
+use lines::Field;
+use lines::records::NO_VALUE;
 
 fn offset(field: Field) -> usize
     ensures { λ n. ⌜ (n ≡ offset field) × (n < 5) ⌝ }

@@ -1,23 +1,24 @@
 // A busy task's next line, told numbers only, so that nothing copies the state.
 ghost use mathlib.Core.Path.{_≡_};
+ghost use Prim.Native.Nat.{_≤_};
 ghost use lib.ListN.{length};
-ghost use Rattle.cells.specs.Record.{idle};
+ghost use Rattle.lines.specs.Lines.{hardware, counted};
+ghost use Rattle.lines.specs.Record.{idle};
 ghost use Rattle.cells.specs.Blocks.{foundOf};
 ghost use Rattle.cells.specs.Turn.{touched, filling, performed, turned, turn, Reaches, There, Ready};
 use crate::Outcome;
-use crate::Record;
 use crate::blocks::Found;
-use crate::lines::Access;
-use crate::lines::Next;
-use crate::lines::access_of;
-use crate::lines::counted;
-use crate::lines::next_of;
 use crate::pool::decide_cas;
 use crate::pool::fill;
 use crate::pool::load;
 use crate::pool::store;
-use crate::records::NO_VALUE;
-use crate::records::idle;
+use lines::Access;
+use lines::Next;
+use lines::Record;
+use lines::accesses::access_of;
+use lines::following::next_of;
+use lines::records::NO_VALUE;
+use lines::records::idle;
 
 // What a turn leaves besides the pool. The task's cell has the current block.
 pub struct Turn {
@@ -62,6 +63,31 @@ pub fn take_turn(
             outcome: Outcome::Ended(f),
         },
     }
+}
+
+fn hardware(a: Access) -> u32
+    ensures { λ n. ⌜ (n ≡ hardware a) × (n ≤ 1) ⌝ }
+{
+    match a {
+        Access::LoadCell(_) => 0,
+        Access::Load(_, _) => 0,
+        Access::Store(_, _, _) => 0,
+        Access::DecideCas(_, _) => 1,
+        Access::InstallCas(_, _, _) => 1,
+        Access::Allocate(_) => 0,
+        Access::Nothing => 0,
+    }
+}
+
+fn counted(r: Record, a: Access) -> Record
+    requires { ⌜ (r .steps ≤ 16) × (r .hard ≤ 3) ⌝ }
+    ensures { λ n. ⌜ n ≡ counted r a ⌝ }
+{
+    let mut n = r;
+    n.steps = r.steps + 1;
+    let h = hardware(a);
+    n.hard = r.hard + h;
+    n
 }
 
 fn perform(pool: &mut [u32], a: Access, current: u32, last: u32, free: Found) -> Touch

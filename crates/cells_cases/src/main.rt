@@ -2,9 +2,9 @@
 // answers and whether state and pool stayed as they were. A line: the case, then step, begin a read, begin a swap, look.
 use cells::Looked;
 use cells::Outcome;
-use cells::Record;
-use cells::State;
 use libc::STDOUT_FILENO;
+use lines::Record;
+use questions::State;
 use std::num::wrapping_add_u32;
 
 const NONE: u32 = 4294967295;

@@ -8,11 +8,11 @@ use native.Mathlib.Omega.{arith}
 use lib.Dec.{eqb, T}
 use lib.ListN.{getD}
 use borrow.Author.Tests.{eqb-false}
-use Rattle.cells.specs.declared.Record.{Record}
-use Rattle.cells.specs.Record.{noValue, idle}
-use Rattle.cells.specs.Lines.{lineOf, l10, l15}
-use Rattle.cells.specs.Questions.{valuesFit}
-use Rattle.cells.specs.Begin.{first, firstRead}
+use Rattle.lines.specs.declared.Record.{Record}
+use Rattle.lines.specs.Record.{noValue, idle}
+use Rattle.lines.specs.Lines.{lineOf, l10, l15}
+use Rattle.questions.specs.Questions.{valuesFit}
+use Rattle.lines.specs.Record.{first, firstRead}
 use Rattle.history.specs.History.{Op, read, swap, cellOf}
 use Rattle.history.proofs.Basics.{either, upd-same, upd-off}
 use Rattle.history.proofs.Simulation.{late, Ghost, Knowledge, untold, Grown}

@@ -2,10 +2,10 @@
 use mathlib.Core.Bool.{Bool, true, false, not, _&&_, _||_}
 use Prim.Native.Nat.{ℕ}
 use lib.Dec.{eqb, T}
-use Rattle.cells.specs.Basics.{within}
-use Rattle.cells.specs.Lines.{Wanted, for13, for25, for28, Line, l1, l2, l3, l10, l11, l12, l15, l16, l17, l18, l19, l20, l21, l22, l23, l24, l26, l27, l29, l30, nowhere}
-use Rattle.cells.specs.Questions.{ofKind}
-use Rattle.cells.proofs.Numbers.{number}
+use Rattle.lines.specs.Basics.{within}
+use Rattle.lines.specs.Lines.{Wanted, for13, for25, for28, Line, l1, l2, l3, l10, l11, l12, l15, l16, l17, l18, l19, l20, l21, l22, l23, l24, l26, l27, l29, l30, nowhere}
+use Rattle.questions.specs.Questions.{ofKind}
+use Rattle.questions.proofs.Numbers.{number}
 use Rattle.figure.proofs.LineLaws.{every, every-line, lines}
 
 abbrev pub wantedBy : Wanted → ℕ

@@ -4,10 +4,10 @@ use mathlib.Core.Logic.{_≢_}
 use mathlib.Core.Bool.{Bool, true, not}
 use Prim.Native.Nat.{ℕ}
 use lib.Dec.{T}
-use Rattle.cells.specs.declared.Record.{Record}
-use Rattle.cells.specs.declared.lines.Field.the-variants.{D}
-use Rattle.cells.specs.declared.lines.Access.{Access}
-use Rattle.cells.specs.Lines.{Wanted, l2, l3, lineOf, at, counted}
+use Rattle.lines.specs.declared.Record.{Record}
+use Rattle.lines.specs.declared.Field.the-variants.{D}
+use Rattle.lines.specs.declared.Access.{Access}
+use Rattle.lines.specs.Lines.{Wanted, l2, l3, lineOf, at, counted}
 use Rattle.history.specs.Basics.{upd}
 use Rattle.history.proofs.Basics.{upd-at, upd-same, upd-off, upd-cases}
 use Rattle.history.proofs.Simulation.{Phase, settled, frozen, late, Knowledge}

@@ -4,8 +4,8 @@ use mathlib.Core.Path.{_≡_, refl, sym, subst, _∙_}
 use mathlib.Core.Logic.{_≢_, _⊎_, inl, inr}
 use Prim.Native.Nat.{ℕ}
 use lib.Dec.{T}
-use Rattle.cells.specs.declared.Record.{Record}
-use Rattle.cells.specs.Lines.{Line, lineOf}
+use Rattle.lines.specs.declared.Record.{Record}
+use Rattle.lines.specs.Lines.{Line, lineOf}
 use Rattle.history.specs.Basics.{upd}
 use Rattle.history.proofs.Basics.{either, upd-cases}
 use Rattle.history.proofs.Simulation.{Knowledge}

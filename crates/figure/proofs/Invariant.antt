@@ -4,9 +4,9 @@ use mathlib.Core.Logic.{_≢_}
 use mathlib.Core.Bool.{Bool, not}
 use Prim.Native.Nat.{ℕ, _<_}
 use lib.Dec.{T}
-use Rattle.cells.specs.declared.Record.{Record}
-use Rattle.cells.specs.Lines.{Line, lineOf}
-use Rattle.cells.specs.Record as Reserved
+use Rattle.lines.specs.declared.Record.{Record}
+use Rattle.lines.specs.Lines.{Line, lineOf}
+use Rattle.lines.specs.Record as Reserved
 use Rattle.history.proofs.Simulation.{Phase, settled, frozen, late, Knowledge}
 use Rattle.figure.specs.Figure.{Cell}
 use Rattle.figure.proofs.Classes.{is, busy, holding, swapping, racing, won, loaded, stored, contended, replacing, checking}

@@ -6,14 +6,14 @@ use mathlib.Core.List.{List, [], _∷_, _++_, map}
 use Prim.Native.Nat.{ℕ, zero, suc}
 use lib.Dec.{eqb, T, eqb→eq}
 use lib.ListN.{getD}
-use Rattle.cells.specs.declared.Record.{Record}
-use Rattle.cells.specs.declared.Answer.{Answer}
-use Rattle.cells.specs.declared.lines.Access.{Access}
-use Rattle.cells.specs.declared.lines.Next.{Next}
-use Rattle.cells.specs.declared.lines.Next.the-variants.{Go}
-use Rattle.cells.specs.Record.{idle}
-use Rattle.cells.specs.Lines.{Line, for13, for25, for28, l1, l2, l3, l10, l11, l12, l15, l16, l17, l18, l19, l20, l21, l22, l23, l24, l26, l27, l29, l30, nowhere, lineAt, lineOf, accessAt, loads, stores, hardware, at, answer, nextAt}
-use Rattle.cells.specs.Questions.{ofKind}
+use Rattle.lines.specs.declared.Record.{Record}
+use Rattle.lines.specs.declared.Answer.{Answer}
+use Rattle.lines.specs.declared.Access.{Access}
+use Rattle.lines.specs.declared.Next.{Next}
+use Rattle.lines.specs.declared.Next.the-variants.{Go}
+use Rattle.lines.specs.Record.{idle}
+use Rattle.lines.specs.Lines.{Line, for13, for25, for28, l1, l2, l3, l10, l11, l12, l15, l16, l17, l18, l19, l20, l21, l22, l23, l24, l26, l27, l29, l30, nowhere, lineAt, lineOf, accessAt, loads, stores, hardware, at, answer, nextAt}
+use Rattle.questions.specs.Questions.{ofKind}
 use Rattle.history.specs.Basics.{_∈_}
 use Rattle.figure.specs.Paths.{decision, readActive, readDecided, paths}
 

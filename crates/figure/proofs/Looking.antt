@@ -5,9 +5,9 @@ use mathlib.Core.Bool.{Bool, true, false, not}
 use Prim.Native.Nat.{ℕ, _<_}
 use native.Mathlib.Omega.{arith}
 use lib.Dec.{T}
-use Rattle.cells.specs.declared.Record.{Record}
-use Rattle.cells.specs.declared.lines.Access.{Access}
-use Rattle.cells.specs.Lines.{Wanted, for13, for25, for28, Line, l1, l2, l3, l10, l11, l12, l15, l16, l17, l18, l19, l20, l21, l22, l23, l24, l26, l27, l29, nowhere, at, counted}
+use Rattle.lines.specs.declared.Record.{Record}
+use Rattle.lines.specs.declared.Access.{Access}
+use Rattle.lines.specs.Lines.{Wanted, for13, for25, for28, Line, l1, l2, l3, l10, l11, l12, l15, l16, l17, l18, l19, l20, l21, l22, l23, l24, l26, l27, l29, nowhere, at, counted}
 use Rattle.history.proofs.Simulation.{Phase, settled, frozen, late, Knowledge}
 use Rattle.figure.proofs.Classes.{holding, racing, won, loaded, stored}
 use Rattle.figure.proofs.Invariant.{none, View, Fresh, Owner, TaskOf, Rival, PhaseIs, line, held, Inv}

@@ -5,11 +5,11 @@ use Prim.Native.Nat.{ℕ, _<_}
 use native.Mathlib.Omega.{arith}
 use lib.Dec.{eqb, T}
 use borrow.Author.Tests.{eqb-false}
-use Rattle.cells.specs.declared.Record.{Record}
-use Rattle.cells.specs.declared.lines.Field.the-variants.{Y, C, D}
-use Rattle.cells.specs.declared.lines.Next.{Next}
-use Rattle.cells.specs.Record.{noValue}
-use Rattle.cells.specs.Lines.{for13, for25, for28, Line, l1, l2, l3, l10, l11, l12, l15, l16, l17, l18, l19, l20, l21, l22, l23, l24, l26, l27, l29, l30, nowhere, lineOf, accessAt, counted, nextAt}
+use Rattle.lines.specs.declared.Record.{Record}
+use Rattle.lines.specs.declared.Field.the-variants.{Y, C, D}
+use Rattle.lines.specs.declared.Next.{Next}
+use Rattle.lines.specs.Record.{noValue}
+use Rattle.lines.specs.Lines.{for13, for25, for28, Line, l1, l2, l3, l10, l11, l12, l15, l16, l17, l18, l19, l20, l21, l22, l23, l24, l26, l27, l29, l30, nowhere, lineOf, accessAt, counted, nextAt}
 use Rattle.history.specs.Basics.{upd}
 use Rattle.history.proofs.Basics.{either, upd-same, upd-off, upd-cases}
 use Rattle.history.proofs.Simulation.{Knowledge}

@@ -6,11 +6,11 @@ use mathlib.Core.Option.{some}
 use Prim.Native.Nat.{ℕ}
 use lib.Dec.{eqb, T}
 use borrow.Author.Tests.{eqb-true, eqb-false, eq-eqb, ne-eqb}
-use Rattle.cells.specs.declared.Record.{Record}
-use Rattle.cells.specs.declared.Answer.the-variants as Code
-use Rattle.cells.specs.Record.{isIdle}
-use Rattle.cells.specs.Lines.{lineAt, lineOf, readAnswer}
-use Rattle.cells.specs.Questions.{ofKind, reads, swaps, lineFit}
+use Rattle.lines.specs.declared.Record.{Record}
+use Rattle.lines.specs.declared.Answer.the-variants as Code
+use Rattle.lines.specs.Record.{isIdle}
+use Rattle.lines.specs.Lines.{lineAt, lineOf, readAnswer}
+use Rattle.questions.specs.Questions.{ofKind, reads, swaps, lineFit}
 use Rattle.history.specs.History.{Op, read, swap, cellOf, Yes, No}
 use Rattle.history.specs.Linearization.{reply, after, apply}
 use Rattle.history.specs.Demand3.{Unequal}

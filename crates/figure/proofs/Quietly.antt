@@ -9,11 +9,11 @@ use Prim.Native.Nat.{ℕ}
 use native.Mathlib.Omega.{arith}
 use lib.Dec.{eqb, T}
 use borrow.Author.Tests.{eqb-false}
-use Rattle.cells.specs.declared.Record.{Record}
-use Rattle.cells.specs.declared.lines.Next.{Next}
-use Rattle.cells.specs.declared.lines.Next.the-variants.{Go, Done}
-use Rattle.cells.specs.Record.{idle}
-use Rattle.cells.specs.Lines.{Line, l10, l15, lineAt, lineOf, accessOf, accessAt, nextOf, counted, hardware}
+use Rattle.lines.specs.declared.Record.{Record}
+use Rattle.lines.specs.declared.Next.{Next}
+use Rattle.lines.specs.declared.Next.the-variants.{Go, Done}
+use Rattle.lines.specs.Record.{idle}
+use Rattle.lines.specs.Lines.{Line, l10, l15, lineAt, lineOf, accessOf, accessAt, nextOf, counted, hardware}
 use Rattle.history.specs.Basics.{upd}
 use Rattle.history.specs.History.{Op, read, swap, cellOf}
 use Rattle.history.specs.Demand3.{Unequal}

@@ -4,7 +4,7 @@ use mathlib.Core.Logic.{_≢_}
 use mathlib.Core.List.{List, [], _∷_}
 use Prim.Native.Nat.{ℕ}
 use lib.ListN.{getD}
-use Rattle.cells.specs.Record.{noValue}
+use Rattle.lines.specs.Record.{noValue}
 use Rattle.history.specs.History.{Action, begin, step, Event, refused, begun, going, answered, run}
 use Rattle.history.proofs.Simulation.{Ghost, Knowledge, Grown, Forward, Follows}
 use Rattle.history.proofs.Simulation as Sim

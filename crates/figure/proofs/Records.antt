@@ -8,14 +8,14 @@ use Prim.Native.Nat.{ℕ, _+_, _≤_, _<_}
 use native.Mathlib.Omega.{arith}
 use lib.Dec.{eqb, leb, ltb, T, leb→le, ltb→lt}
 use borrow.Author.Tests.{ltb-true, lt-ltb, ne-eqb}
-use Rattle.cells.specs.declared.Record.{Record}
+use Rattle.lines.specs.declared.Record.{Record}
 use Rattle.cells.specs.declared.Outcome.the-variants.{Refused, Acted}
-use Rattle.cells.specs.declared.lines.Next.{Next}
-use Rattle.cells.specs.declared.lines.Next.the-variants.{Go, Done}
-use Rattle.cells.specs.Record.{idle, isIdle}
-use Rattle.cells.specs.Lines.{Line, lineAt, lineOf, nowhere, accessAt, accessOf, counted, nextOf, hardware}
-use Rattle.cells.specs.Questions.{Question, refusal, ofKind, reads, swaps, lineFit, valuesFit, beginQuestions, swapQuestions, stepQuestions}
-use Rattle.cells.specs.Begin.{firstRead, firstSwap}
+use Rattle.lines.specs.declared.Next.{Next}
+use Rattle.lines.specs.declared.Next.the-variants.{Go, Done}
+use Rattle.lines.specs.Record.{idle, isIdle}
+use Rattle.lines.specs.Lines.{Line, lineAt, lineOf, nowhere, accessAt, accessOf, counted, nextOf, hardware}
+use Rattle.questions.specs.Questions.{Question, refusal, ofKind, reads, swaps, lineFit, valuesFit, beginQuestions, swapQuestions, stepQuestions}
+use Rattle.lines.specs.Record.{firstRead, firstSwap}
 use Rattle.history.specs.Basics.{upd, _∈_}
 use Rattle.history.specs.History.{Op, read, swap, cellOf, Action, begin, step, run}
 use Rattle.history.proofs.Basics.{either, upd-at, upd-off, upd-cases}

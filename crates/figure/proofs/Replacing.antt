@@ -5,9 +5,9 @@ use mathlib.Core.Bool.{Bool, true}
 use Prim.Native.Nat.{ℕ, suc, _<_}
 use native.Mathlib.Omega.{arith}
 use lib.Dec.{T}
-use Rattle.cells.specs.declared.Record.{Record}
-use Rattle.cells.specs.declared.lines.Access.{Access}
-use Rattle.cells.specs.Lines.{Line, l29, l30, nowhere, lineOf, at, counted}
+use Rattle.lines.specs.declared.Record.{Record}
+use Rattle.lines.specs.declared.Access.{Access}
+use Rattle.lines.specs.Lines.{Line, l29, l30, nowhere, lineOf, at, counted}
 use Rattle.history.specs.Basics.{upd}
 use Rattle.history.proofs.Basics.{either, upd-same, upd-off}
 use Rattle.history.proofs.Simulation.{Phase, settled, late, Knowledge}

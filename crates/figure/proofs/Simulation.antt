@@ -4,10 +4,10 @@ use mathlib.Core.Logic.{_≢_}
 use mathlib.Core.List.{List}
 use Prim.Native.Nat.{ℕ}
 use lib.ListN.{getD}
-use Rattle.cells.specs.declared.lines.Next.{Next}
-use Rattle.cells.specs.declared.lines.Next.the-variants.{Go, Done}
-use Rattle.cells.specs.Record.{noValue, idle}
-use Rattle.cells.specs.Lines.{Line}
+use Rattle.lines.specs.declared.Next.{Next}
+use Rattle.lines.specs.declared.Next.the-variants.{Go, Done}
+use Rattle.lines.specs.Record.{noValue, idle}
+use Rattle.lines.specs.Lines.{Line}
 use Rattle.history.specs.History.{Op, Action, begin, step}
 use Rattle.history.specs.Demand3.{Meets, activeAfter}
 use Rattle.history.proofs.Simulation.{Ghost, Knowledge, Forward, Quietly, QuietSteps}

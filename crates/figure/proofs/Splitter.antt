@@ -4,10 +4,10 @@ use mathlib.Core.Logic.{_≢_}
 use Prim.Native.Nat.{ℕ}
 use native.Mathlib.Omega.{arith}
 use lib.Dec.{T}
-use Rattle.cells.specs.declared.Record.{Record}
-use Rattle.cells.specs.declared.lines.Field.the-variants.{X, Y, C}
-use Rattle.cells.specs.declared.lines.Access.{Access}
-use Rattle.cells.specs.Lines.{for28, Line, l1, l16, l17, l18, l19, l27, nowhere, lineOf, at, counted}
+use Rattle.lines.specs.declared.Record.{Record}
+use Rattle.lines.specs.declared.Field.the-variants.{X, Y, C}
+use Rattle.lines.specs.declared.Access.{Access}
+use Rattle.lines.specs.Lines.{for28, Line, l1, l16, l17, l18, l19, l27, nowhere, lineOf, at, counted}
 use Rattle.history.specs.Basics.{upd}
 use Rattle.history.proofs.Basics.{upd-same, upd-off, upd-cases}
 use Rattle.history.proofs.Simulation.{Phase, late, Knowledge}

@@ -6,16 +6,16 @@ use Prim.Native.Nat.{ℕ}
 use native.Mathlib.Omega.{arith}
 use lib.Dec.{eqb, T, T-not, not-T}
 use borrow.Author.Tests.{eqb-true, eqb-false}
-use Rattle.cells.specs.declared.Record.{Record}
-use Rattle.cells.specs.declared.Answer.{Answer}
-use Rattle.cells.specs.declared.Answer.the-variants.{Yes, No}
-use Rattle.cells.specs.declared.lines.Field.{Field}
-use Rattle.cells.specs.declared.lines.Field.the-variants.{C, D}
-use Rattle.cells.specs.declared.lines.Access.{Access}
-use Rattle.cells.specs.declared.lines.Next.{Next}
-use Rattle.cells.specs.declared.lines.Next.the-variants.{Go, Done}
-use Rattle.cells.specs.Record.{noValue, idle}
-use Rattle.cells.specs.Lines.{Wanted, for13, for25, for28, Line, l1, l2, l3, l10, l11, l12, l15, l16, l17, l18, l19, l20, l21, l22, l23, l24, l26, l27, l29, l30, nowhere, lineAt, lineOf, accessAt, at, counted, nextAt, answer, readAnswer}
+use Rattle.lines.specs.declared.Record.{Record}
+use Rattle.lines.specs.declared.Answer.{Answer}
+use Rattle.lines.specs.declared.Answer.the-variants.{Yes, No}
+use Rattle.lines.specs.declared.Field.{Field}
+use Rattle.lines.specs.declared.Field.the-variants.{C, D}
+use Rattle.lines.specs.declared.Access.{Access}
+use Rattle.lines.specs.declared.Next.{Next}
+use Rattle.lines.specs.declared.Next.the-variants.{Go, Done}
+use Rattle.lines.specs.Record.{noValue, idle}
+use Rattle.lines.specs.Lines.{Wanted, for13, for25, for28, Line, l1, l2, l3, l10, l11, l12, l15, l16, l17, l18, l19, l20, l21, l22, l23, l24, l26, l27, l29, l30, nowhere, lineAt, lineOf, accessAt, at, counted, nextAt, answer, readAnswer}
 use Rattle.history.specs.Basics.{upd}
 use Rattle.history.proofs.Basics.{either, upd-at, upd-off, upd-cases}
 use Rattle.history.proofs.Simulation.{Phase, settled, frozen, late, Knowledge}

@@ -4,10 +4,10 @@ use mathlib.Core.Logic.{_≢_}
 use mathlib.Core.Bool.{true, not}
 use Prim.Native.Nat.{ℕ}
 use lib.Dec.{T, T-not, not-T}
-use Rattle.cells.specs.declared.Record.{Record}
-use Rattle.cells.specs.declared.lines.Field.{Field}
-use Rattle.cells.specs.declared.lines.Access.{Access}
-use Rattle.cells.specs.Lines.{l23, l24, lineOf, at, counted}
+use Rattle.lines.specs.declared.Record.{Record}
+use Rattle.lines.specs.declared.Field.{Field}
+use Rattle.lines.specs.declared.Access.{Access}
+use Rattle.lines.specs.Lines.{l23, l24, lineOf, at, counted}
 use Rattle.history.specs.Basics.{upd}
 use Rattle.history.proofs.Basics.{upd-at, upd-same, upd-off, upd-cases}
 use Rattle.history.proofs.Simulation.{Phase, settled, late, Knowledge}

@@ -9,10 +9,10 @@ use native.Mathlib.Numerals.{add-one}
 use native.Mathlib.Omega.{arith}
 use lib.Dec.{eqb, leb, T, leb→le}
 use borrow.Author.Tests.{eqb-true}
-use Rattle.cells.specs.declared.Record.{Record}
-use Rattle.cells.specs.declared.lines.Next.{Next}
-use Rattle.cells.specs.Record.{idle, isIdle}
-use Rattle.cells.specs.Lines.{Line, lineOf, accessOf, counted, hardware}
+use Rattle.lines.specs.declared.Record.{Record}
+use Rattle.lines.specs.declared.Next.{Next}
+use Rattle.lines.specs.Record.{idle, isIdle}
+use Rattle.lines.specs.Lines.{Line, lineOf, accessOf, counted, hardware}
 use Rattle.history.specs.Basics.{upd, _∈_}
 use Rattle.history.specs.History.{Op, read, swap, Action, begin, step}
 use Rattle.history.specs.Demand3.{most, mostHard}

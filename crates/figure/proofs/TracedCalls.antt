@@ -3,7 +3,7 @@ use mathlib.Core.Path.{_≡_, refl}
 use mathlib.Core.Option.{Option, none, some}
 use mathlib.Core.List.{List, [], _∷_, map}
 use Prim.Native.Nat.{ℕ}
-use Rattle.cells.specs.Lines.{Line}
+use Rattle.lines.specs.Lines.{Line}
 use Rattle.history.specs.Basics.{upd}
 use Rattle.history.specs.History.{Op, Action, begin, step, Answer, Event, refused, begun, going, answered, history, Call, Calls, Finished, noCalls, called, advanced, closed, enter, enterAll, callsOf, IsBusy, Allowed, WellFormed}
 use Rattle.history.proofs.Basics.{upd-cases}

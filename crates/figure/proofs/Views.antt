@@ -5,9 +5,9 @@ use mathlib.Core.Bool.{Bool, true, false, _||_, cond, false≢true}
 use Prim.Native.Nat.{ℕ}
 use lib.Dec.{eqb, T}
 use borrow.Author.Tests.{eq-eqb, ne-eqb}
-use Rattle.cells.specs.declared.Record.{Record}
-use Rattle.cells.specs.Record.{idle}
-use Rattle.cells.specs.Lines.{Line, lineOf, nowhere}
+use Rattle.lines.specs.declared.Record.{Record}
+use Rattle.lines.specs.Record.{idle}
+use Rattle.lines.specs.Lines.{Line, lineOf, nowhere}
 use Rattle.history.specs.Basics.{upd}
 use Rattle.history.proofs.Basics.{either, upd-at, upd-off}
 use Rattle.history.proofs.Simulation.{late, Ghost, Knowledge}

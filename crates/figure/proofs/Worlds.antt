@@ -6,12 +6,12 @@ use mathlib.Core.Option.{some}
 use mathlib.Core.List.{List}
 use Prim.Native.Nat.{ℕ}
 use lib.Dec.{T}
-use Rattle.cells.specs.declared.Record.{Record}
-use Rattle.cells.specs.declared.Answer as Code
-use Rattle.cells.specs.declared.Answer.the-variants as CodeAnswer
-use Rattle.cells.specs.declared.lines.Next.{Next}
-use Rattle.cells.specs.Record.{idle}
-use Rattle.cells.specs.Lines.{Line, lineOf, accessOf, nextOf, readAnswer}
+use Rattle.lines.specs.declared.Record.{Record}
+use Rattle.lines.specs.declared.Answer as Code
+use Rattle.lines.specs.declared.Answer.the-variants as CodeAnswer
+use Rattle.lines.specs.declared.Next.{Next}
+use Rattle.lines.specs.Record.{idle}
+use Rattle.lines.specs.Lines.{Line, lineOf, accessOf, nextOf, readAnswer}
 use Rattle.history.specs.Basics.{upd}
 use Rattle.history.specs.History.{Op, cellOf, Yes}
 use Rattle.history.specs.Linearization.{reply, apply}

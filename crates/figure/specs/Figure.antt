@@ -6,23 +6,23 @@ use mathlib.Core.List.{List}
 use Prim.Native.Nat.{ℕ, suc}
 use lib.Dec.{eqb}
 use lib.ListN.{getD}
-use Rattle.cells.specs.declared.Record.{Record}
-use Rattle.cells.specs.declared.Answer as Code
-use Rattle.cells.specs.declared.Answer.the-variants as CodeAnswer
+use Rattle.lines.specs.declared.Record.{Record}
+use Rattle.lines.specs.declared.Answer as Code
+use Rattle.lines.specs.declared.Answer.the-variants as CodeAnswer
 use Rattle.cells.specs.declared.Outcome.{Outcome}
 use Rattle.cells.specs.declared.Outcome.the-variants.{Refused, Acted, Ended}
 use Rattle.cells.specs.declared.Looked.{Looked}
-use Rattle.cells.specs.declared.lines.Field.{Field}
-use Rattle.cells.specs.declared.lines.Field.the-variants.{X, Y, C, D}
-use Rattle.cells.specs.declared.lines.Access.{Access}
-use Rattle.cells.specs.declared.lines.Access.the-variants.{LoadCell, Load, Store, DecideCas, InstallCas, Allocate, Nothing}
-use Rattle.cells.specs.declared.lines.Next.{Next}
-use Rattle.cells.specs.declared.lines.Next.the-variants.{Go, Done}
-use Rattle.cells.specs.Record.{noValue, idle}
-use Rattle.cells.specs.Lines.{accessOf, nextOf, hardware}
+use Rattle.lines.specs.declared.Field.{Field}
+use Rattle.lines.specs.declared.Field.the-variants.{X, Y, C, D}
+use Rattle.lines.specs.declared.Access.{Access}
+use Rattle.lines.specs.declared.Access.the-variants.{LoadCell, Load, Store, DecideCas, InstallCas, Allocate, Nothing}
+use Rattle.lines.specs.declared.Next.{Next}
+use Rattle.lines.specs.declared.Next.the-variants.{Go, Done}
+use Rattle.lines.specs.Record.{noValue, idle}
+use Rattle.lines.specs.Lines.{accessOf, nextOf, hardware}
 use Rattle.cells.specs.Pool.{fresh}
-use Rattle.cells.specs.Questions.{Question, refusal, beginQuestions, swapQuestions, stepQuestions, lookQuestions}
-use Rattle.cells.specs.Begin.{firstRead, firstSwap}
+use Rattle.questions.specs.Questions.{Question, refusal, beginQuestions, swapQuestions, stepQuestions, lookQuestions}
+use Rattle.lines.specs.Record.{firstRead, firstSwap}
 use Rattle.cells.specs.Look.{shownValue, shown}
 use Rattle.history.specs.Basics.{upd}
 use Rattle.history.specs.History.{Op, read, swap, Action, begin, step, Answer, Value, Yes, No, Event, refused, begun, going, answered}

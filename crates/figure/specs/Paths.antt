@@ -2,10 +2,10 @@
 use mathlib.Core.Path.{_≡_}
 use mathlib.Core.List.{List, [], _∷_, _++_}
 use Prim.Native.Nat.{ℕ, _+_}
-use Rattle.cells.specs.declared.lines.Access.{Access}
-use Rattle.cells.specs.Record.{idle}
-use Rattle.cells.specs.Paths.{table}
-use Rattle.cells.specs.Lines.{Line, Wanted, for13, for25, for28, l1, l2, l3, l10, l11, l12, l15, l16, l17, l18, l19, l20, l21, l22, l23, l24, l26, l27, l29, l30, accessAt, loads, stores, hardware}
+use Rattle.lines.specs.declared.Access.{Access}
+use Rattle.lines.specs.Record.{idle}
+use Rattle.lines.specs.Paths.{table}
+use Rattle.lines.specs.Lines.{Line, Wanted, for13, for25, for28, l1, l2, l3, l10, l11, l12, l15, l16, l17, l18, l19, l20, l21, l22, l23, l24, l26, l27, l29, l30, accessAt, loads, stores, hardware}
 use Rattle.history.specs.Basics.{upd, _∈_}
 use Rattle.history.specs.History.{Op, read, Action, begin, step, Answer, Event, refused, begun, going, answered}
 

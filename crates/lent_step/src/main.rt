@@ -2,12 +2,12 @@
 ghost use mathlib.Core.Path.{_≡_};
 ghost use Rattle.cells.specs.Open.{leaving};
 ghost use Rattle.cells.specs.Lent.{lent, steppedLent};
-use cells::Answer;
-use cells::Finished;
 use cells::Outcome;
-use cells::Record;
 use cells::Reply;
-use cells::State;
+use lines::Answer;
+use lines::Finished;
+use lines::Record;
+use questions::State;
 
 // A reply, and the record that was lent.
 struct Kept {

@@ -9,12 +9,12 @@ use native.Mathlib.Omega.{arith}
 use lib.Dec.{eqb, T, T-not, eqb→eq}
 use lib.ListN.{getD, set, length, length-set}
 use lib.Seq.{getD-set-same, getD-set-other}
-use Rattle.cells.specs.declared.Record.{Record}
-use Rattle.cells.specs.declared.State.{State}
-use Rattle.cells.specs.declared.lines.Field.{Field}
-use Rattle.cells.specs.Record.{idle, recordAt}
+use Rattle.lines.specs.declared.Record.{Record}
+use Rattle.questions.specs.declared.State.{State}
+use Rattle.lines.specs.declared.Field.{Field}
+use Rattle.lines.specs.Record.{idle, recordAt}
 use Rattle.cells.specs.Pool.{word}
-use Rattle.cells.specs.Questions.{tasksOk, cellsOk, blocksOk}
+use Rattle.questions.specs.Questions.{tasksOk, cellsOk, blocksOk}
 use Rattle.cells.specs.Begin.{withRecord}
 use Rattle.cells.specs.Step.{current}
 use Rattle.history.specs.Basics.{upd}

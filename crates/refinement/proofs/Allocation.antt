@@ -4,8 +4,8 @@ use mathlib.Core.Bool.{false}
 use mathlib.Core.List.{List}
 use Prim.Native.Nat.{ℕ, _<_}
 use native.Mathlib.Omega.{arith}
-use Rattle.cells.specs.declared.State.{State}
-use Rattle.cells.specs.declared.lines.Field.{Field}
+use Rattle.questions.specs.declared.State.{State}
+use Rattle.lines.specs.declared.Field.{Field}
 use Rattle.cells.specs.Pool.{fill, fresh}
 use Rattle.cells.specs.Blocks.{used}
 use Rattle.cells.specs.Step.{withLast}

@@ -4,8 +4,8 @@ use mathlib.Core.Option.{none}
 use mathlib.Core.List.{List, map}
 use Prim.Native.Nat.{ℕ}
 use lib.ListN.{length}
-use Rattle.cells.specs.declared.State.{State}
-use Rattle.cells.specs.Questions.{refusal, openQuestions}
+use Rattle.questions.specs.declared.State.{State}
+use Rattle.questions.specs.Questions.{refusal, openQuestions}
 use Rattle.history.specs.Basics.{_∈_}
 use Rattle.history.specs.History.{Action, history, callsOf}
 use Rattle.figure.specs.Figure.{opening}

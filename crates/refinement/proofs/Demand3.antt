@@ -10,10 +10,10 @@ use native.Mathlib.Omega.{arith}
 use lib.Dec.{eqb}
 use lib.ListN.{getD, length}
 use borrow.Author.Tests.{eqb-false}
-use Rattle.cells.specs.declared.State.{State}
-use Rattle.cells.specs.Record.{noValue}
-use Rattle.cells.specs.Questions.{refusal, hasNone, openQuestions}
-use Rattle.cells.proofs.Tests.{nth, answers, all-yes, none-of}
+use Rattle.questions.specs.declared.State.{State}
+use Rattle.lines.specs.Record.{noValue}
+use Rattle.questions.specs.Questions.{refusal, hasNone, openQuestions}
+use Rattle.questions.proofs.Tests.{nth, answers, all-yes, none-of}
 use Rattle.history.specs.History.{Action, Event, history, Call, callsOf}
 use Rattle.history.specs.Demand3.{most, Demand3, Meets, Finishes, activeAfter}
 use Rattle.history.proofs.EndsWithin.{ends-within}

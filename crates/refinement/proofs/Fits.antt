@@ -7,14 +7,14 @@ use Prim.Native.Nat.{ℕ, _<_}
 use native.Mathlib.Omega.{arith}
 use lib.Dec.{eqb, ltb, T, eqb→eq}
 use borrow.Author.Tests.{eqb-false, lt-ltb, le-leb}
-use Rattle.cells.specs.declared.Record.{Record}
-use Rattle.cells.specs.declared.State.{State}
-use Rattle.cells.specs.Basics.{ands}
-use Rattle.cells.specs.Record.{isIdle, recordAt}
-use Rattle.cells.specs.Questions.{holds, installs, busyTests, recordFit, cellsFit, recordsFit, fit}
+use Rattle.lines.specs.declared.Record.{Record}
+use Rattle.questions.specs.declared.State.{State}
+use Rattle.lines.specs.Basics.{ands}
+use Rattle.lines.specs.Record.{isIdle, recordAt}
+use Rattle.questions.specs.Questions.{holds, installs, busyTests, recordFit, cellsFit, recordsFit, fit}
 use Rattle.cells.specs.Blocks.{isCurrent, isHeld, used, usesBlock}
 use Rattle.cells.specs.Step.{current}
-use Rattle.cells.proofs.Tests.{both, implied, or-left, or-right, all-from, none-of}
+use Rattle.questions.proofs.Tests.{both, implied, or-left, or-right, all-from, none-of}
 use Rattle.figure.specs.Figure.{World}
 use Rattle.refinement.specs.Terms.{named}
 use Rattle.figure.proofs.Records.{WellRecord}

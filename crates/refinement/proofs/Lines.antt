@@ -3,16 +3,16 @@ use mathlib.Core.Path.{_≡_, refl}
 use mathlib.Core.Bool.{Bool, true, false, not, cond, false≢true}
 use Prim.Native.Nat.{ℕ}
 use lib.Dec.{eqb, T, T-not}
-use Rattle.cells.specs.declared.Record.{Record}
-use Rattle.cells.specs.declared.State.{State}
-use Rattle.cells.specs.declared.Finished.{Finished}
-use Rattle.cells.specs.declared.lines.Next.{Next}
-use Rattle.cells.specs.declared.lines.Next.the-variants.{Go, Done}
-use Rattle.cells.specs.Lines.{Line, for13, for25, for28, l1, l2, l3, l10, l11, l12, l15, l16, l17, l18, l19, l20, l21, l22, l23, l24, l26, l27, l29, l30, nowhere, at, goto, decide, accessAt, nextAt}
-use Rattle.cells.specs.Lines
-use Rattle.cells.specs.Questions.{ofKind}
+use Rattle.lines.specs.declared.Record.{Record}
+use Rattle.questions.specs.declared.State.{State}
+use Rattle.lines.specs.declared.Finished.{Finished}
+use Rattle.lines.specs.declared.Next.{Next}
+use Rattle.lines.specs.declared.Next.the-variants.{Go, Done}
+use Rattle.lines.specs.Lines.{Line, for13, for25, for28, l1, l2, l3, l10, l11, l12, l15, l16, l17, l18, l19, l20, l21, l22, l23, l24, l26, l27, l29, l30, nowhere, at, goto, decide, accessAt, nextAt}
+use Rattle.lines.specs.Lines
+use Rattle.questions.specs.Questions.{ofKind}
 use Rattle.cells.specs.Blocks.{unused}
-use Rattle.cells.proofs.Numbers.{number}
+use Rattle.questions.proofs.Numbers.{number}
 use Rattle.cells.proofs.Unused.{Found}
 use Rattle.refinement.specs.Terms.{named}
 use Rattle.refinement.proofs.Agree.{Links, Task, holdsAt, installsAt}

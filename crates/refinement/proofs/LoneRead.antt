@@ -8,15 +8,15 @@ use native.Mathlib.Omega.{arith}
 use lib.Dec.{eqb, ltb}
 use lib.ListN.{length, replicate}
 use borrow.Author.Tests.{ltb-true, lt-ltb}
-use Rattle.cells.specs.declared.Record.{Record}
-use Rattle.cells.specs.declared.State.{State}
+use Rattle.lines.specs.declared.Record.{Record}
+use Rattle.questions.specs.declared.State.{State}
 use Rattle.cells.specs.declared.Looked.the-variants.{Shown}
-use Rattle.cells.specs.declared.lines.Field.the-variants.{C, D}
-use Rattle.cells.specs.declared.lines.Next.{Next}
-use Rattle.cells.specs.Record.{noValue, isIdle, recordAt}
-use Rattle.cells.specs.Lines.{accessOf, nextOf}
-use Rattle.cells.specs.Questions.{refusal, openQuestions}
-use Rattle.cells.specs.Begin.{firstRead}
+use Rattle.lines.specs.declared.Field.the-variants.{C, D}
+use Rattle.lines.specs.declared.Next.{Next}
+use Rattle.lines.specs.Record.{noValue, isIdle, recordAt}
+use Rattle.lines.specs.Lines.{accessOf, nextOf}
+use Rattle.questions.specs.Questions.{refusal, openQuestions}
+use Rattle.lines.specs.Record.{firstRead}
 use Rattle.cells.specs.Look.{looked, shown, shownValue}
 use Rattle.history.specs.Basics.{upd}
 use Rattle.history.specs.History.{Action, begin, step, read, Value, Event, begun, going, answered, history, run}

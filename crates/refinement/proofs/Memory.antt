@@ -8,12 +8,12 @@ use native.Mathlib.Omega.{arith}
 use lib.Dec.{eqb}
 use lib.ListN.{length, length-set}
 use borrow.Author.Tests.{eqb-true, eqb-false, eq-eqb, ne-eqb}
-use Rattle.cells.specs.declared.State.{State}
-use Rattle.cells.specs.declared.lines.Field.{Field}
-use Rattle.cells.specs.declared.lines.Field.the-variants.{X, Y, C, D}
+use Rattle.questions.specs.declared.State.{State}
+use Rattle.lines.specs.declared.Field.{Field}
+use Rattle.lines.specs.declared.Field.the-variants.{X, Y, C, D}
 use Rattle.cells.specs.Pool.{offset, word, setWord}
 use Rattle.cells.specs.Step.{current, withCurrent}
-use Rattle.cells.proofs.Tests.{blocks-true}
+use Rattle.questions.proofs.Tests.{blocks-true}
 use Rattle.cells.proofs.Words.{fields, set-here, set-else}
 use Rattle.history.specs.Basics.{upd}
 use Rattle.history.proofs.Basics.{either, upd-same, upd-at, upd-off, upd-cases}

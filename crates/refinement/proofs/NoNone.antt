@@ -8,16 +8,16 @@ use native.Mathlib.Omega.{arith}
 use lib.Dec.{eqb}
 use lib.ListN.{length}
 use borrow.Author.Tests.{eqb-false}
-use Rattle.cells.specs.declared.State.{State}
-use Rattle.cells.specs.declared.Answer as Code
+use Rattle.questions.specs.declared.State.{State}
+use Rattle.lines.specs.declared.Answer as Code
 use Rattle.cells.specs.declared.Looked.the-variants.{Shown}
-use Rattle.cells.specs.declared.lines.Field.{Field}
-use Rattle.cells.specs.declared.lines.Next.{Next}
-use Rattle.cells.specs.declared.lines.Next.the-variants.{Go, Done}
-use Rattle.cells.specs.Record.{noValue}
-use Rattle.cells.specs.Lines.{Line, accessOf, nextOf}
+use Rattle.lines.specs.declared.Field.{Field}
+use Rattle.lines.specs.declared.Next.{Next}
+use Rattle.lines.specs.declared.Next.the-variants.{Go, Done}
+use Rattle.lines.specs.Record.{noValue}
+use Rattle.lines.specs.Lines.{Line, accessOf, nextOf}
 use Rattle.cells.specs.Pool.{word}
-use Rattle.cells.specs.Questions.{refusal, openQuestions, lookQuestions}
+use Rattle.questions.specs.Questions.{refusal, openQuestions, lookQuestions}
 use Rattle.cells.specs.Step.{current}
 use Rattle.cells.specs.Look.{looked, shown, shownValue}
 use Rattle.history.specs.Basics.{_∈_}

@@ -8,12 +8,12 @@ use native.Mathlib.Nat.{zero-add}
 use lib.Dec.{eqb}
 use lib.ListN.{getD, length, replicate, length-replicate, getD-replicate}
 use borrow.Author.Tests.{eqb-true}
-use Rattle.cells.specs.declared.lines.Field.{Field}
-use Rattle.cells.specs.Record.{idle}
+use Rattle.lines.specs.declared.Field.{Field}
+use Rattle.lines.specs.Record.{idle}
 use Rattle.cells.specs.Pool.{word, fresh}
-use Rattle.cells.specs.Questions.{refusal, openQuestions}
+use Rattle.questions.specs.Questions.{refusal, openQuestions}
 use Rattle.cells.specs.Open.{openState, openPool}
-use Rattle.cells.proofs.Tests.{nth, answers, all-yes, all-at, within-true, blocks-true}
+use Rattle.questions.proofs.Tests.{nth, answers, all-yes, all-at, within-true, blocks-true}
 use Rattle.cells.proofs.Words.{fields, length-filled, filled-word}
 use Rattle.figure.specs.Figure.{wordOf, opening}
 use Rattle.refinement.proofs.Agree.{Agree, no-blocks}

@@ -7,12 +7,12 @@ use Prim.Native.Nat.{ℕ, _<_}
 use lib.Dec.{ltb}
 use lib.ListN.{length}
 use borrow.Author.Tests.{ltb-true}
-use Rattle.cells.specs.declared.State.{State}
-use Rattle.cells.specs.declared.lines.Field.{Field}
-use Rattle.cells.specs.declared.lines.Field.the-variants.{C, D}
-use Rattle.cells.specs.Record.{recordAt}
+use Rattle.questions.specs.declared.State.{State}
+use Rattle.lines.specs.declared.Field.{Field}
+use Rattle.lines.specs.declared.Field.the-variants.{C, D}
+use Rattle.lines.specs.Record.{recordAt}
 use Rattle.cells.specs.Pool.{word}
-use Rattle.cells.specs.Questions.{refusal, fit, openQuestions}
+use Rattle.questions.specs.Questions.{refusal, fit, openQuestions}
 use Rattle.cells.specs.Open.{opened}
 use Rattle.cells.specs.Step.{current}
 use Rattle.cells.specs.Look.{looked, shown, shownValue}

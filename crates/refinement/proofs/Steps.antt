@@ -7,20 +7,21 @@ use mathlib.Core.List.{List, [], _∷_}
 use Prim.Native.Nat.{ℕ, _<_}
 use lib.Dec.{eqb, ltb, T}
 use borrow.Author.Tests.{ltb-true}
-use Rattle.cells.specs.declared.Record.{Record}
-use Rattle.cells.specs.declared.State.{State}
+use Rattle.lines.specs.declared.Record.{Record}
+use Rattle.questions.specs.declared.State.{State}
 use Rattle.cells.specs.declared.Outcome.{Outcome}
 use Rattle.cells.specs.declared.Outcome.the-variants.{Refused, Acted}
-use Rattle.cells.specs.declared.lines.Next.{Next}
-use Rattle.cells.specs.Basics.{ands}
-use Rattle.cells.specs.Record.{noValue, idle, isIdle, recordAt}
-use Rattle.cells.specs.Lines.{lineOf, accessOf, counted, hardware}
-use Rattle.cells.specs.Questions.{Question, refusal, reads, swaps, fit}
+use Rattle.lines.specs.declared.Next.{Next}
+use Rattle.lines.specs.Basics.{ands}
+use Rattle.lines.specs.Record.{noValue, idle, isIdle, recordAt}
+use Rattle.lines.specs.Lines.{lineOf, accessOf, counted, hardware}
+use Rattle.questions.specs.Questions.{Question, refusal, reads, swaps, fit}
 use Rattle.cells.specs.Open.{After, unless}
-use Rattle.cells.specs.Begin.{readBegun, swapBegun, firstRead, firstSwap, started}
+use Rattle.lines.specs.Record.{firstRead, firstSwap}
+use Rattle.cells.specs.Begin.{readBegun, swapBegun, started}
 use Rattle.cells.specs.Step.{Memory, perform, followed, ran, stepped}
-use Rattle.cells.proofs.Tests.{nth, answers, all-yes}
-use Rattle.cells.proofs.Numbers.{number, at-number}
+use Rattle.questions.proofs.Tests.{nth, answers, all-yes}
+use Rattle.questions.proofs.Numbers.{number, at-number}
 use Rattle.cells.proofs.Unused.{one-is-unused}
 use Rattle.history.specs.History.{Op, read, swap, begin, step, Event}
 use Rattle.figure.specs.Figure.{Cell, World, withBoth, leaving, recordAfter, outcomeOf, beginEvent, stepEvent, tried, figure}

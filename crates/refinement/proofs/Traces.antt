@@ -7,9 +7,9 @@ use native.Mathlib.Decide.{decLe}
 use native.Mathlib.Omega.{arith}
 use lib.ListN.{getD, length}
 use borrow.Author.Tests.{le-ltb}
-use Rattle.cells.specs.declared.State.{State}
-use Rattle.cells.specs.Lines.{Line, lineOf}
-use Rattle.cells.specs.Questions.{refusal, openQuestions}
+use Rattle.questions.specs.declared.State.{State}
+use Rattle.lines.specs.Lines.{Line, lineOf}
+use Rattle.questions.specs.Questions.{refusal, openQuestions}
 use Rattle.history.specs.History.{Action, begin, step, Event, refused, begun, going, answered, run}
 use Rattle.figure.specs.Figure.{World, figure, opening, stepped}
 use Rattle.figure.specs.Paths.{Trace, noTrace, enterLine, traces}

@@ -1,8 +1,8 @@
 -- The definitions of the entries, as a machine that takes actions and gives events.
 use mathlib.Core.List.{List}
 use Prim.Native.Nat.{ℕ}
-use Rattle.cells.specs.declared.State.{State}
-use Rattle.cells.specs.Record.{recordAt}
+use Rattle.questions.specs.declared.State.{State}
+use Rattle.lines.specs.Record.{recordAt}
 use Rattle.cells.specs.Open.{After}
 use Rattle.cells.specs.Begin.{readBegun, swapBegun}
 use Rattle.cells.specs.Step.{stepped}

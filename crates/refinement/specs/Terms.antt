@@ -5,9 +5,9 @@ use mathlib.Core.List.{List, [], _∷_}
 use Prim.Native.Nat.{ℕ}
 use lib.Dec.{eqb}
 use lib.ListN.{replicate}
-use Rattle.cells.specs.declared.Record.{Record}
-use Rattle.cells.specs.declared.State.{State}
-use Rattle.cells.specs.declared.lines.Field.the-variants.{C}
+use Rattle.lines.specs.declared.Record.{Record}
+use Rattle.questions.specs.declared.State.{State}
+use Rattle.lines.specs.declared.Field.the-variants.{C}
 use Rattle.cells.specs.Pool.{word}
 use Rattle.cells.specs.Open.{opened}
 use Rattle.cells.specs.Step.{current}

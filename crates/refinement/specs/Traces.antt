@@ -1,8 +1,8 @@
 -- The lines that each call on the cells did.
 use mathlib.Core.List.{List}
 use Prim.Native.Nat.{ℕ}
-use Rattle.cells.specs.Record.{recordAt}
-use Rattle.cells.specs.Lines.{Line, lineOf}
+use Rattle.lines.specs.Record.{recordAt}
+use Rattle.lines.specs.Lines.{Line, lineOf}
 use Rattle.history.specs.History.{Action}
 use Rattle.figure.specs.Paths.{Trace, noTrace, traces}
 use Rattle.refinement.specs.Pool.{Pool, pool}

@@ -9,8 +9,8 @@ use borrow.Author.Tests.{ne-eqb}
 use lib.ListN.{length, drop, getD, length-append, drop-of-length-le}
 use lib.Seq.{drop-cons}
 use Rattle.text.specs.Bytes.{bytes, decimal}
-use Rattle.cells.specs.declared.State.{State}
-use Rattle.cells.specs.Record.{isIdle, recordAt}
+use Rattle.questions.specs.declared.State.{State}
+use Rattle.lines.specs.Record.{isIdle, recordAt}
 use Rattle.cells.specs.Look.{looked}
 use Rattle.session_runner.specs.Lines.{numbers}
 use Rattle.session_runner.specs.Printed.{lookLine, cellLines, pending}

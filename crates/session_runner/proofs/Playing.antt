@@ -9,13 +9,13 @@ use lib.ListN.{length, take, drop, getD, replicate, drop-of-length-le, length-ma
 use lib.Seq.{length-take-le}
 use Rattle.io.specs.Counts.{Counts}
 use Rattle.text.specs.Append.{Appended}
-use Rattle.cells.specs.declared.State.{State}
-use Rattle.cells.specs.declared.Finished.{Finished}
+use Rattle.questions.specs.declared.State.{State}
+use Rattle.lines.specs.declared.Finished.{Finished}
 use Rattle.cells.specs.declared.Outcome.{Outcome}
 use Rattle.cells.specs.declared.Outcome.the-variants.{Refused, Acted, Ended}
 use Rattle.cells.specs.Open.{After, leaving, opened}
-use Rattle.cells.specs.Questions.{openQuestions}
-use Rattle.cells.proofs.Tests.{nth, answers, within-true}
+use Rattle.questions.specs.Questions.{openQuestions}
+use Rattle.questions.proofs.Tests.{nth, answers, within-true}
 use Rattle.cells.proofs.Acts.{acts, open-acts}
 use Rattle.session_reader.specs.Session.{Act, Verdict, verdict}
 use Rattle.session_reader.specs.Reading.{judged}

@@ -4,9 +4,9 @@ use mathlib.Core.List.{List, [], _∷_, _++_}
 use Prim.Native.Nat.{ℕ, _*_, _/_}
 use lib.Dec.{eqb}
 use Rattle.text.specs.Bytes.{bytes, decimal}
-use Rattle.cells.specs.declared.Answer.{Answer}
-use Rattle.cells.specs.declared.Answer.the-variants.{Value, Yes, No}
-use Rattle.cells.specs.declared.Finished.{Finished}
+use Rattle.lines.specs.declared.Answer.{Answer}
+use Rattle.lines.specs.declared.Answer.the-variants.{Value, Yes, No}
+use Rattle.lines.specs.declared.Finished.{Finished}
 
 -- numbers, each after a space
 unfoldable pub numbers : List ℕ → List ℕ

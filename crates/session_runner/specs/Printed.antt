@@ -4,13 +4,13 @@ use mathlib.Core.List.{List, [], _∷_, _++_}
 use Prim.Native.Nat.{ℕ, zero, suc, _+_, _*_}
 use lib.Dec.{leb}
 use lib.ListN.{length, replicate}
-use Rattle.cells.specs.declared.State.{State}
-use Rattle.cells.specs.declared.Finished.{Finished}
+use Rattle.questions.specs.declared.State.{State}
+use Rattle.lines.specs.declared.Finished.{Finished}
 use Rattle.cells.specs.declared.Outcome.{Outcome}
 use Rattle.cells.specs.declared.Outcome.the-variants.{Refused, Acted, Ended}
 use Rattle.cells.specs.declared.Looked.{Looked}
 use Rattle.cells.specs.declared.Looked.the-variants.{NotShown, Shown}
-use Rattle.cells.specs.Record.{idle, isIdle, recordAt}
+use Rattle.lines.specs.Record.{idle, isIdle, recordAt}
 use Rattle.cells.specs.Open.{After, opened}
 use Rattle.cells.specs.Begin.{readBegun, swapBegun}
 use Rattle.cells.specs.Step.{stepped}

@@ -1,11 +1,11 @@
 // Runs a session file and prints its lines.
 mod actions;
-mod lines;
 mod play;
+mod printing;
 
 use cells::Outcome;
-use cells::Record;
-use cells::State;
+use lines::Record;
+use questions::State;
 use session_reader::Reading;
 ghost use mathlib.Core.Path.{_≡_};
 ghost use mathlib.Core.List.{map};
@@ -67,7 +67,7 @@ fn start(
     let first = cells::open(blank(), pool, tasks, cells, blocks, values);
     let outcome = first.outcome;
     match outcome {
-        Outcome::Refused(k) => lines::put_no(out, 0, 0, k),
+        Outcome::Refused(k) => printing::put_no(out, 0, 0, k),
         Outcome::Acted => {
             let s = first.state;
             play::play(out, tasks, cells, s, pool, forms, kept)
@@ -129,7 +129,7 @@ fn print(out: &mut [u8], found: Reading, values: &[u32], forms: &[u32], actions:
     ensures { λ r. ⌜ Appended (now (out .entry)) (now (out .exit)) 0 r (shown (verdictOf found (now (values .entry)) (now (forms .entry)) (now (actions .entry)))) ⌝ }
 {
     match found {
-        Reading::Bad(n) => lines::put_bad(out, 0, n),
+        Reading::Bad(n) => printing::put_bad(out, 0, n),
         Reading::Session {
             tasks,
             cells,

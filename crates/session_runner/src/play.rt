@@ -1,11 +1,11 @@
 // The actions in their order, each with its line, and what is printed after the last.
 use crate::actions;
 use crate::actions::Action;
-use crate::lines;
+use crate::printing;
 use cells::Looked;
 use cells::Outcome;
 use cells::Reply;
-use cells::State;
+use questions::State;
 ghost use mathlib.Core.Path.{_≡_};
 ghost use mathlib.Core.List.{map};
 ghost use Prim.Native.Nat.{_+_, _*_, _≤_};
@@ -40,9 +40,9 @@ fn report(out: &mut [u8], at: usize, i: u32, task: u32, outcome: Outcome) -> usi
     ensures { λ r. ⌜ r ≤ at + 67 ⌝ }
 {
     match outcome {
-        Outcome::Refused(n) => lines::put_no(out, at, i, n),
+        Outcome::Refused(n) => printing::put_no(out, at, i, n),
         Outcome::Acted => at,
-        Outcome::Ended(f) => lines::put_done(out, at, task, f),
+        Outcome::Ended(f) => printing::put_done(out, at, task, f),
     }
 }
 
@@ -57,7 +57,7 @@ fn count(z: Tally, outcome: Outcome) -> Tally
         Outcome::Acted => z,
         Outcome::Ended(f) => Tally {
             finished: z.finished + 1,
-            hard: z.hard + lines::wide(f.hard),
+            hard: z.hard + printing::wide(f.hard),
         },
     }
 }
@@ -68,7 +68,7 @@ fn put_look(out: &mut [u8], at: usize, k: u32, seen: Looked) -> usize
     ensures { λ r. ⌜ r ≤ at + 67 ⌝ }
 {
     match seen {
-        Looked::Shown(v) => lines::put_cell(out, at, k, v),
+        Looked::Shown(v) => printing::put_cell(out, at, k, v),
         Looked::NotShown(_) => at,
     }
 }
@@ -121,7 +121,7 @@ fn finish(
 {
     let a = put_cells(out, at, s, pool, cells);
     let unfinished = pending(s, tasks as usize);
-    lines::put_end(out, a, z.finished, unfinished, z.hard)
+    printing::put_end(out, a, z.finished, unfinished, z.hard)
 }
 
 // Every action, and what is printed after the last.

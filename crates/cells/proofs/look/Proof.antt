@@ -3,7 +3,7 @@ use mathlib.Core.Path.{sym, _∙_}
 use denote.Ref.{now}
 use borrow.Author.Tests.{not-true, not-false, lt-ltb, le-ltb}
 use Rattle.cells.specs.Look.{looked}
-use Rattle.cells.proofs.Fits.{current-below}
+use Rattle.questions.proofs.Fits.{current-below}
 use borrow.Author.Needs.{needs}
 use Rattle.cells.proofs.look.Statement.{statement}
 use Rattle.cells.proofs.look.Tie as tie

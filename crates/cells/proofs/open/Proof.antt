@@ -4,7 +4,7 @@ use mathlib.Core.Option.{none}
 use native.Mathlib.Omega.{arith}
 use lib.ListN.{length}
 use denote.Ref.{now}
-use Rattle.cells.specs.Questions.{refusal, openQuestions}
+use Rattle.questions.specs.Questions.{refusal, openQuestions}
 use Rattle.cells.specs.Open.{opened, openState, openPool, leaving}
 use Rattle.cells.specs.declared.Outcome.the-variants.{Acted}
 use Rattle.cells.proofs.Replies.{is-refused, is-allowed, opens}

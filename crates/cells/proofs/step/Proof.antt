@@ -8,9 +8,9 @@ use Prim.Native.Nat.{ℕ}
 use native.Mathlib.Omega.{arith}
 use lib.Dec.{ltb}
 use denote.Ref.{now}
-use Rattle.cells.specs.declared.Record.{Record}
-use Rattle.cells.specs.Record.{isIdle, recordAt}
-use Rattle.cells.specs.Questions.{Question, refusal, fit}
+use Rattle.lines.specs.declared.Record.{Record}
+use Rattle.lines.specs.Record.{isIdle, recordAt}
+use Rattle.questions.specs.Questions.{Question, refusal, fit}
 use Rattle.cells.specs.Blocks.{foundOf}
 use Rattle.cells.specs.Step.{ran, stepped}
 use Rattle.cells.proofs.Replies.{is-refused, is-allowed, asked-of, task-below}

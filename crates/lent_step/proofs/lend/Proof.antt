@@ -43,14 +43,14 @@ use denote.Triple.Walked.{says, Stays, stay-none, gave-slice, walkOf, AllGo, goe
 use denote.Exit.{yes}
 use Rattle.cells.specs.Open.{leaving}
 use Rattle.cells.specs.Lent.{lent, steppedLent}
-use Rattle.cells.specs.declared.Record.{Record}
-use Rattle.cells.specs.declared.State.{State}
+use Rattle.lines.specs.declared.Record.{Record}
+use Rattle.questions.specs.declared.State.{State}
 use Rattle.cells.specs.declared.Reply.{Reply}
 use Rattle.lent_step.specs.declared.Kept.{Kept}
-use Rattle.cells.proofs.Record as R
-use Rattle.cells.proofs.Record.Laws as R′
-use Rattle.cells.proofs.State as S
-use Rattle.cells.proofs.State.Laws as S′
+use Rattle.lines.proofs.Record as R
+use Rattle.lines.proofs.Record.Laws as R′
+use Rattle.questions.proofs.State as S
+use Rattle.questions.proofs.State.Laws as S′
 use Rattle.cells.proofs.Reply as G
 use Rattle.cells.proofs.Reply.Laws as G′
 use Rattle.lent_step.proofs.Kept as P

@@ -8,8 +8,8 @@ use lib.Dec.{eqb}
 use lib.ListN.{getD}
 use denote.Ref.{now}
 use borrow.Author.Tests.{eq-eqb, ne-eqb}
-use Rattle.cells.specs.Basics.{anyFrom}
-use Rattle.cells.proofs.Loops.{any-no, any-yes, any-end}
+use Rattle.lines.specs.Basics.{anyFrom}
+use Rattle.questions.proofs.Loops.{any-no, any-yes, any-end}
 use borrow.Author.Needs.{needs}
 use native.Mathlib.Omega.{arith}
 use Rattle.cells.proofs.blocks.is_current.Statement.{statement}

@@ -3,11 +3,11 @@ use mathlib.Core.Path.{_≡_, sym, _∙_}
 use mathlib.Core.Bool.{Bool}
 use Prim.Native.Nat.{ℕ, _≤_, _-_}
 use native.Mathlib.Nat.{sub-zero}
-use Rattle.cells.specs.declared.State.{State}
-use Rattle.cells.specs.Basics.{anyFrom}
-use Rattle.cells.specs.Record.{recordAt}
+use Rattle.questions.specs.declared.State.{State}
+use Rattle.lines.specs.Basics.{anyFrom}
+use Rattle.lines.specs.Record.{recordAt}
 use Rattle.cells.specs.Blocks.{isCurrent, isHeld, used, usesBlock}
-use Rattle.cells.proofs.Loops.{any-no, any-yes, any-end}
+use Rattle.questions.proofs.Loops.{any-no, any-yes, any-end}
 use borrow.Author.Needs.{needs}
 use native.Mathlib.Omega.{arith}
 use Rattle.cells.proofs.blocks.is_used.Statement.{statement}

@@ -1,0 +1,23 @@
+use borrow.Author.Needs.{needs}
+use native.Mathlib.Omega.{arith}
+use Rattle.lines.proofs.Ranges.{no-line}
+use Rattle.lines.proofs.accesses.access_of.Statement.{statement}
+use Rattle.lines.proofs.accesses.access_of.Tie as tie
+
+pub access-of-spec : {M : Type 1} → statement M
+access-of-spec =
+    tie.close
+    (tie.spec
+    (λ c κs. search needs)
+    (λ c κs. search needs)
+    (λ c κs. search needs)
+    (λ c κs. search needs)
+    (λ c. c .access-decide .ensures _)
+    (λ c. c .access-read .ensures _)
+    (λ c. c .access-swap .ensures)
+    (λ c. c .access-install .ensures _)
+    (λ c. rw (no-line (c .before .args .r .line) _ (λ a b. omega arith) (λ a b. omega arith) (λ a b. omega arith) (λ a b. omega arith)))
+    (λ c. rw (no-line (c .before .before .before .args .r .line) _ (λ a b. omega arith) (λ a b. omega arith) (λ a b. omega arith) (λ a b. omega arith)))
+    (λ c. rw (no-line (c .before .before .before .before .before .args .r .line) _ (λ a b. omega arith) (λ a b. omega arith) (λ a b. omega arith) (λ a b. omega arith)))
+    (λ c. rw (no-line (c .before .before .before .before .before .before .before .args .r .line) _ (λ a b. omega arith) (λ a b. omega arith) (λ a b. omega arith) (λ a b. omega arith)))
+    (λ c. rw (no-line (c .before .before .before .before .before .before .before .before .args .r .line) _ (λ a b. omega arith) (λ a b. omega arith) (λ a b. omega arith) (λ a b. omega arith))))

@@ -1,0 +1,23 @@
+use borrow.Author.Needs.{needs}
+use native.Mathlib.Omega.{arith}
+use Rattle.lines.proofs.Ranges.{no-line}
+use Rattle.lines.proofs.following.next_of.Statement.{statement}
+use Rattle.lines.proofs.following.next_of.Tie as tie
+
+pub next-of-spec : {M : Type 1} → statement M
+next-of-spec =
+    tie.close
+    (tie.spec
+    (λ c κs. search needs)
+    (λ c κs. search needs)
+    (λ c κs. search needs)
+    (λ c κs. search needs)
+    (λ c. c .next-decide .ensures _)
+    (λ c. c .next-read .ensures _)
+    (λ c. c .next-swap .ensures)
+    (λ c. c .next-install .ensures _)
+    (λ c. rw (no-line (c .before .args .r .line) _ (λ a b. omega arith) (λ a b. omega arith) (λ a b. omega arith) (λ a b. omega arith)))
+    (λ c. rw (no-line (c .before .before .before .args .r .line) _ (λ a b. omega arith) (λ a b. omega arith) (λ a b. omega arith) (λ a b. omega arith)))
+    (λ c. rw (no-line (c .before .before .before .before .before .args .r .line) _ (λ a b. omega arith) (λ a b. omega arith) (λ a b. omega arith) (λ a b. omega arith)))
+    (λ c. rw (no-line (c .before .before .before .before .before .before .before .args .r .line) _ (λ a b. omega arith) (λ a b. omega arith) (λ a b. omega arith) (λ a b. omega arith)))
+    (λ c. rw (no-line (c .before .before .before .before .before .before .before .before .args .r .line) _ (λ a b. omega arith) (λ a b. omega arith) (λ a b. omega arith) (λ a b. omega arith))))

@@ -1,0 +1,4 @@
+pub mod Basics
+pub mod Record
+pub mod Lines
+pub mod Paths

@@ -1,0 +1,127 @@
+-- The questions before anything is done, in document 01's order with its numbers; the first "no" gives its number.
+use mathlib.Core.Bool.{Bool, true, false, _&&_, _||_, not, cond}
+use mathlib.Core.Option.{Option, none, some}
+use mathlib.Core.List.{List, [], _∷_}
+use Prim.Native.Nat.{ℕ, _+_, _*_}
+use lib.Dec.{eqb, leb, ltb}
+use lib.ListN.{getD, length}
+use Rattle.lines.specs.declared.Record.{Record}
+use Rattle.questions.specs.declared.State.{State}
+use Rattle.lines.specs.Basics.{ands, allFrom, anyFrom, within}
+use Rattle.lines.specs.Record.{noValue, isIdle, recordAt}
+use Rattle.lines.specs.Lines.{Line, Wanted, for13, for25, for28, l1, l2, l3, l10, l11, l12, l15, l16, l17, l18, l19, l20, l21, l22, l23, l24, l26, l27, l29, l30, nowhere, lineOf}
+
+-- a question: its number and whether the answer is yes
+abbrev pub Question : Type 0
+Question = ℕ × Bool
+
+abbrev pub refusal : List Question → Option ℕ
+refusal [] = none
+refusal (q ∷ l) = cond (q .1) (refusal l) (some (q .0))
+
+-- OPEN: 1 to 5
+
+abbrev pub tasksOk : ℕ → Bool
+tasksOk n = within n 1 32
+
+abbrev pub cellsOk : ℕ → Bool
+cellsOk v = within v 1 16
+
+abbrev pub blocksOk : (tasks cells blocks words : ℕ) → Bool
+blocksOk n v b len = (leb (v + 2 * n) b && leb b 128) && eqb len (5 * b)
+
+unfoldable pub hasNone : List ℕ → Bool
+hasNone vs = anyFrom (λ k. eqb (getD vs k 0) noValue) 0 (length vs)
+
+unfoldable pub openQuestions : (words tasks cells blocks : ℕ) → List ℕ → List Question
+openQuestions len n v b vs =
+    (1, tasksOk n) ∷ (2, cellsOk v) ∷ (3, blocksOk n v b len) ∷ (4, eqb (length vs) v) ∷ (5, not (hasNone vs)) ∷ []
+
+-- WHEN A STATE IS FIT: 6. Fit is document 01's word for a well-formed state.
+
+-- a read, or a swap of equal values
+abbrev pub reads : Record → Bool
+reads r = eqb (r .kind) 1 || (eqb (r .kind) 2 && eqb (r .expected) (r .new))
+
+-- a swap of unequal values
+abbrev pub swaps : Record → Bool
+swaps r = eqb (r .kind) 2 && not (eqb (r .expected) (r .new))
+
+-- whether the read or the swap wants the decision
+abbrev pub decidesFor : Wanted → Bool → Bool → Bool
+decidesFor for13 read swap = read
+decidesFor for25 read swap = swap
+decidesFor for28 read swap = swap
+
+-- which of two kinds has the line
+abbrev pub ofKind : Line → (read swap : Bool) → Bool
+ofKind (l1 w) a b = decidesFor w a b
+ofKind (l2 w) a b = decidesFor w a b
+ofKind (l3 w) a b = decidesFor w a b
+ofKind l10 a b = a
+ofKind l11 a b = a
+ofKind l12 a b = a
+ofKind l15 a b = b
+ofKind l16 a b = b
+ofKind l17 a b = b
+ofKind l18 a b = b
+ofKind l19 a b = b
+ofKind l20 a b = b
+ofKind l21 a b = b
+ofKind l22 a b = b
+ofKind l23 a b = b
+ofKind l24 a b = b
+ofKind l26 a b = b
+ofKind l27 a b = b
+ofKind l29 a b = b
+ofKind l30 a b = b
+ofKind nowhere a b = false
+
+abbrev pub lineFit : Record → Bool
+lineFit r = ofKind (lineOf r) (reads r) (swaps r)
+
+-- a busy task has done its first load (asked of busy records only)
+abbrev pub holds : Record → Bool
+holds r = not (eqb (r .line) 10 || eqb (r .line) 15)
+
+-- a task's next line is 30
+abbrev pub installs : Record → Bool
+installs r = eqb (r .line) 30
+
+abbrev pub blocksFit : Record → ℕ → Bool
+blocksFit r b = (not (holds r) || ltb (r .held) b) && (not (installs r) || ltb (r .taken) b)
+
+abbrev pub valuesFit : Record → Bool
+valuesFit r = eqb (r .kind) 1 || (not (eqb (r .expected) noValue) && not (eqb (r .new) noValue))
+
+abbrev pub busyTests : Record → (cells blocks : ℕ) → List Bool
+busyTests r v b = ltb (r .cell) v ∷ lineFit r ∷ blocksFit r b ∷ valuesFit r ∷ leb (r .steps) 16 ∷ leb (r .hard) 3 ∷ []
+
+unfoldable pub recordFit : Record → (cells blocks : ℕ) → Bool
+recordFit r v b = isIdle r || ands (busyTests r v b)
+
+unfoldable pub cellsFit : State → Bool
+cellsFit s = allFrom (λ k. ltb (getD (s .current) k 0) (s .blocks)) 0 (s .cells)
+
+unfoldable pub recordsFit : State → Bool
+recordsFit s = allFrom (λ t. recordFit (recordAt (s .records) t) (s .cells) (s .blocks)) 0 (s .tasks)
+
+abbrev pub fitTests : State → List ℕ → List Bool
+fitTests s p = tasksOk (s .tasks) ∷ cellsOk (s .cells) ∷ blocksOk (s .tasks) (s .cells) (s .blocks) (length p) ∷ cellsFit s ∷ ltb (s .last) (s .blocks) ∷ recordsFit s ∷ []
+
+unfoldable pub fit : State → List ℕ → Bool
+fit s p = ands (fitTests s p)
+
+-- BEGIN, STEP AND LOOK: 7 to 11, of N tasks and V cells and the task's record
+
+abbrev pub beginQuestions : (tasks cells : ℕ) → Record → (task cell : ℕ) → List Question
+beginQuestions n v r t k = (7, ltb t n) ∷ (8, ltb k v) ∷ (9, isIdle r) ∷ []
+
+abbrev pub swapQuestions : (tasks cells : ℕ) → Record → (task cell expected new : ℕ) → List Question
+swapQuestions n v r t k e w = (7, ltb t n) ∷ (8, ltb k v) ∷ (9, isIdle r) ∷ (10, not (eqb e noValue) && not (eqb w noValue)) ∷ []
+
+abbrev pub stepQuestions : (tasks : ℕ) → Record → (task : ℕ) → List Question
+stepQuestions n r t = (7, ltb t n) ∷ (11, not (isIdle r)) ∷ []
+
+abbrev pub lookQuestions : (cells cell : ℕ) → List Question
+lookQuestions v k = (8, ltb k v) ∷ []

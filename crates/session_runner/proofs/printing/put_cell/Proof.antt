@@ -1,0 +1,39 @@
+use native.Mathlib.Omega.{arith}
+use Rattle.session_runner.proofs.Lengths.{line-2}
+use Rattle.text.specs.Bytes.{bytes}
+use borrow.Author.Needs.{needs}
+use Rattle.session_runner.proofs.printing.put_cell.Statement.{statement}
+use Rattle.session_runner.proofs.printing.put_cell.Tie as tie
+
+slice-aggregate-put-line : tie.Need-slice-aggregate-put-line
+slice-aggregate-put-line c = search needs
+
+wide-requires : tie.Need-wide-requires
+wide-requires c κs = search needs
+
+wide-requires-2 : tie.Need-wide-requires-2
+wide-requires-2 c κs = search needs
+
+slice-aggregate-put-line-2 : tie.Need-slice-aggregate-put-line-2
+slice-aggregate-put-line-2 c = search needs
+
+put-line-requires : tie.Need-put-line-requires
+put-line-requires c κs = let h = line-2 (bytes "(cell") (c .before .before .wide .result) (c .before .wide2 .result) (c .before .before .wide .ensures .1) (c .before .wide2 .ensures .1) in omega (arith, h)
+
+same-length : tie.Need-same-length
+same-length c = search needs
+
+returns : tie.Need-returns
+returns c = let h = line-2 (bytes "(cell") (c .before .before .before .before .before .wide .result) (c .before .before .before .before .wide2 .result) (c .before .before .before .before .before .wide .ensures .1) (c .before .before .before .before .wide2 .ensures .1) in let p = c .before .before .put-line .ensures in (rw (← (c .before .before .before .before .before .wide .ensures .0), ← (c .before .before .before .before .wide2 .ensures .0)) p, omega (arith, h, p .next))
+
+pub put-cell-spec : {M : Type 1} → statement M
+put-cell-spec =
+    tie.close
+    (tie.spec
+    slice-aggregate-put-line
+    wide-requires
+    wide-requires-2
+    slice-aggregate-put-line-2
+    put-line-requires
+    same-length
+    returns)

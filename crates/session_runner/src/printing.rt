@@ -1,0 +1,142 @@
+// The lines that a session prints. Room for the longest of them is 67 bytes; only the end may be longer, at most 90.
+ghost use mathlib.Core.Path.{_≡_};
+ghost use Prim.Native.Nat.{_+_, _*_, _≤_};
+ghost use lib.ListN.{length};
+ghost use Rattle.text.specs.Append.{Appended};
+ghost use Rattle.text.specs.Bytes.{decimal};
+ghost use Rattle.session_runner.specs.Lines.{line, numbers as «numbersOf», badLine, noLine, cellLine, kindWord, answerWord, doneStart, doneLine, rate as «rateOf», endLine};
+use lines::Answer;
+use lines::Finished;
+
+pub fn wide(x: u32) -> u64
+    ensures { λ r. ⌜ (r ≡ x) × (r ≤ 4294967295) ⌝ }
+{
+    x as u64
+}
+
+// Numbers, each after a space.
+fn put_numbers(out: &mut [u8], at: usize, l: &[u64]) -> usize
+    requires { ⌜ at + length («numbersOf» (now l)) ≤ length (now out) ⌝ }
+    ensures { λ r. ⌜ Appended (now (out .entry)) (now (out .exit)) at r («numbersOf» (now (l .entry))) ⌝ }
+{
+    let mut i = 0;
+    let mut a = at;
+    while i < l.len() {
+        let b = text::put(out, a, b" ");
+        a = text::put_number(out, b, l[i]);
+        i += 1;
+    }
+    a
+}
+
+fn put_line(out: &mut [u8], at: usize, start: &[u8], l: &[u64]) -> usize
+    requires { ⌜ at + length (line (now start) (now l)) ≤ length (now out) ⌝ }
+    ensures { λ r. ⌜ Appended (now (out .entry)) (now (out .exit)) at r (line (now (start .entry)) (now (l .entry))) ⌝ }
+{
+    let a = text::put(out, at, start);
+    let b = put_numbers(out, a, l);
+    text::put(out, b, b")\n")
+}
+
+pub fn put_bad(out: &mut [u8], at: usize, n: u32) -> usize
+    requires { ⌜ at + 67 ≤ length (now out) ⌝ }
+    ensures { λ r. ⌜ Appended (now (out .entry)) (now (out .exit)) at r (badLine n) ⌝ }
+    ensures { λ r. ⌜ r ≤ at + 67 ⌝ }
+{
+    put_line(out, at, b"(bad", &[wide(n)])
+}
+
+pub fn put_no(out: &mut [u8], at: usize, action: u32, n: u32) -> usize
+    requires { ⌜ at + 67 ≤ length (now out) ⌝ }
+    ensures { λ r. ⌜ Appended (now (out .entry)) (now (out .exit)) at r (noLine action n) ⌝ }
+    ensures { λ r. ⌜ r ≤ at + 67 ⌝ }
+{
+    put_line(out, at, b"(no", &[wide(action), wide(n)])
+}
+
+pub fn put_cell(out: &mut [u8], at: usize, cell: u32, value: u32) -> usize
+    requires { ⌜ at + 67 ≤ length (now out) ⌝ }
+    ensures { λ r. ⌜ Appended (now (out .entry)) (now (out .exit)) at r (cellLine cell value) ⌝ }
+    ensures { λ r. ⌜ r ≤ at + 67 ⌝ }
+{
+    put_line(out, at, b"(cell", &[wide(cell), wide(value)])
+}
+
+// A number of 32 bits has at most ten digits.
+fn put_small(out: &mut [u8], at: usize, n: u32) -> usize
+    requires { ⌜ at + 10 ≤ length (now out) ⌝ }
+    ensures { λ r. ⌜ Appended (now (out .entry)) (now (out .exit)) at r (decimal n) ⌝ }
+    ensures { λ r. ⌜ r ≤ at + 10 ⌝ }
+{
+    text::put_number(out, at, wide(n))
+}
+
+fn put_answer(out: &mut [u8], at: usize, a: Answer) -> usize
+    requires { ⌜ at + 10 ≤ length (now out) ⌝ }
+    ensures { λ r. ⌜ Appended (now (out .entry)) (now (out .exit)) at r (answerWord a) ⌝ }
+    ensures { λ r. ⌜ r ≤ at + 10 ⌝ }
+{
+    match a {
+        Answer::Value(v) => put_small(out, at, v),
+        Answer::Yes => text::put(out, at, b"yes"),
+        Answer::No => text::put(out, at, b"no"),
+    }
+}
+
+fn put_kind(out: &mut [u8], at: usize, kind: u32) -> usize
+    requires { ⌜ at + 6 ≤ length (now out) ⌝ }
+    ensures { λ r. ⌜ Appended (now (out .entry)) (now (out .exit)) at r (kindWord kind) ⌝ }
+    ensures { λ r. ⌜ r ≤ at + 6 ⌝ }
+{
+    if kind == 1 {
+        return text::put(out, at, b" read ");
+    }
+    text::put(out, at, b" swap ")
+}
+
+fn put_done_start(out: &mut [u8], at: usize, task: u32, f: Finished) -> usize
+    requires { ⌜ at + 43 ≤ length (now out) ⌝ }
+    ensures { λ r. ⌜ Appended (now (out .entry)) (now (out .exit)) at r (doneStart task f) ⌝ }
+    ensures { λ r. ⌜ r ≤ at + 43 ⌝ }
+{
+    let a = text::put(out, at, b"(done ");
+    let b = put_small(out, a, task);
+    let c = put_kind(out, b, f.kind);
+    let d = put_small(out, c, f.cell);
+    let e = text::put(out, d, b" ");
+    let answer = f.answer;
+    put_answer(out, e, answer)
+}
+
+pub fn put_done(out: &mut [u8], at: usize, task: u32, f: Finished) -> usize
+    requires { ⌜ at + 67 ≤ length (now out) ⌝ }
+    ensures { λ r. ⌜ Appended (now (out .entry)) (now (out .exit)) at r (doneLine task f) ⌝ }
+    ensures { λ r. ⌜ r ≤ at + 67 ⌝ }
+{
+    let a = put_done_start(out, at, task, f);
+    let b = put_numbers(out, a, &[wide(f.steps), wide(f.hard)]);
+    text::put(out, b, b")\n")
+}
+
+fn rate(hard: u64, finished: u64) -> u64
+    requires { ⌜ hard * 1000 ≤ 18446744073709551615 ⌝ }
+    ensures { λ r. ⌜ r ≡ «rateOf» hard finished ⌝ }
+{
+    if finished == 0 {
+        return 0;
+    }
+    hard * 1000 / finished
+}
+
+pub fn put_end(out: &mut [u8], at: usize, finished: u64, unfinished: u64, hard: u64) -> usize
+    requires { ⌜ at + 90 ≤ length (now out) ⌝ }
+    requires { ⌜ hard * 1000 ≤ 18446744073709551615 ⌝ }
+    ensures { λ r. ⌜ Appended (now (out .entry)) (now (out .exit)) at r (endLine finished unfinished hard) ⌝ }
+{
+    put_line(
+        out,
+        at,
+        b"(end",
+        &[finished, unfinished, hard, rate(hard, finished)],
+    )
+}
