@@ -1,11 +1,13 @@
 -- The search for an unused block, step by step: what is left from b on decides the whole, o.
 use mathlib.Core.Path.{_≡_, refl, sym, ap, _∙_}
-use mathlib.Core.Bool.{Bool, true, false}
+use mathlib.Core.Bool.{Bool, true, false, and-eq-true-iff}
 use mathlib.Core.Option.{Option, none, some}
-use Prim.Native.Nat.{ℕ, zero, suc, _-_, _<_}
+use Prim.Native.Nat.{ℕ, zero, suc, _-_, _≤_, _<_}
 use native.Mathlib.Omega.{arith}
+use lib.Dec.{leb, ltb}
+use borrow.Author.Tests.{le-leb, lt-ltb, leb-true, ltb-true}
 use Rattle.questions.specs.declared.State.{State}
-use Rattle.cells.specs.Blocks.{used, after, unusedFrom, unused}
+use Rattle.cells.specs.Blocks.{used, after, unusedFrom, unused, searchable, found}
 use Rattle.cells.proofs.Unused.{after-below}
 
 less : (k : ℕ) → 0 < k → k ≡ suc (k - 1)
@@ -33,3 +35,23 @@ from-below s b (suc k) x h e = go (used s b) refl (from-below s (after (s .block
 pub unused-below : (s : State) (x : ℕ) → s .last < s .blocks → unused s ≡ some x → x < s .blocks
 unfolding unused
 unused-below s x h e = from-below s (after (s .blocks) (s .last)) (s .blocks) x (after-below (s .blocks) (s .last) h) e
+
+-- WHICH STATES ARE SEARCHED
+
+module _ (s : State) where
+  pub searched : searchable s ≡ true → (s .tasks ≤ 32) × (s .cells ≤ 16) × (s .last < s .blocks)
+  searched e =
+      let q = and-eq-true-iff (leb (s .tasks) 32) _ .0 e in
+      let r = and-eq-true-iff (leb (s .cells) 16) _ .0 (q .1) in
+      (leb-true _ _ (q .0), leb-true _ _ (r .0), ltb-true _ _ (r .1))
+
+  pub finds : searchable s ≡ true → found s ≡ unused s
+  unfolding found
+  finds e = rw e
+
+  pub finds-none : searchable s ≡ false → found s ≡ none
+  unfolding found
+  finds-none e = rw e
+
+  pub can-search : (s .tasks ≤ 32) × (s .cells ≤ 16) × (s .last < s .blocks) → searchable s ≡ true
+  can-search h = rw (le-leb _ _ (h .0), le-leb _ _ (h .1), lt-ltb _ _ (h .2))

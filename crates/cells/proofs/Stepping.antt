@@ -29,6 +29,7 @@ pub record Acting (s : State) (p : List ℕ) (t : ℕ) (r : Record) : Type 0 whe
   pub searches : (s .tasks ≤ 32) × (s .cells ≤ 16) × (s .last < s .blocks)
   pub task : t < 32
   pub cell : r .cell < 16
+  pub named : r .cell < s .cells
   pub ready : Ready (length p) t r
   pub there : (f : Option ℕ) → Free s r f → There (length p) f
   pub acts : (f : Option ℕ) → Free s r f → stepped s p t ≡ putBack s t (r .cell) (turn p t r (current s (r .cell)) (s .last) f)
@@ -54,12 +55,9 @@ module _ (s : State) (p : List ℕ) (t : ℕ) where
     unfolding fit recordsFit
     fits = all-at (λ t. recordFit (recordAt (s .records) t) (s .cells) (s .blocks)) 0 (s .tasks) (nth (fitTests s p) (is-yes 0) 5) t (omega arith) (omega (arith, below))
 
-    cell-below : own .cell < 16
+    cell-below : own .cell < s .cells
     unfolding recordFit
-    cell-below =
-        let z = sizes s p (is-yes 0) in
-        let k : own .cell < s .cells = ltb-true _ _ (nth (busyTests own (s .cells) (s .blocks)) (rw (ne-eqb _ _ busy) at fits) 0) in
-        omega arith
+    cell-below = ltb-true _ _ (nth (busyTests own (s .cells) (s .blocks)) (rw (ne-eqb _ _ busy) at fits) 0)
 
     there : (f : Option ℕ) → Free s own f → There (length p) f
     there none h = tt
@@ -76,13 +74,14 @@ module _ (s : State) (p : List ℕ) (t : ℕ) where
         go (inl g) = rw g
         go (inr (l, g)) = turn-free p t own (current s (own .cell)) (s .last) (unused s) f l
 
-    own-acting : Acting s p t own
+    pub own-acting : Acting s p t own
     own-acting =
         let z = sizes s p (is-yes 0) in
         record {
           searches = (z .tasks, z .cells, z .last);
           task = omega (arith, below);
-          cell = cell-below;
+          cell = omega (arith, cell-below);
+          named = cell-below;
           ready = ready own (s .cells) (s .blocks) (length p) t fits busy (z .words);
           there = there;
           acts = acts;

@@ -2,7 +2,7 @@
 use mathlib.Core.Bool.{Bool, true, false, _&&_, _||_, not, cond}
 use mathlib.Core.Option.{Option, none, some}
 use Prim.Native.Nat.{ℕ, zero, suc, _+_}
-use lib.Dec.{eqb}
+use lib.Dec.{eqb, leb, ltb}
 use lib.ListN.{getD}
 use Rattle.lines.specs.declared.Record.{Record}
 use Rattle.questions.specs.declared.State.{State}
@@ -37,6 +37,14 @@ unusedFrom s b (suc k) = cond (used s b) (unusedFrom s (after (s .blocks) b) k) 
 
 unfoldable pub unused : State → Option ℕ
 unused s = unusedFrom s (after (s .blocks) (s .last)) (s .blocks)
+
+-- whether there is a place for each task and each cell, and a block to start from: so in a fit state
+abbrev pub searchable : State → Bool
+searchable s = leb (s .tasks) 32 && (leb (s .cells) 16 && ltb (s .last) (s .blocks))
+
+-- the search of any state
+unfoldable pub found : State → Option ℕ
+found s = cond (searchable s) (unused s) none
 
 -- what a search that ended says
 abbrev pub foundOf : Found → Option ℕ

@@ -4,7 +4,7 @@ ghost use lib.Dec.{eqb};
 ghost use lib.ListN.{getD};
 ghost use Prim.Native.Nat.{_≤_, _<_};
 ghost use Rattle.lines.specs.Basics.{anyFrom};
-ghost use Rattle.cells.specs.Blocks.{usesBlock, used, after, unused, foundOf};
+ghost use Rattle.cells.specs.Blocks.{usesBlock, used, after, found, foundOf};
 use lines::Record;
 use questions::State;
 
@@ -62,10 +62,13 @@ fn block_after(blocks: u32, b: u32) -> u32
     if b + 1 == blocks { 0 } else { b + 1 }
 }
 
+// Any state may be searched; one with more tasks or cells than there are places for has none to hand out.
 pub fn unused_block(s: State) -> Found
-    requires { ⌜ (s .tasks ≤ 32) × (s .cells ≤ 16) × (s .last < s .blocks) ⌝ }
-    ensures { λ r. ⌜ foundOf r ≡ unused s ⌝ }
+    ensures { λ r. ⌜ foundOf r ≡ found s ⌝ }
 {
+    if !((s.tasks <= 32) & ((s.cells <= 16) & (s.last < s.blocks))) {
+        return Found::Nowhere;
+    }
     let mut b = block_after(s.blocks, s.last);
     let mut left = s.blocks;
     while 0 < left {

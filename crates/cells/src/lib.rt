@@ -10,10 +10,10 @@ ghost use Rattle.cells.specs.Step.{stepped};
 ghost use Rattle.cells.specs.Lent.{isRefused, lent, steppedLent};
 ghost use Rattle.cells.specs.Look.{looked, shownValue};
 
-mod blocks;
+pub mod blocks;
 mod opening;
 mod pool;
-mod turn;
+pub mod turn;
 
 use blocks::Found;
 use lines::Field;

@@ -29,7 +29,7 @@ pub struct Turn {
 }
 
 // What an access leaves besides the pool, and the value that it answers.
-pub struct Touch {
+struct Touch {
     pub current: u32,
     pub last: u32,
     pub value: u32,

@@ -11,7 +11,7 @@ use Rattle.history.proofs.Counts.{Within, AllEnded, ended-next, bounds-
 use Rattle.history.proofs.Linearize.{knows, Simulated, simulated-start, simulated-next, linearized}
 use Rattle.history.proofs.NoHardware.{AllQuiet, quiet-next, no-hardware}
 
-run-snoc : {S : Type 0} (act : S → Action → S × Event) (s : S) (l : List Action) (a : Action) → run act s (l ++ (a ∷ [])) ≡ act (run act s l) a .0
+pub run-snoc : {S : Type 0} (act : S → Action → S × Event) (s : S) (l : List Action) (a : Action) → run act s (l ++ (a ∷ [])) ≡ act (run act s l) a .0
 run-snoc act s [] a = refl
 run-snoc act s (x ∷ l) a = run-snoc act (act s x .0) l a
 

@@ -12,3 +12,4 @@ pub mod Demand3
 pub mod Traces
 pub mod Counts
 pub mod NoNone
+pub mod Reaching

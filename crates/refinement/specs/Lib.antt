@@ -1,3 +1,4 @@
 pub mod Pool
 pub mod Terms
 pub mod Traces
+pub mod Reached

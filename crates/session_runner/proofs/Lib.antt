@@ -3,3 +3,4 @@ mod Lengths
 mod Loops
 mod Acting
 mod Playing
+pub mod Turning

@@ -1,5 +1,6 @@
 -- The loop over the actions, the opening before it, and the whole.
-use mathlib.Core.Path.{_≡_, refl, sym, ap, _∙_}
+use mathlib.Core.Path.{_≡_, refl, sym, ap, subst, _∙_}
+use mathlib.Core.Option.{none}
 use mathlib.Core.List.{List, [], _∷_, _++_, map}
 use Prim.Native.Nat.{ℕ, zero, suc, _+_, _≤_, _<_}
 use native.Mathlib.Numerals.{add-one}
@@ -14,9 +15,10 @@ use Rattle.lines.specs.declared.Finished.{Finished}
 use Rattle.cells.specs.declared.Outcome.{Outcome}
 use Rattle.cells.specs.declared.Outcome.the-variants.{Refused, Acted, Ended}
 use Rattle.cells.specs.Open.{After, leaving, opened}
-use Rattle.questions.specs.Questions.{openQuestions}
-use Rattle.questions.proofs.Tests.{nth, answers, within-true}
-use Rattle.cells.proofs.Acts.{acts, open-acts}
+use Rattle.questions.specs.Questions.{refusal, openQuestions}
+use Rattle.cells.proofs.Acts.{acts, acts-iff, open-acts}
+use Rattle.refinement.specs.Reached.{Reached}
+use Rattle.refinement.proofs.Reaching.{reached-open}
 use Rattle.session_reader.specs.Session.{Act, Verdict, verdict}
 use Rattle.session_reader.specs.Reading.{judged}
 use Rattle.session_reader.proofs.Verdicts.{right-sizes}
@@ -41,11 +43,8 @@ module _ (n v : ℕ) (f : ℕ → Act) (l : List ℕ) (i : ℕ) (z : Totals) (s 
 
 -- THE OPENING
 
-pub opens : (s : State) (p : List ℕ) (n v b : ℕ) (vs : List ℕ) → opened s p n v b vs .outcome ≡ Acted → (n ≤ 32) × (v ≤ 16)
-unfolding openQuestions
-opens s p n v b vs e =
-    let all = nth (answers (openQuestions (length p) n v b vs)) (sym (open-acts s p n v b vs) ∙ ap acts e) in
-    (within-true n 1 32 (all 0) .1, within-true v 1 16 (all 1) .1)
+allowed : (s : State) (p : List ℕ) (n v b : ℕ) (vs : List ℕ) → opened s p n v b vs .outcome ≡ Acted → refusal (openQuestions (length p) n v b vs) ≡ none
+allowed s p n v b vs e = acts-iff (openQuestions (length p) n v b vs) .1 (sym (open-acts s p n v b vs) ∙ ap acts e)
 
 -- what follows from an opening's answer
 module _ (n v b : ℕ) (vs p : List ℕ) (l : List Act) {s₀ s : State} {p′ : List ℕ} {o : Outcome} (eb : s₀ ≡ blank) (e : leaving s p′ o ≡ opened s₀ p n v b vs) where
@@ -67,8 +66,8 @@ module _ (n v b : ℕ) (vs p : List ℕ) (l : List Act) {s₀ s : State} {p′ :
   unfolding started
   on-ended q = ap of (sym q) ∙ same
 
-  pub opens-small : o ≡ Acted → (n ≤ 32) × (v ≤ 16)
-  opens-small q = opens s₀ p n v b vs (sym (ap (λ (r : After). r .outcome) e) ∙ q)
+  pub opens-reached : o ≡ Acted → Reached n v s p′
+  opens-reached q = subst (λ (r : After). Reached n v (r .state) (r .pool)) (sym e) (reached-open s₀ p n v b vs (allowed s₀ p n v b vs (sym (ap (λ (r : After). r .outcome) e) ∙ q)))
 
 zeros : (n m : ℕ) → n ≤ m → take {A = ℕ} n (replicate m 0) ≡ replicate n 0
 zeros zero m h = refl

@@ -1,4 +1,5 @@
 pub mod Lines
 pub mod Printed
 pub mod Actions
+pub mod Turns
 pub mod Examples

@@ -2,6 +2,7 @@
 mod actions;
 mod play;
 mod printing;
+mod turns;
 
 use cells::Outcome;
 use lines::Record;

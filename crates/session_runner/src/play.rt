@@ -2,35 +2,28 @@
 use crate::actions;
 use crate::actions::Action;
 use crate::printing;
+use crate::turns::act;
+use crate::turns::slot;
 use cells::Looked;
 use cells::Outcome;
-use cells::Reply;
+use cells::blocks::Found;
+use cells::blocks::unused_block;
 use questions::State;
 ghost use mathlib.Core.Path.{_≡_};
 ghost use mathlib.Core.List.{map};
 ghost use Prim.Native.Nat.{_+_, _*_, _≤_};
 ghost use lib.ListN.{length};
 ghost use Rattle.text.specs.Append.{Appended};
-ghost use Rattle.cells.specs.Open.{leaving};
+ghost use Rattle.refinement.specs.Reached.{Reached};
 ghost use Rattle.session_reader.specs.Reading.{actAt};
 ghost use Rattle.session_reader.specs.Kept.{Named};
-ghost use Rattle.session_runner.specs.Printed.{Totals, totals, done, reported, counted, lookLine, cellLines, pending as «pendingOf», closed, played};
-ghost use Rattle.session_runner.specs.Actions.{actOf, totalsOf};
+ghost use Rattle.session_runner.specs.Printed.{Totals, totals, reported, counted, lookLine, cellLines, pending as «pendingOf», closed, played};
+ghost use Rattle.session_runner.specs.Actions.{totalsOf};
 
 // Finished calls, and their hardware CAS attempts.
 pub struct Tally {
     pub finished: u64,
     pub hard: u64,
-}
-
-fn act(s: State, pool: &mut [u32], a: Action) -> Reply
-    ensures { λ r. ⌜ leaving (r .state) (now (pool .exit)) (r .outcome) ≡ done s (now (pool .entry)) (actOf a) ⌝ }
-{
-    match a {
-        Action::Read(t, k) => cells::begin_read(s, pool, t, k),
-        Action::Swap(t, k, e, n) => cells::begin_swap(s, pool, t, k, e, n),
-        Action::Step(t) => cells::step(s, pool, t),
-    }
 }
 
 // The action's line, where it has one.
@@ -124,7 +117,7 @@ fn finish(
     printing::put_end(out, a, z.finished, unfinished, z.hard)
 }
 
-// Every action, and what is printed after the last.
+// Every action, and what is printed after the last. What the opening left stays fit, so question 6 is not asked again.
 pub fn play(
     out: &mut [u8],
     tasks: u32,
@@ -134,7 +127,7 @@ pub fn play(
     forms: &[u32],
     kept: &[u32],
 ) -> usize
-    requires { ⌜ (tasks ≤ 32) × (cells ≤ 16) ⌝ }
+    requires { ⌜ Reached tasks cells first (now pool) ⌝ }
     requires { ⌜ length (now kept) ≤ 65535 ⌝ }
     requires { ⌜ Named (length (now forms)) (now kept) ⌝ }
     requires { ⌜ 4400000 ≤ length (now out) ⌝ }
@@ -149,11 +142,24 @@ pub fn play(
     };
     while i < kept.len() {
         let a = actions::action_at(forms, kept[i]);
-        let r = act(s, pool, a);
-        let outcome = r.outcome;
-        at = report(out, at, i as u32, actions::task_of(a), outcome);
+        let task = actions::task_of(a);
+        let t = slot(task, s.tasks);
+        let r = s.records[t];
+        let k = slot(r.cell, s.cells);
+        // Only line 29 asks for a block.
+        let free = if r.line == 29 {
+            unused_block(s)
+        } else {
+            Found::Nowhere
+        };
+        let n = act(pool, s.tasks, s.cells, a, r, s.current[k], s.last, free);
+        let q = n.record;
+        let outcome = n.outcome;
+        s.last = n.last;
+        s.current[k] = n.current;
+        s.records[t] = q;
+        at = report(out, at, i as u32, task, outcome);
         z = count(z, outcome);
-        s = r.state;
         i += 1;
     }
     finish(out, at, tasks, cells, z, s, pool)

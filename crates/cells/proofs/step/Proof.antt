@@ -14,6 +14,7 @@ use Rattle.questions.specs.Questions.{Question, refusal, fit}
 use Rattle.cells.specs.Blocks.{foundOf}
 use Rattle.cells.specs.Step.{ran, stepped}
 use Rattle.cells.proofs.Replies.{is-refused, is-allowed, asked-of, task-below}
+use Rattle.cells.proofs.Search.{finds, can-search}
 use Rattle.cells.proofs.Stepping.{Free, Acting, asked, acting}
 use Rattle.cells.proofs.TurnLaw.{putBack}
 use borrow.Author.Needs.{needs}
@@ -44,7 +45,9 @@ acts c =
     _ _ (c .before .before .before .is-fit .ensures) (came (c .before .before))
 
 free : (c : tie.Joined3) → Free (c .before .before .before .before .before .before .before .before .args .t1) (c .before .before .before .before .if1 .r) (foundOf (c .if3 .free))
-free c = ⊎-elim (λ w. inl (ap foundOf (w .2) ∙ w .1 .ensures)) (λ w. inr (w .0 .left, ap foundOf (w .1))) (c .if3 .came)
+free c =
+    let s = c .before .before .before .before .before .before .before .before .args .t1 in
+    ⊎-elim (λ w. inl (ap foundOf (w .2) ∙ w .1 .ensures ∙ finds s (can-search s (acts (c .before .before) .searches)))) (λ w. inr (w .0 .left, ap foundOf (w .1))) (c .if3 .came)
 
 is-fit-requires : tie.Need-is-fit-requires
 is-fit-requires c κs = search needs
@@ -71,7 +74,7 @@ returns c =
     is-refused (asked (e .t1) (now (e .pool)) (e .task)) _ (number (c .before)) (c .if2 .taken) (e .t1) (now (e .pool)) (ran (e .t1) (now (e .pool)) (e .task) (recordAt (e .t1 .records) (e .task)))
 
 unused-block-requires : tie.Need-unused-block-requires
-unused-block-requires c κs = acts (c .before .before) .searches
+unused-block-requires c κs = search needs
 
 cast-k : tie.Need-cast-k
 cast-k c = search needs

@@ -1,7 +1,7 @@
 use mathlib.Core.List.{map}
 use Rattle.text.proofs.Appending.{nothing}
 use Rattle.session_reader.specs.Reading.{actAt}
-use Rattle.session_runner.proofs.Playing.{opens-small, on-refused, on-acted, on-ended}
+use Rattle.session_runner.proofs.Playing.{opens-reached, on-refused, on-acted, on-ended}
 use borrow.Author.Needs.{needs}
 use Rattle.session_runner.proofs.start.Statement.{statement}
 use Rattle.session_runner.proofs.start.Tie as tie
@@ -22,7 +22,7 @@ enum-told : tie.Need-enum-told
 enum-told c = search needs
 
 play-requires : tie.Need-play-requires
-play-requires c κs = let a = c .before .before .before .before .before .before .before .before .before .before .before .before .before .before .before .args in let p = c .before .before .before .before .before .before .before .before .before .before .before .before .before .before .before .pre in (opens-small a.tasks a.cells a.blocks a.values.now a.pool.now (map (actAt a.forms.now) a.kept.now) (c .before .before .before .before .before .before .before .before .before .blank .ensures) (c .before .before .before .before .before .before .before .«open» .ensures) (c .before .before .before .enum-told .given .1), (p .0, (p .1 .0, search needs)))
+play-requires c κs = let a = c .before .before .before .before .before .before .before .before .before .before .before .before .before .before .before .args in let p = c .before .before .before .before .before .before .before .before .before .before .before .before .before .before .before .pre in (opens-reached a.tasks a.cells a.blocks a.values.now a.pool.now (map (actAt a.forms.now) a.kept.now) (c .before .before .before .before .before .before .before .before .before .blank .ensures) (c .before .before .before .before .before .before .before .«open» .ensures) (c .before .before .before .enum-told .given .1), (p .0, (p .1 .0, search needs)))
 
 enum-told-2 : tie.Need-enum-told-2
 enum-told-2 c = search needs

@@ -1,25 +1,35 @@
-use mathlib.Core.Path.{_≡_}
+use mathlib.Core.Path.{_≡_, refl, sym, ap, _∙_}
 use native.Mathlib.Omega.{arith}
 use borrow.Author.Needs.{needs}
 use mathlib.Core.List.{map}
 use Prim.Native.Nat.{_-_, _*_, _≤_, _<_}
 use lib.ListN.{length, drop}
+use mathlib.Core.Logic.{inl, inr, ⊎-elim}
+use Rattle.lines.specs.Record.{recordAt}
+use Rattle.cells.specs.Blocks.{foundOf}
+use Rattle.cells.proofs.Stepping.{Free}
+use Rattle.refinement.specs.Reached.{Reached}
 use Rattle.session_reader.specs.Reading.{actAt}
 use Rattle.session_runner.specs.Printed.{totals, played}
-use Rattle.session_runner.specs.Actions.{totalsOf}
+use Rattle.session_runner.specs.Actions.{actOf, totalsOf}
 use Rattle.session_runner.proofs.Toward.{Toward, toward-start, toward-more, toward-last}
 use Rattle.session_runner.proofs.Playing.{one-action, no-action}
+use Rattle.session_runner.proofs.Turning.{task-below, cell-below, reached-small, finds-unused, reached-then, is-prepared, is-done}
 use Rattle.session_runner.proofs.play.play.Statement.{statement}
 use Rattle.session_runner.proofs.play.play.Tie as tie
 
 abbrev Inv-loop : tie.InvT-loop
-Inv-loop out₀ tasks cells pool₀ forms kept i₀ at₀ s₀ z₀ out pool i at s z = Toward out₀ out 0 at (played tasks cells i (totalsOf z) s pool (drop i (map (actAt forms) kept))) (played tasks cells 0 (totals 0 0) s₀ pool₀ (map (actAt forms) kept)) × (i ≤ length kept) × (at ≤ 67 * i) × (z .finished ≤ i) × (z .hard ≤ i * 4294967295) × (length pool ≡ length pool₀)
+Inv-loop out₀ tasks cells pool₀ forms kept i₀ at₀ s₀ z₀ out pool i at s z = Toward out₀ out 0 at (played tasks cells i (totalsOf z) s pool (drop i (map (actAt forms) kept))) (played tasks cells 0 (totals 0 0) s₀ pool₀ (map (actAt forms) kept)) × (i ≤ length kept) × (at ≤ 67 * i) × (z .finished ≤ i) × (z .hard ≤ i * 4294967295) × (length pool ≡ length pool₀) × Reached tasks cells s pool
 
 abbrev μ-loop : tie.MeasureT-loop
 μ-loop out₀ tasks cells pool₀ forms kept i₀ at₀ s₀ z₀ out pool i at s z = length kept - i
 
+-- the block that an action is told: what the search finds, where the line is one that asks
+free : (c : tie.Joined1 Inv-loop μ-loop) → Free (c .before .before .before .before .before .before .before .before .before .loop .s) (recordAt (c .before .before .before .before .before .before .before .before .before .loop .s .records) (c .before .before .before .before .slot .result)) (foundOf (c .if1 .free))
+free c = ⊎-elim (λ w. inl (ap foundOf (w .2) ∙ w .1 .ensures ∙ finds-unused (c .before .before .before .before .before .before .before .before .before .loop .inv .6))) (λ w. inr (w .0 .left, ap foundOf (w .1))) (c .if1 .came)
+
 loop-holds : tie.Need-loop-holds Inv-loop μ-loop
-loop-holds c = (toward-start _ _ _, search needs, search needs, search needs, search needs, search needs)
+loop-holds c = (toward-start _ _ _, search needs, search needs, search needs, search needs, search needs, c .before .before .before .before .pre .0)
 
 mul-action-at : tie.Need-mul-action-at Inv-loop μ-loop
 mul-action-at c = search needs
@@ -30,32 +40,73 @@ shared-slice-read-action-at c = search needs
 action-at-requires : tie.Need-action-at-requires Inv-loop μ-loop
 action-at-requires c κs = let l = c .before .before .loop in c .before .before .before .before .before .before .before .pre .1 .1 .0 l.i (omega arith)
 
-act-requires : tie.Need-act-requires Inv-loop μ-loop
-act-requires c κs = search needs
-
-cast-report : tie.Need-cast-report Inv-loop μ-loop
-cast-report c = search needs
-
 task-of-requires : tie.Need-task-of-requires Inv-loop μ-loop
 task-of-requires c κs = search needs
 
+slot-requires : tie.Need-slot-requires Inv-loop μ-loop
+slot-requires c κs = search needs
+
+mul-r : tie.Need-mul-r Inv-loop μ-loop
+mul-r c = omega (arith, task-below (c .before .before .before .before .before .loop .inv .6) _ (c .slot .ensures))
+
+element-copy-out-r : tie.Need-element-copy-out-r Inv-loop μ-loop
+element-copy-out-r c = task-below (c .before .before .before .before .before .loop .inv .6) _ (c .slot .ensures)
+
+slot-requires-2 : tie.Need-slot-requires-2 Inv-loop μ-loop
+slot-requires-2 c κs = search needs
+
+unused-block-requires : tie.Need-unused-block-requires Inv-loop μ-loop
+unused-block-requires c κs = search needs
+
+mul-act : tie.Need-mul-act Inv-loop μ-loop
+mul-act c = omega (arith, cell-below (c .before .before .before .before .before .before .before .before .before .before .loop .inv .6) _ (c .before .before .before .slot2 .ensures))
+
+element-copy-out-act : tie.Need-element-copy-out-act Inv-loop μ-loop
+element-copy-out-act c = cell-below (c .before .before .before .before .before .before .before .before .before .before .loop .inv .6) _ (c .before .before .before .slot2 .ensures)
+
+act-requires : tie.Need-act-requires Inv-loop μ-loop
+act-requires c κs = is-prepared (c .before .before .before .before .before .before .before .before .before .before .before .loop .inv .6) (actOf (c .before .before .before .before .before .before .before .before .action-at .result)) (c .before .before .before .before .before .before .slot .result) (c .before .before .before .before .slot2 .result) (c .before .before .before .before .before .before .before .task-of .result) (foundOf (c .before .before .if1 .free)) (c .before .before .before .before .before .before .before .task-of .ensures) (c .before .before .before .before .before .before .slot .ensures) (c .before .before .before .before .slot2 .ensures) (free (c .before .before))
+
+mul-s : tie.Need-mul-s Inv-loop μ-loop
+mul-s c = omega (arith, cell-below (c .before .before .before .before .before .before .before .before .before .before .before .before .before .before .before .loop .inv .6) _ (c .before .before .before .before .before .before .before .before .slot2 .ensures))
+
+element-write-s : tie.Need-element-write-s Inv-loop μ-loop
+element-write-s c = cell-below (c .before .before .before .before .before .before .before .before .before .before .before .before .before .before .before .loop .inv .6) _ (c .before .before .before .before .before .before .before .before .slot2 .ensures)
+
+mul-q : tie.Need-mul-q Inv-loop μ-loop
+mul-q c = omega (arith, task-below (c .before .before .before .before .before .before .before .before .before .before .before .before .before .before .before .loop .inv .6) _ (c .before .before .before .before .before .before .before .before .before .before .slot .ensures))
+
+element-set-from-q : tie.Need-element-set-from-q Inv-loop μ-loop
+element-set-from-q c = task-below (c .before .before .before .before .before .before .before .before .before .before .before .before .before .before .before .loop .inv .6) _ (c .before .before .before .before .before .before .before .before .before .before .slot .ensures)
+
+cast-report : tie.Need-cast-report Inv-loop μ-loop
+cast-report c = record { fits = omega (arith, c .before .before .before .before .before .before .before .before .before .before .before .before .before .before .before .loop-test .taken, c .before .before .before .before .before .before .before .before .before .before .before .before .before .before .before .before .before .before .before .before .before .pre .1 .0) }
+
 report-requires : tie.Need-report-requires Inv-loop μ-loop
-report-requires c κs = let l = c .before .before .before .before .before .before .before .before .before .loop in omega (arith, l .inv .0 .same, l .inv .2)
+report-requires c κs = let l = c .before .before .before .before .before .before .before .before .before .before .before .before .before .before .before .before .loop in omega (arith, l .inv .0 .same, l .inv .2, c .before .before .before .before .before .before .before .before .before .before .before .before .before .before .before .loop-test .taken, c .before .before .before .before .before .before .before .before .before .before .before .before .before .before .before .before .before .before .before .before .before .pre .1 .0, c .before .before .before .before .before .before .before .before .before .before .before .before .before .before .before .before .before .before .before .before .before .pre .1 .1 .1)
 
 count-requires : tie.Need-count-requires Inv-loop μ-loop
-count-requires c κs = let l = c .before .before .before .before .before .before .before .before .before .before .before .before .loop in (omega (arith, l .inv .3), omega (arith, l .inv .4))
+count-requires c κs = let l = c .before .before .before .before .before .before .before .before .before .before .before .before .before .before .before .before .before .before .before .loop in (omega (arith, l .inv .3, c .before .before .before .before .before .before .before .before .before .before .before .before .before .before .before .before .before .before .loop-test .taken, c .before .before .before .before .before .before .before .before .before .before .before .before .before .before .before .before .before .before .before .before .before .before .before .before .pre .1 .0), omega (arith, l .inv .4, c .before .before .before .before .before .before .before .before .before .before .before .before .before .before .before .before .before .before .loop-test .taken, c .before .before .before .before .before .before .before .before .before .before .before .before .before .before .before .before .before .before .before .before .before .before .before .before .pre .1 .0))
 
 add-i : tie.Need-add-i Inv-loop μ-loop
-add-i c = let h : c .before .before .before .before .before .before .before .before .before .before .before .before .before .before .loop .i < length (c .before .before .before .before .before .before .before .before .before .before .before .before .before .before .before .before .before .before .before .args .kept .now) = c .before .before .before .before .before .before .before .before .before .before .before .before .before .loop-test .taken in record { fits = omega (arith, h, c .before .before .before .before .before .before .before .before .before .before .before .before .before .before .before .before .before .before .before .pre .1 .0) }
+add-i c = record { fits = omega (arith, c .before .before .before .before .before .before .before .before .before .before .before .before .before .before .before .before .before .before .before .loop-test .taken, c .before .before .before .before .before .before .before .before .before .before .before .before .before .before .before .before .before .before .before .before .before .before .before .before .before .pre .1 .0) }
 
 loop-less : tie.Need-loop-less Inv-loop μ-loop
-loop-less c = search needs
+loop-less c = omega (arith, c .before .before .before .before .before .before .before .before .before .before .before .before .before .before .before .before .before .before .before .loop-test .taken)
 
 loop-again : tie.Need-loop-again Inv-loop μ-loop
-loop-again c = let l = c .before .before .before .before .before .before .before .before .before .before .before .before .before .before .loop in let a = c .before .before .before .before .before .before .before .before .before .before .before .before .before .before .before .before .before .before .before .args in let h : l .i < length a.kept.now = omega arith in let r = c .before .before .before .before .report .ensures in let k = c .before .count .ensures in (toward-more (l .inv .0) (r .0) (search needs) (one-action a.tasks a.cells (actAt a.forms.now) a.kept.now l.i (totalsOf l.z) l.s l.pool h (c .before .before .before .before .before .before .before .before .before .before .before .action-at .ensures) (c .before .before .before .before .before .before .before .before .before .act .ensures) (c .before .before .before .before .before .task-of .ensures) (k .0)), search needs, omega (arith, l .inv .2, r .1), omega (arith, l .inv .3, k .1 .0), omega (arith, l .inv .4, k .1 .1), search needs)
+loop-again c =
+    let l = c .before .before .before .before .before .before .before .before .before .before .before .before .before .before .before .before .before .before .before .before .loop in
+    let a = c .before .before .before .before .before .before .before .before .before .before .before .before .before .before .before .before .before .before .before .before .before .before .before .before .before .args in
+    let x = actOf (c .before .before .before .before .before .before .before .before .before .before .before .before .before .before .before .before .before .action-at .result) in
+    let r = c .before .before .before .report .ensures in
+    let k = c .count .ensures in
+    let h : l .i < length a.kept.now = c .before .before .before .before .before .before .before .before .before .before .before .before .before .before .before .before .before .before .before .loop-test .taken in
+    let d = is-done (l .inv .6) x (c .before .before .before .before .before .before .before .before .before .before .before .before .before .before .before .slot .result) (c .before .before .before .before .before .before .before .before .before .before .before .before .before .slot2 .result) (c .before .before .before .before .before .before .before .before .before .before .before .before .before .before .before .before .task-of .result) (foundOf (c .before .before .before .before .before .before .before .before .before .before .before .if1 .free)) (c .before .before .before .before .before .before .before .before .before .before .before .before .before .before .before .before .task-of .ensures) (c .before .before .before .before .before .before .before .before .before .before .before .before .before .before .before .slot .ensures) (c .before .before .before .before .before .before .before .before .before .before .before .before .before .slot2 .ensures) (free (c .before .before .before .before .before .before .before .before .before .before .before)) (c .before .before .before .before .before .before .before .before .act .ensures) in
+    (toward-more (l .inv .0) (r .0) (search needs) (one-action a.tasks a.cells (actAt a.forms.now) a.kept.now l.i (totalsOf l.z) l.s l.pool h (c .before .before .before .before .before .before .before .before .before .before .before .before .before .before .before .before .before .action-at .ensures) d (c .before .before .before .before .before .before .before .before .before .before .before .before .before .before .before .before .task-of .ensures) (k .0)), omega (arith, h), omega (arith, l .inv .2, r .1), omega (arith, l .inv .3, k .1 .0), omega (arith, l .inv .4, k .1 .1), search needs, reached-then (l .inv .6) x d)
 
 finish-requires : tie.Need-finish-requires Inv-loop μ-loop
-finish-requires c κs = let l = c .before .before .before .loop in (c .before .before .before .before .before .before .before .before .pre .0, (omega (arith, l .inv .0 .same, l .inv .2), omega (arith, l .inv .4)))
+finish-requires c κs = let l = c .before .before .before .loop in (reached-small (l .inv .6), (omega (arith, l .inv .0 .same, l .inv .2, l .inv .1, c .before .before .before .before .before .before .before .before .pre .1 .0, c .before .before .before .before .before .before .before .before .pre .1 .1 .1), omega (arith, l .inv .4, l .inv .1, c .before .before .before .before .before .before .before .before .pre .1 .0)))
 
 same-length : tie.Need-same-length Inv-loop μ-loop
 same-length c = search needs
@@ -76,9 +127,20 @@ play-spec =
     mul-action-at
     shared-slice-read-action-at
     action-at-requires
-    act-requires
-    cast-report
     task-of-requires
+    slot-requires
+    mul-r
+    element-copy-out-r
+    slot-requires-2
+    unused-block-requires
+    mul-act
+    element-copy-out-act
+    act-requires
+    mul-s
+    element-write-s
+    mul-q
+    element-set-from-q
+    cast-report
     report-requires
     count-requires
     add-i

@@ -1,0 +1,42 @@
+use mathlib.Core.Path.{refl, sym, _∙_}
+use Rattle.questions.proofs.Refusals.{unrefused}
+use Rattle.questions.specs.Questions.{stepQuestions}
+use Rattle.session_runner.proofs.Turning.{turn-refused, turn-allowed}
+use borrow.Author.Needs.{needs}
+use Rattle.session_runner.proofs.turns.step.Statement.{statement}
+use Rattle.session_runner.proofs.turns.step.Tie as tie
+
+step-refusal-requires : tie.Need-step-refusal-requires
+step-refusal-requires c κs = search needs
+
+refused-requires : tie.Need-refused-requires
+refused-requires c κs = search needs
+
+returns : tie.Need-returns
+returns c =
+    let a = c .before .before .before .before .args in
+    rw (c .refused .ensures) (turn-refused (stepQuestions a.tasks a.r a.task) _ (c .before .before .step-refusal .ensures) a.pool.now a.r a.current a.last _ (c .before .if1 .taken))
+
+take-turn-requires : tie.Need-take-turn-requires
+take-turn-requires c κs =
+    let a = c .before .before .before .before .args in
+    c .before .before .before .before .pre (unrefused (stepQuestions a.tasks a.r a.task) refl (sym (c .before .before .step-refusal .ensures) ∙ c .before .if1 .left))
+
+same-length : tie.Need-same-length
+same-length c = search needs
+
+returns-2 : tie.Need-returns-2
+returns-2 c =
+    let a = c .before .before .before .before .before .before .before .args in
+    c .before .before .take-turn .ensures ∙ turn-allowed (stepQuestions a.tasks a.r a.task) _ (c .before .before .before .before .before .step-refusal .ensures) a.pool.now a.r a.current a.last _ (c .before .before .before .before .if1 .left) refl
+
+pub step-spec : {M : Type 1} → statement M
+step-spec =
+    tie.close
+    (tie.spec
+    step-refusal-requires
+    refused-requires
+    returns
+    take-turn-requires
+    same-length
+    returns-2)
