@@ -48,10 +48,10 @@ fn read(file: &[u8], values: &mut [u32], kept: &mut [u32], actions: &mut [u32]) 
         return Reading::Bad(14);
     };
     let rest = forms::lines(file, next, kept, actions);
-    let forms::Got::At(_, all) = rest else {
+    let forms::Got::At(_, over, _, n) = rest else {
         return Reading::Bad(14);
     };
-    if all.over {
+    if over {
         return Reading::Bad(15);
     }
     Reading::Session {
@@ -59,7 +59,7 @@ fn read(file: &[u8], values: &mut [u32], kept: &mut [u32], actions: &mut [u32]) 
         cells,
         blocks,
         values: count,
-        actions: all.actions,
+        actions: n,
     }
 }
 

@@ -35,10 +35,10 @@ returns : tie.Need-returns Inv-loop μ-loop
 returns c = let a = c .before .before .before .before .before .before .before .before .before .before .before .before .before .before .args in let l = c .before .before .before .before .before .before .before .before .before .before .loop in walk-stop specs.line specs.finish a.s.now a.at a.forms.now a.actions.now 0 0 l.inv (finish-no a.s.now l.i (c .before .before .before .before .before .before .before .before .before .loop-test .taken)) (got-no specs.count specs.actions specs.line a.s.now l.i 8 l.forms (c .before .before .before .before .before .before .line .last .1 .1 .0) l.actions (c .before .before .before .before .before .before .line .last .1 .1 .1 .1 .0) l.g l.m (c .enum-told .given .1) (c .before .before .before .before .before .before .line .ensures))
 
 loop-less : tie.Need-loop-less Inv-loop μ-loop
-loop-less c = let a = c .before .before .before .before .before .before .before .before .before .before .before .before .before .before .before .before .args in let l = c .before .before .before .before .before .before .before .before .before .before .before .before .loop in let x = got-at specs.count specs.actions specs.line a.s.now l.i 8 l.forms (c .before .before .before .before .before .before .before .before .line .last .1 .1 .0) l.actions (c .before .before .before .before .before .before .before .before .line .last .1 .1 .1 .1 .0) l.g l.m (c .before .before .got .given .1) (c .before .before .before .before .before .before .before .before .line .ensures) in omega (arith, x .1 .past, x .1 .within)
+loop-less c = let a = c .before .before .before .before .before .before .before .before .before .before .before .before .before .before .before .args in let l = c .before .before .before .before .before .before .before .before .before .before .before .loop in let x = got-at specs.count specs.actions specs.line a.s.now l.i 8 l.forms (c .before .before .before .before .before .before .before .line .last .1 .1 .0) l.actions (c .before .before .before .before .before .before .before .line .last .1 .1 .1 .1 .0) l.g l.m (c .before .got .given .1) (c .before .before .before .before .before .before .before .line .ensures) in omega (arith, x .1 .past, x .1 .within)
 
 loop-again : tie.Need-loop-again Inv-loop μ-loop
-loop-again c = let a = c .before .before .before .before .before .before .before .before .before .before .before .before .before .before .before .before .args in let l = c .before .before .before .before .before .before .before .before .before .before .before .before .loop in let x = got-at specs.count specs.actions specs.line a.s.now l.i 8 l.forms (c .before .before .before .before .before .before .before .before .line .last .1 .1 .0) l.actions (c .before .before .before .before .before .before .before .before .line .last .1 .1 .1 .1 .0) l.g l.m (c .before .before .got .given .1) (c .before .before .before .before .before .before .before .before .line .ensures) in walk-more specs.line specs.finish a.s.now a.at a.forms.now a.actions.now 0 0 l.inv (finish-no a.s.now l.i (c .before .before .before .before .before .before .before .before .before .before .before .loop-test .taken)) (x .1 .finds) (omega (arith, x .1 .past)) (x .1 .within) (x .2) (x .3) (c .before .before .before .before .before .before .before .before .line .kept .1 .1 .0) (c .before .before .before .before .before .before .before .before .line .kept .1 .1 .1 .1 .0)
+loop-again c = let a = c .before .before .before .before .before .before .before .before .before .before .before .before .before .before .before .args in let l = c .before .before .before .before .before .before .before .before .before .before .before .loop in let x = got-at specs.count specs.actions specs.line a.s.now l.i 8 l.forms (c .before .before .before .before .before .before .before .line .last .1 .1 .0) l.actions (c .before .before .before .before .before .before .before .line .last .1 .1 .1 .1 .0) l.g l.m (c .before .got .given .1) (c .before .before .before .before .before .before .before .line .ensures) in walk-more specs.line specs.finish a.s.now a.at a.forms.now a.actions.now 0 0 l.inv (finish-no a.s.now l.i (c .before .before .before .before .before .before .before .before .before .before .loop-test .taken)) (x .1 .finds) (omega (arith, x .1 .past)) (x .1 .within) (x .2) (x .3) (c .before .before .before .before .before .before .before .line .kept .1 .1 .0) (c .before .before .before .before .before .before .before .line .kept .1 .1 .1 .1 .0)
 
 same-length-3 : tie.Need-same-length-3 Inv-loop μ-loop
 same-length-3 c = search needs
