@@ -74,14 +74,8 @@ pub fn read_session(
     ensures { λ r. ⌜ verdictOf r (now (values .exit)) (now (forms .exit)) (now (actions .exit)) ≡ judged (length (now (values .entry))) (length (now (forms .entry))) (length (now (actions .entry))) (now (file .entry)) ⌝ }
     ensures { λ r. ⌜ Within r (now (values .exit)) (now (forms .exit)) (now (actions .exit)) ⌝ }
 {
-    if values.len() != VALUES {
-        return Reading::Bad(0);
+    if (values.len() == VALUES) & ((forms.len() == FORMS) & (actions.len() == ACTIONS)) {
+        return read(file, values, forms, actions);
     }
-    if forms.len() != FORMS {
-        return Reading::Bad(0);
-    }
-    if actions.len() != ACTIONS {
-        return Reading::Bad(0);
-    }
-    read(file, values, forms, actions)
+    Reading::Bad(0)
 }
