@@ -6,7 +6,8 @@ use mathlib.Core.Option.{none}
 use Prim.Native.Nat.{ℕ, _+_, _*_, _≤_, _<_}
 use lib.ListN.{length, take, drop}
 use Rattle.text.specs.Append.{Appended}
-use Rattle.text.specs.Readers.{Reader, Reads}
+use Rattle.text.specs.Bytes.{bytes}
+use Rattle.text.specs.Readers.{Reader, Reads, word as literal}
 use Rattle.text.specs.declared.Place.{Place}
 use Rattle.text.specs.declared.Place.the-variants as place
 use Rattle.session_reader.specs.Session.{Act, Kind, reading, swapping, stepping, repeating, numbers, values, opening, keyword, arity, head}
@@ -30,6 +31,18 @@ NumbersAre s at k out (place.At next) = Reads (numbers k) s at (2 * k) (take k o
 abbrev pub ValuesAre : List ℕ → ℕ → List ℕ → Listed → Type 0
 ValuesAre s at out listed.Wrong = values (drop at s) ≡ none
 ValuesAre s at out (listed.Read n next) = Reads values s at 1 (take n out) next
+
+-- the first line up to its values
+pub record Led (s out : List ℕ) (next : ℕ) : Type 0 where
+  pub a : ℕ
+  pub b : ℕ
+  pub opens : Reads (literal (bytes "(open")) s 0 5 tt a
+  pub three : Reads (numbers 3) s a 6 (take 3 out) b
+  pub starts : Reads (literal (bytes " (")) s b 2 tt next
+
+abbrev pub LeadIs : List ℕ → List ℕ → Place → Type 0
+LeadIs s out place.Nowhere = opening s ≡ none
+LeadIs s out (place.At next) = Led s out next
 
 abbrev pub OpenedIs : List ℕ → List ℕ → Opened → Type 0
 OpenedIs s out opened.Wrong = opening s ≡ none
