@@ -8,10 +8,11 @@ use lib.ListN.{length, take, drop, getD}
 use lib.Seq.{getD-take}
 use Rattle.text.specs.Bytes.{bytes}
 use Rattle.text.specs.Readers.{Reads, word}
+use Rattle.text.specs.Answers.{PlaceIs}
 use Rattle.text.specs.declared.Place.{Place}
 use Rattle.text.specs.declared.Place.the-variants as place
 use Rattle.session_reader.specs.Session.{Kind, reading, swapping, stepping, repeating, arity, keyword, head, numbers, values, opening}
-use Rattle.session_reader.specs.Answers.{kindNumber, KeywordIs, NumbersAre, ValuesAre}
+use Rattle.session_reader.specs.Answers.{kindNumber, KeywordIs, NumbersAre, ValuesAre, Led, LeadIs}
 use Rattle.session_reader.specs.declared.forms.Word.{Word}
 use Rattle.session_reader.specs.declared.forms.Word.the-variants as key
 use Rattle.session_reader.specs.declared.opening.Listed.{Listed}
@@ -53,11 +54,32 @@ module _ (s : List ℕ) (at : ℕ) {kind : Kind} {a : ℕ} (x : Reads keyword s 
   head-at y = record { finds = rw (x .finds, y .finds); past = omega (arith, x .past, y .past, few-numbers kind .0); within = y .within }
 
 -- the parts of open, one after another
-module _ (s n : List ℕ) {a b c d e : ℕ} {v : List ℕ} where
-  pub opening-at : Reads (word (bytes "(open")) s 0 5 tt a → Reads (numbers 3) s a 6 (take 3 n) b → Reads (word (bytes " (")) s b 2 tt c → Reads values s c 1 v d → Reads (word (bytes ")\n")) s d 2 tt e → Reads opening s 0 0 (record { tasks = getD n 0 0; cells = getD n 1 0; blocks = getD n 2 0; values = v }) e
+module _ (s n : List ℕ) where
+  pub lead-at : {r : Place} {next : ℕ} → r ≡ place.At next → LeadIs s n r → Led s n next
+  lead-at q x = subst (LeadIs s n) q x
+
+  pub lead-no : {r : Place} → r ≡ place.Nowhere → LeadIs s n r → opening s ≡ none
+  lead-no q x = subst (LeadIs s n) q x
+
+  pub lead-ends : {a b : ℕ} → Reads (word (bytes "(open")) s 0 5 tt a → Reads (numbers 3) s a 6 (take 3 n) b → (r : Place) → PlaceIs (word (bytes " (")) s b 2 r → LeadIs s n r
   unfolding opening
-  opening-at x y z w q = record {
-    finds = rw (x .finds, y .finds, z .finds, w .finds, q .finds, getD-take 3 n 0 0 (omega arith), getD-take 3 n 1 0 (omega arith), getD-take 3 n 2 0 (omega arith));
-    past = omega arith;
-    within = q .within;
-  }
+  lead-ends x y place.Nowhere e = rw (x .finds, y .finds, e)
+  lead-ends {a} {b} x y (place.At next) z = record { a = a; b = b; opens = x; three = y; starts = z }
+
+  module _ {c : ℕ} (x : Led s n c) where
+    pub values-wrong : values (drop c s) ≡ none → opening s ≡ none
+    unfolding opening
+    values-wrong e = rw (x .opens .finds, x .three .finds, x .starts .finds, e)
+
+    module _ {d : ℕ} {v : List ℕ} (y : Reads values s c 1 v d) where
+      pub end-wrong : word (bytes ")\n") (drop d s) ≡ none → opening s ≡ none
+      unfolding opening
+      end-wrong e = rw (x .opens .finds, x .three .finds, x .starts .finds, y .finds, e)
+
+      pub opening-at : {e : ℕ} → Reads (word (bytes ")\n")) s d 2 tt e → Reads opening s 0 0 (record { tasks = getD n 0 0; cells = getD n 1 0; blocks = getD n 2 0; values = v }) e
+      unfolding opening
+      opening-at z = record {
+        finds = rw (x .opens .finds, x .three .finds, x .starts .finds, y .finds, z .finds, getD-take 3 n 0 0 (omega arith), getD-take 3 n 1 0 (omega arith), getD-take 3 n 2 0 (omega arith));
+        past = omega arith;
+        within = z .within;
+      }

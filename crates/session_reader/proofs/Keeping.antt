@@ -6,9 +6,8 @@ use Prim.Native.Nat.{ℕ, zero, suc, _+_, _*_}
 use native.Mathlib.Omega.{arith}
 use lib.ListN.{length, take, length-take}
 use Rattle.session_reader.specs.Session.{Act}
-use Rattle.session_reader.specs.Answers.{Told, untold, told, Stands}
+use Rattle.session_reader.specs.Answers.{Told, untold, told, Kept, Stands}
 use Rattle.session_reader.specs.Kept.{Named}
-use Rattle.session_reader.specs.declared.forms.Kept.{Kept}
 
 told-named : {table w : List ℕ} {l : List Act} → Told table w l → Named (length table) w
 told-named untold j h = absurd (omega arith)

@@ -11,13 +11,9 @@ use Rattle.text.specs.Append.{Appended}
 use Rattle.text.proofs.Appending.{nothing, one, then, front, behind}
 use Rattle.session_reader.specs.Session.{Act, times}
 use Rattle.session_reader.specs.Reading.{acted, actAt}
-use Rattle.session_reader.specs.Answers.{Told, untold, told, Far, Stands}
-use Rattle.session_reader.specs.declared.forms.Kept.{Kept}
+use Rattle.session_reader.specs.Answers.{Told, untold, told, Far, Kept, kept, Stands}
 use Rattle.session_reader.proofs.Told.{told-append, told-times, told-actions, told-grown}
 use Rattle.session_reader.proofs.Repeated.{times-none, length-times}
-
-abbrev pub kept : Bool → (forms actions : ℕ) → Kept
-kept o f n = record { over = o; forms = f; actions = n }
 
 -- nothing read
 pub stands-nothing : (F A : List ℕ) (f n : ℕ) → 5 * f ≤ length F → n ≤ length A → Stands F F A A f n (kept false f n) 0 []

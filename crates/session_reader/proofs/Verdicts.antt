@@ -1,10 +1,11 @@
 -- The verdict, question by question; and which sizes of buffers give it.
 use mathlib.Core.Path.{_≡_, refl, subst}
-use mathlib.Core.Bool.{true, false}
+use mathlib.Core.Bool.{Bool, true, false, _&&_, false≢true}
 use mathlib.Core.List.{List}
 use mathlib.Core.Option.{none}
 use Prim.Native.Nat.{ℕ, _≤_, _<_}
-use borrow.Author.Tests.{le-leb, lt-leb}
+use borrow.Author.Tests.{le-leb, lt-leb, eqb-true}
+use lib.Dec.{eqb}
 use lib.ListN.{length, take, drop}
 use Rattle.text.specs.Readers.{Reads}
 use Rattle.session_reader.specs.Session.{Opening, Forms, Verdict, bad, session, shaped, opening, lines, counts, actionsOf, formed, played, counted, verdict}
@@ -56,3 +57,13 @@ module _ (s : List ℕ) where
 pub right-sizes : (v f a : ℕ) (s : List ℕ) → v ≡ 32768 → f ≡ 40960 → a ≡ 65535 → judged v f a s ≡ verdict s
 unfolding judged
 right-sizes v f a s p q r = rw (p, q, r)
+
+both : (x y : Bool) → (x && y) ≡ true → (x ≡ true) × (y ≡ true)
+both true y e = (refl, e)
+both false y e = absurd (false≢true e)
+
+pub sizes-told : (v f a : ℕ) → (eqb v 32768 && (eqb f 40960 && eqb a 65535)) ≡ true → (v ≡ 32768) × ((f ≡ 40960) × (a ≡ 65535))
+sizes-told v f a e =
+    let x = both (eqb v 32768) _ e in
+    let y = both (eqb f 40960) _ (x .1) in
+    (eqb-true v 32768 (x .0), (eqb-true f 40960 (y .0), eqb-true a 65535 (y .1)))

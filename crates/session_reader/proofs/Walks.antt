@@ -9,20 +9,24 @@ use lib.ListN.{length, drop, drop-of-length-le}
 use Rattle.text.proofs.Reading.{drop-byte}
 use Rattle.text.specs.Readers.{Reader, Reads}
 use Rattle.session_reader.specs.Session.{Act, Form, Forms, empty, with, many, finish, count, counts, actions, actionsOf}
-use Rattle.session_reader.specs.Answers.{Stands, Ready, GotIs}
-use Rattle.session_reader.specs.declared.forms.Kept.{Kept}
+use Rattle.session_reader.specs.Answers.{Kept, kept, Stands, KeptIs, Ready, GotIs}
 use Rattle.session_reader.specs.declared.forms.Got.{Got}
 use Rattle.session_reader.specs.declared.forms.Got.the-variants as got
-use Rattle.session_reader.proofs.Standing.{kept, stands-nothing, stands-join}
+use Rattle.session_reader.proofs.Standing.{stands-nothing, stands-join}
 use Rattle.session_reader.proofs.Turns.{Turn, turn-start, turn-end, turn-stop, turn-more}
 
 -- what an arm of a match on an answer knows
 module _ {X : Type 0} (count : X → ℕ) (acts : X → List Act) (p : Reader X) (s : List ℕ) (at long : ℕ) (F F′ A A′ : List ℕ) (f n : ℕ) where
-  pub got-at : {r : Got} {next : ℕ} {b : Kept} → r ≡ got.At next b → GotIs count acts p s at long F F′ A A′ f n r → (x : X) × Reads p s at long x next × Stands F F′ A A′ f n b (count x) (acts x) × (8 * b .forms ≤ next)
+  pub got-at : {r : Got} {next : ℕ} {o : Bool} {g m : ℕ} → r ≡ got.At next o g m → GotIs count acts p s at long F F′ A A′ f n r → (x : X) × Reads p s at long x next × Stands F F′ A A′ f n (kept o g m) (count x) (acts x) × (8 * g ≤ next)
   got-at q x = subst (GotIs count acts p s at long F F′ A A′ f n) q x
 
   pub got-no : {r : Got} → r ≡ got.Bad → GotIs count acts p s at long F F′ A A′ f n r → p (drop at s) ≡ none
   got-no q x = subst (GotIs count acts p s at long F F′ A A′ f n) q x
+
+  -- an answer that hands on what is kept
+  pub kept-got : {next : ℕ} (most : ℕ) (x : X) → Reads p s at long x next → 8 * most ≤ next → (r : Got) → KeptIs F F′ A A′ f n next most (count x) (acts x) r → GotIs count acts p s at long F F′ A A′ f n r
+  kept-got most x y h got.Bad k = absurd k
+  kept-got most x y h (got.At to o g m) k = (x, rw (k .0) y, k .1, omega (arith, k .0, k .2))
 
 pub ready-later : {s : List ℕ} {at j : ℕ} {F : List ℕ} {f : ℕ} {A : List ℕ} {n : ℕ} → Ready s at F f A n → at ≤ j → j ≤ length s → Ready s j F f A n
 ready-later r h k = record { here = k; small = r .small; table = r .table; few = omega (arith, r .few); room = r .room; limit = r .limit }
@@ -52,7 +56,7 @@ module _ (each : Reader Form) (end : Reader (Unit {0})) (s : List ℕ) (at : ℕ
   }
 
   module _ {F′ A′ : List ℕ} {i g m : ℕ} {over : Bool} (w : Walk F′ A′ i g m over) where
-    pub walk-end : {next : ℕ} (long : ℕ) → end (drop i s) ≡ some (tt, drop next s) → i + long ≤ next → next ≤ length s → GotIs counts actionsOf (many with each end empty) s at long F F′ A A′ f n (got.At next (kept over g m))
+    pub walk-end : {next : ℕ} (long : ℕ) → end (drop i s) ≡ some (tt, drop next s) → i + long ≤ next → next ≤ length s → GotIs counts actionsOf (many with each end empty) s at long F F′ A A′ f n (got.At next over g m)
     walk-end long e h k =
         (w .l, record { finds = turn-end with each end (w .turn) e; past = omega (arith, w .turn .from); within = k }, w .stands, omega (arith, w .ready .few))
 

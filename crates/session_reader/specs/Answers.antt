@@ -6,7 +6,8 @@ use mathlib.Core.Option.{none}
 use Prim.Native.Nat.{ℕ, _+_, _*_, _≤_, _<_}
 use lib.ListN.{length, take, drop}
 use Rattle.text.specs.Append.{Appended}
-use Rattle.text.specs.Readers.{Reader, Reads}
+use Rattle.text.specs.Bytes.{bytes}
+use Rattle.text.specs.Readers.{Reader, Reads, word as literal}
 use Rattle.text.specs.declared.Place.{Place}
 use Rattle.text.specs.declared.Place.the-variants as place
 use Rattle.session_reader.specs.Session.{Act, Kind, reading, swapping, stepping, repeating, numbers, values, opening, keyword, arity, head}
@@ -19,7 +20,6 @@ use Rattle.session_reader.specs.declared.forms.Word.{Word}
 use Rattle.session_reader.specs.declared.forms.Word.the-variants as word
 use Rattle.session_reader.specs.declared.forms.Start.{Start}
 use Rattle.session_reader.specs.declared.forms.Start.the-variants as start
-use Rattle.session_reader.specs.declared.forms.Kept.{Kept}
 use Rattle.session_reader.specs.declared.forms.Got.{Got}
 use Rattle.session_reader.specs.declared.forms.Got.the-variants as got
 
@@ -31,6 +31,18 @@ NumbersAre s at k out (place.At next) = Reads (numbers k) s at (2 * k) (take k o
 abbrev pub ValuesAre : List ℕ → ℕ → List ℕ → Listed → Type 0
 ValuesAre s at out listed.Wrong = values (drop at s) ≡ none
 ValuesAre s at out (listed.Read n next) = Reads values s at 1 (take n out) next
+
+-- the first line up to its values
+pub record Led (s out : List ℕ) (next : ℕ) : Type 0 where
+  pub a : ℕ
+  pub b : ℕ
+  pub opens : Reads (literal (bytes "(open")) s 0 5 tt a
+  pub three : Reads (numbers 3) s a 6 (take 3 out) b
+  pub starts : Reads (literal (bytes " (")) s b 2 tt next
+
+abbrev pub LeadIs : List ℕ → List ℕ → Place → Type 0
+LeadIs s out place.Nowhere = opening s ≡ none
+LeadIs s out (place.At next) = Led s out next
 
 abbrev pub OpenedIs : List ℕ → List ℕ → Opened → Type 0
 OpenedIs s out opened.Wrong = opening s ≡ none
@@ -60,6 +72,15 @@ abbrev pub Far : Bool → (room n m k : ℕ) → (table words : List ℕ) → Li
 Far true room n m k table words l = room < n + k
 Far false room n m k table words l = (m ≡ n + k) × Told table words l
 
+-- more actions than fit, or not, and how many forms and actions are kept
+pub record Kept : Type 0 where
+  pub over : Bool
+  pub forms : ℕ
+  pub actions : ℕ
+
+abbrev pub kept : Bool → (forms actions : ℕ) → Kept
+kept o f n = record { over = o; forms = f; actions = n }
+
 -- k actions, l, read with f forms and n actions kept before them, and what is kept then of the buffers F and A
 pub record Stands (F F′ A A′ : List ℕ) (f n : ℕ) (b : Kept) (k : ℕ) (l : List Act) : Type 0 where
   pub table : List ℕ
@@ -69,6 +90,11 @@ pub record Stands (F F′ A A′ : List ℕ) (f n : ℕ) (b : Kept) (k : ℕ) (l
   pub fits : 5 * b .forms ≤ length F
   pub room : b .actions ≤ length A
   pub far : Far (b .over) (length A) n (b .actions) k (take (5 * b .forms) F′) words l
+
+-- the same of an answer, which hands on the place next and keeps at most so many forms
+abbrev pub KeptIs : (F F′ A A′ : List ℕ) → (f n next most k : ℕ) → List Act → Got → Type 0
+KeptIs F F′ A A′ f n next most k l got.Bad = ⊥
+KeptIs F F′ A A′ f n next most k l (got.At to o g m) = (to ≡ next) × Stands F F′ A A′ f n (kept o g m) k l × (g ≤ most)
 
 -- each form takes at least 8 bytes of s
 pub record Ready (s : List ℕ) (at : ℕ) (F : List ℕ) (f : ℕ) (A : List ℕ) (n : ℕ) : Type 0 where
@@ -82,5 +108,5 @@ pub record Ready (s : List ℕ) (at : ℕ) (F : List ℕ) (f : ℕ) (A : List �
 module _ {X : Type 0} (count : X → ℕ) (actions : X → List Act) (p : Reader X) where
   abbrev pub GotIs : List ℕ → (at long : ℕ) → (F F′ A A′ : List ℕ) → (f n : ℕ) → Got → Type 0
   GotIs s at long F F′ A A′ f n got.Bad = p (drop at s) ≡ none
-  GotIs s at long F F′ A A′ f n (got.At next b) =
-      (x : X) × Reads p s at long x next × Stands F F′ A A′ f n b (count x) (actions x) × (8 * b .forms ≤ next)
+  GotIs s at long F F′ A A′ f n (got.At next o g m) =
+      (x : X) × Reads p s at long x next × Stands F F′ A A′ f n (kept o g m) (count x) (actions x) × (8 * g ≤ next)

@@ -1,12 +1,13 @@
 -- Session files and their verdicts, computed.
 use mathlib.Core.Path.{_≡_, refl}
+use mathlib.Core.Bool.{true}
 use mathlib.Core.List.{List, [], _∷_, _++_}
 use Prim.Native.Nat.{ℕ}
 use Prim.Native.String.{String}
-use lib.ListN.{replicate}
+use lib.ListN.{length, replicate}
 use Rattle.text.specs.Bytes.{bytes}
 use Rattle.text.specs.Readers.{word, digitsAfter, number}
-use Rattle.session_reader.specs.Session.{Act, read, swap, step, Verdict, bad, session, fits, deeper, shapedAfter, numbers, manyWithin, values, opening, keyword, head, body, form, line, count, times, actions, formed, played, counted, verdict}
+use Rattle.session_reader.specs.Session.{Act, read, swap, step, Verdict, bad, session, short, fits, deeper, shapedAfter, numbers, manyWithin, values, opening, keyword, head, body, form, line, count, times, actions, formed, played, counted, verdict}
 
 -- P1: its opening and 15 actions
 p1 :
@@ -53,3 +54,11 @@ judged = (refl, (refl, (refl, (refl, (refl, (refl, (refl, (refl, (refl, (refl, (
 none-open : verdict [] ≡ bad 14
 unfolding shapedAfter opening word formed played counted verdict
 none-open = refl
+
+-- a file of 65,536 bytes is short enough, and one of 65,537 is not, whatever they are
+long-enough : (s : List ℕ) → length s ≡ 65536 → short s ≡ true
+long-enough s e = rw e
+
+too-long : (s : List ℕ) → length s ≡ 65537 → verdict s ≡ bad 12
+unfolding verdict
+too-long s e = rw e

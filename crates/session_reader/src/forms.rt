@@ -8,7 +8,7 @@ ghost use lib.ListN.{length, take, drop, getD};
 ghost use Rattle.text.specs.Append.{Appended};
 ghost use Rattle.session_reader.specs.Session.{Act, times, form as «formOf», list as «listOf», line as «lineOf», lines as «linesOf», count, counts, actions as «actionsOf1», actionsOf};
 ghost use Rattle.session_reader.specs.Reading.{acted};
-ghost use Rattle.session_reader.specs.Answers.{KeywordIs, HeadIs, Stands, GotIs, Ready};
+ghost use Rattle.session_reader.specs.Answers.{KeywordIs, HeadIs, kept, Stands, KeptIs, GotIs, Ready};
 
 // A kind, how many numbers it has, and the place after its word.
 pub enum Word {
@@ -22,17 +22,11 @@ pub enum Start {
     Known(u32, usize),
 }
 
-// How many forms and actions are kept in the buffers, and whether there were more actions than fit.
-pub struct Kept {
-    pub over: bool,
-    pub forms: usize,
-    pub actions: usize,
-}
-
-// What is kept, and the place after what was read.
+// The place after what was read, whether there were more actions than fit, and how many forms and actions are kept in
+// the buffers.
 pub enum Got {
     Bad,
-    At(usize, Kept),
+    At(usize, bool, usize, usize),
 }
 
 fn keyword(s: &[u8], at: usize) -> Word
@@ -75,7 +69,7 @@ fn head(s: &[u8], at: usize, out: &mut [u32]) -> Start
     Start::Known(kind, next)
 }
 
-// Keeps a form of five words and one action of it, if there is room for the action.
+// Keeps a form of five words, read up to `next`, and one action of it, if there is room for the action.
 fn keep(
     forms: &mut [u32],
     f: usize,
@@ -83,20 +77,16 @@ fn keep(
     n: usize,
     kind: u32,
     numbers: &[u32],
-) -> Kept
+    next: usize,
+) -> Got
     requires { ⌜ 5 * f + 5 ≤ length (now forms) ⌝ }
     requires { ⌜ f < 65536 ⌝ }
     requires { ⌜ n ≤ length (now actions) ⌝ }
     requires { ⌜ 4 ≤ length (now numbers) ⌝ }
-    ensures { λ r. ⌜ Stands (now (forms .entry)) (now (forms .exit)) (now (actions .entry)) (now (actions .exit)) f n r 1 (acted kind (now (numbers .entry)) ∷ []) ⌝ }
-    ensures { λ r. ⌜ r .forms ≤ f + 1 ⌝ }
+    ensures { λ r. ⌜ KeptIs (now (forms .entry)) (now (forms .exit)) (now (actions .entry)) (now (actions .exit)) f n next (f + 1) 1 (acted kind (now (numbers .entry)) ∷ []) r ⌝ }
 {
     if actions.len() <= n {
-        return Kept {
-            over: true,
-            forms: f,
-            actions: n,
-        };
+        return Got::At(next, true, f, n);
     }
     let at = 5 * f;
     forms[at] = kind;
@@ -105,11 +95,7 @@ fn keep(
     forms[at + 3] = numbers[2];
     forms[at + 4] = numbers[3];
     actions[n] = f as u32;
-    Kept {
-        over: false,
-        forms: f + 1,
-        actions: n + 1,
-    }
+    Got::At(next, false, f + 1, n + 1)
 }
 
 // Copies the words from n to m behind them, so that they stand there c times.
@@ -128,39 +114,35 @@ fn repeat(words: &mut [u32], n: usize, m: usize, c: usize) -> usize
     end
 }
 
-// What is kept of forms that were read once, from f and n on, and stand c times. None of them where c is 0.
-fn again(actions: &mut [u32], f: usize, n: usize, c: u32, once: Kept) -> Kept
-    requires { ⌜ f ≤ once .forms ⌝ }
-    requires { ⌜ (n ≤ once .actions) × (once .actions ≤ length (now actions)) ⌝ }
+// What is kept where forms, read once up to `next`, stand c times. Before them f forms and n actions were kept, and with
+// them g and m. None of them where c is 0.
+fn again(
+    actions: &mut [u32],
+    f: usize,
+    n: usize,
+    c: u32,
+    next: usize,
+    over: bool,
+    g: usize,
+    m: usize,
+) -> Got
+    requires { ⌜ f ≤ g ⌝ }
+    requires { ⌜ (n ≤ m) × (m ≤ length (now actions)) ⌝ }
     requires { ⌜ length (now actions) ≤ 65535 ⌝ }
-    ensures { λ r. ⌜ ((F F′ A : List ℕ) (k : ℕ) (l : List Act) → length A ≡ length (now (actions .entry)) → Stands F F′ A (now (actions .entry)) f n once k l → Stands F F′ A (now (actions .exit)) f n r (c * k) (times c l)) ⌝ }
-    ensures { λ r. ⌜ r .forms ≤ once .forms ⌝ }
+    ensures { λ r. ⌜ ((F F′ A : List ℕ) (k : ℕ) (l : List Act) → length A ≡ length (now (actions .entry)) → Stands F F′ A (now (actions .entry)) f n (kept over g m) k l → KeptIs F F′ A (now (actions .exit)) f n next g (c * k) (times c l) r) ⌝ }
 {
     if c == 0 {
-        return Kept {
-            over: false,
-            forms: f,
-            actions: n,
-        };
+        return Got::At(next, false, f, n);
     }
-    if once.over {
-        return once;
+    if over {
+        return Got::At(next, over, g, m);
     }
-    let m = once.actions;
     let count = c as usize;
     if actions.len() < n + count * (m - n) {
-        return Kept {
-            over: true,
-            forms: f,
-            actions: n,
-        };
+        return Got::At(next, true, f, n);
     }
     let to = repeat(actions, n, m, count);
-    Kept {
-        over: false,
-        forms: once.forms,
-        actions: to,
-    }
+    Got::At(next, false, g, to)
 }
 
 // The form that starts at `at`, at most `depth` deep: f forms and n actions are kept before it.
@@ -186,16 +168,16 @@ fn form(
     };
     if kind == 4 {
         let inner = list(s, a, depth - 1, forms, f, actions, n);
-        let Got::At(next, once) = inner else {
+        let Got::At(next, over, g, m) = inner else {
             return Got::Bad;
         };
-        return Got::At(next, again(actions, f, n, numbers[0], once));
+        return again(actions, f, n, numbers[0], next, over, g, m);
     }
     let end = items::close(s, a);
     let Place::At(next) = end else {
         return Got::Bad;
     };
-    Got::At(next, keep(forms, f, actions, n, kind, &numbers))
+    keep(forms, f, actions, n, kind, &numbers, next)
 }
 
 // The forms of a list up to its bracket, each at most `depth` deep.
@@ -218,26 +200,19 @@ fn list(
     loop {
         let end = items::close(s, i);
         if let Place::At(next) = end {
-            return Got::At(
-                next,
-                Kept {
-                    over,
-                    forms: g,
-                    actions: m,
-                },
-            );
+            return Got::At(next, over, g, m);
         }
         let gap = items::space(s, i);
         let Place::At(a) = gap else {
             return Got::Bad;
         };
         let got = form(s, a, depth, forms, g, actions, m);
-        let Got::At(next, kept) = got else {
+        let Got::At(next, more, forms_now, actions_now) = got else {
             return Got::Bad;
         };
-        over = over | kept.over;
-        g = kept.forms;
-        m = kept.actions;
+        over = over | more;
+        g = forms_now;
+        m = actions_now;
         i = next;
     }
 }
@@ -248,14 +223,14 @@ fn line(s: &[u8], at: usize, forms: &mut [u32], f: usize, actions: &mut [u32], n
     ensures { λ r. ⌜ GotIs count «actionsOf1» «lineOf» (now (s .entry)) at 8 (now (forms .entry)) (now (forms .exit)) (now (actions .entry)) (now (actions .exit)) f n r ⌝ }
 {
     let got = form(s, at, 8, forms, f, actions, n);
-    let Got::At(a, kept) = got else {
+    let Got::At(a, over, g, m) = got else {
         return Got::Bad;
     };
     let end = text::starts_with(s, a, b"\n");
     let Place::At(next) = end else {
         return Got::Bad;
     };
-    Got::At(next, kept)
+    Got::At(next, over, g, m)
 }
 
 // All lines from `at` on.
@@ -269,20 +244,13 @@ pub fn lines(s: &[u8], at: usize, forms: &mut [u32], actions: &mut [u32]) -> Got
     let mut over = false;
     while i < s.len() {
         let got = line(s, i, forms, g, actions, m);
-        let Got::At(next, kept) = got else {
+        let Got::At(next, more, forms_now, actions_now) = got else {
             return Got::Bad;
         };
-        over = over | kept.over;
-        g = kept.forms;
-        m = kept.actions;
+        over = over | more;
+        g = forms_now;
+        m = actions_now;
         i = next;
     }
-    Got::At(
-        i,
-        Kept {
-            over,
-            forms: g,
-            actions: m,
-        },
-    )
+    Got::At(i, over, g, m)
 }

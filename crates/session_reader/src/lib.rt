@@ -48,10 +48,10 @@ fn read(file: &[u8], values: &mut [u32], kept: &mut [u32], actions: &mut [u32]) 
         return Reading::Bad(14);
     };
     let rest = forms::lines(file, next, kept, actions);
-    let forms::Got::At(_, all) = rest else {
+    let forms::Got::At(_, over, _, n) = rest else {
         return Reading::Bad(14);
     };
-    if all.over {
+    if over {
         return Reading::Bad(15);
     }
     Reading::Session {
@@ -59,7 +59,7 @@ fn read(file: &[u8], values: &mut [u32], kept: &mut [u32], actions: &mut [u32]) 
         cells,
         blocks,
         values: count,
-        actions: all.actions,
+        actions: n,
     }
 }
 
@@ -74,14 +74,8 @@ pub fn read_session(
     ensures { λ r. ⌜ verdictOf r (now (values .exit)) (now (forms .exit)) (now (actions .exit)) ≡ judged (length (now (values .entry))) (length (now (forms .entry))) (length (now (actions .entry))) (now (file .entry)) ⌝ }
     ensures { λ r. ⌜ Within r (now (values .exit)) (now (forms .exit)) (now (actions .exit)) ⌝ }
 {
-    if values.len() != VALUES {
-        return Reading::Bad(0);
+    if (values.len() == VALUES) & ((forms.len() == FORMS) & (actions.len() == ACTIONS)) {
+        return read(file, values, forms, actions);
     }
-    if forms.len() != FORMS {
-        return Reading::Bad(0);
-    }
-    if actions.len() != ACTIONS {
-        return Reading::Bad(0);
-    }
-    read(file, values, forms, actions)
+    Reading::Bad(0)
 }

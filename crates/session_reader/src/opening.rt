@@ -5,7 +5,7 @@ use text::Place;
 ghost use mathlib.Core.Path.{_≡_};
 ghost use Prim.Native.Nat.{_+_, _*_, _≤_};
 ghost use lib.ListN.{length};
-ghost use Rattle.session_reader.specs.Answers.{ValuesAre, OpenedIs};
+ghost use Rattle.session_reader.specs.Answers.{ValuesAre, LeadIs, OpenedIs};
 ghost use Rattle.session_reader.specs.Kept.{ListedWithin, OpenedWithin};
 
 // How many values, and the place after their bracket.
@@ -53,21 +53,29 @@ fn values(s: &[u8], at: usize, out: &mut [u32]) -> Listed
     }
 }
 
+// The line up to its values: stores the three numbers.
+fn lead(s: &[u8], out: &mut [u32]) -> Place
+    requires { ⌜ 3 ≤ length (now out) ⌝ }
+    ensures { λ r. ⌜ LeadIs (now (s .entry)) (now (out .exit)) r ⌝ }
+{
+    let word = text::starts_with(s, 0, b"(open");
+    let Place::At(a) = word else {
+        return Place::Nowhere;
+    };
+    let three = items::numbers(s, a, 3, out);
+    let Place::At(b) = three else {
+        return Place::Nowhere;
+    };
+    text::starts_with(s, b, b" (")
+}
+
 pub fn opening(s: &[u8], out: &mut [u32]) -> Opened
     requires { ⌜ length (now s) ≤ 2 * length (now out) ⌝ }
     ensures { λ r. ⌜ OpenedIs (now (s .entry)) (now (out .exit)) r ⌝ }
     ensures { λ r. ⌜ OpenedWithin (length (now (out .exit))) r ⌝ }
 {
-    let word = text::starts_with(s, 0, b"(open");
-    let Place::At(a) = word else {
-        return Opened::Wrong;
-    };
     let mut n = [0u32; 4];
-    let three = items::numbers(s, a, 3, &mut n);
-    let Place::At(b) = three else {
-        return Opened::Wrong;
-    };
-    let start = text::starts_with(s, b, b" (");
+    let start = lead(s, &mut n);
     let Place::At(c) = start else {
         return Opened::Wrong;
     };

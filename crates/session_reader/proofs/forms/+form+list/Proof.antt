@@ -1,13 +1,17 @@
 use borrow.Author.Needs.{needs}
 use native.Mathlib.Omega.{arith}
-use Rattle.session_reader.proofs.Walks.{got-at, got-no, ready-later, Walk, walk-start, walk-end, walk-stop, walk-more}
+use Rattle.session_reader.proofs.Walks.{got-at, got-no, kept-got, ready-later, Walk, walk-start, walk-end, walk-stop, walk-more}
 use Rattle.session_reader.proofs.Forming.{head-at, head-no, actions-again, form-none, form-no, again-no, again-at, act-no, act-at}
 use Rattle.session_reader.specs.Session as specs
+use Rattle.session_reader.specs.Answers.{HeadIs, GotIs}
+use Rattle.session_reader.specs.declared.forms.Start.the-variants as start
+use Rattle.session_reader.specs.declared.forms.Got.the-variants as got
 use Rattle.text.proofs.Reading.{place-at, place-no}
-use Rattle.text.specs.Readers.{_>>_}
+use Rattle.text.specs.Readers.{_>>_, Reads}
 use lib.ListN.{length, drop, getD}
 use Prim.Native.Nat.{ℕ, _+_, _-_, _*_, _≤_, _<_}
 use mathlib.Core.Path.{_≡_, sym, _∙_}
+use mathlib.Core.Option.{none}
 use borrow.Fn.Kinds.{In}
 use borrow.Fn.PlainCycle.{Measures, is, falls, and}
 use Rattle.session_reader.proofs.forms.form.Reads as form
@@ -42,604 +46,8 @@ list-at t = and 3 list-kinds.ps (is 3 list-kinds.ps μ-list t) list.Pre
 abbrev list-below : ℕ → In 3 list-kinds.ps
 list-below t = and 3 list-kinds.ps (falls 3 list-kinds.ps _<_ μ-list t) list.Pre
 
-form-returns : (t : ℕ) → form-lts.Need-returns (
-  head-reads.Asked,
-  head-reads.Learnt,
-  list-below t,
-  list.Post,
-  again-reads.Asked,
-  again-reads.Learnt,
-  close-reads.Asked,
-  close-reads.Learnt,
-  keep-reads.Asked,
-  keep-reads.Learnt,
-) (form-at t) form.Post
-form-returns t c = form-none _ _ (c .if1 .taken)
-
-form-slice-aggregate-head : (t : ℕ) → form-lts.Need-slice-aggregate-head (
-  head-reads.Asked,
-  head-reads.Learnt,
-  list-below t,
-  list.Post,
-  again-reads.Asked,
-  again-reads.Learnt,
-  close-reads.Asked,
-  close-reads.Learnt,
-  keep-reads.Asked,
-  keep-reads.Learnt,
-) (form-at t) form.Post
-form-slice-aggregate-head t c = search needs
-
-form-head-requires : (t : ℕ) → form-lts.Need-head-requires (
-  head-reads.Asked,
-  head-reads.Learnt,
-  list-below t,
-  list.Post,
-  again-reads.Asked,
-  again-reads.Learnt,
-  close-reads.Asked,
-  close-reads.Learnt,
-  keep-reads.Asked,
-  keep-reads.Learnt,
-) (form-at t) form.Post
-form-head-requires t c κs = (c .before .before .before .before .before .pre .1 .here, search needs)
-
-form-enum-known-start : (t : ℕ) → form-lts.Need-enum-known-start (
-  head-reads.Asked,
-  head-reads.Learnt,
-  list-below t,
-  list.Post,
-  again-reads.Asked,
-  again-reads.Learnt,
-  close-reads.Asked,
-  close-reads.Learnt,
-  keep-reads.Asked,
-  keep-reads.Learnt,
-) (form-at t) form.Post
-form-enum-known-start t c = search needs
-
-form-enum-told : (t : ℕ) → form-lts.Need-enum-told (
-  head-reads.Asked,
-  head-reads.Learnt,
-  list-below t,
-  list.Post,
-  again-reads.Asked,
-  again-reads.Learnt,
-  close-reads.Asked,
-  close-reads.Learnt,
-  keep-reads.Asked,
-  keep-reads.Learnt,
-) (form-at t) form.Post
-form-enum-told t c = search needs
-
-form-returns-2 : (t : ℕ) → form-lts.Need-returns-2 (
-  head-reads.Asked,
-  head-reads.Learnt,
-  list-below t,
-  list.Post,
-  again-reads.Asked,
-  again-reads.Learnt,
-  close-reads.Asked,
-  close-reads.Learnt,
-  keep-reads.Asked,
-  keep-reads.Learnt,
-) (form-at t) form.Post
-form-returns-2 t c = let a = c .before .before .before .before .before .before .before .before .before .args in form-no a.s.now a.at a.depth (c .before .before .before .before .before .if1 .left) (head-no a.s.now a.at (c .before .before .before .head .last .1 .1 .0) (c .enum-told .given .1) (c .before .before .before .head .ensures))
-
-form-sub-list : (t : ℕ) → form-lts.Need-sub-list (
-  head-reads.Asked,
-  head-reads.Learnt,
-  list-below t,
-  list.Post,
-  again-reads.Asked,
-  again-reads.Learnt,
-  close-reads.Asked,
-  close-reads.Learnt,
-  keep-reads.Asked,
-  keep-reads.Learnt,
-) (form-at t) form.Post
-form-sub-list t c = search needs
-
-form-list-requires : (t : ℕ) → form-lts.Need-list-requires (
-  head-reads.Asked,
-  head-reads.Learnt,
-  list-below t,
-  list.Post,
-  again-reads.Asked,
-  again-reads.Learnt,
-  close-reads.Asked,
-  close-reads.Learnt,
-  keep-reads.Asked,
-  keep-reads.Learnt,
-) (form-at t) form.Post
-form-list-requires t c κs = let a = c .before .before .before .before .before .before .before .before .before .before .before .before .before .args in let p = c .before .before .before .before .before .before .before .before .before .before .before .before .before .pre .1 in let x = head-at a.s.now a.at (c .before .before .before .before .before .before .before .head .last .1 .1 .0) (c .before .before .before .before .start .given .1) (c .before .before .before .before .before .before .before .head .ensures) in (omega (arith, c .before .before .before .before .before .before .before .before .before .before .before .before .before .pre .0, c .before .before .before .before .before .before .before .before .before .if1 .left), ready-later p (omega (arith, x .2 .past)) (x .2 .within))
-
-form-enum-known-inner : (t : ℕ) → form-lts.Need-enum-known-inner (
-  head-reads.Asked,
-  head-reads.Learnt,
-  list-below t,
-  list.Post,
-  again-reads.Asked,
-  again-reads.Learnt,
-  close-reads.Asked,
-  close-reads.Learnt,
-  keep-reads.Asked,
-  keep-reads.Learnt,
-) (form-at t) form.Post
-form-enum-known-inner t c = search needs
-
-form-enum-told-2 : (t : ℕ) → form-lts.Need-enum-told-2 (
-  head-reads.Asked,
-  head-reads.Learnt,
-  list-below t,
-  list.Post,
-  again-reads.Asked,
-  again-reads.Learnt,
-  close-reads.Asked,
-  close-reads.Learnt,
-  keep-reads.Asked,
-  keep-reads.Learnt,
-) (form-at t) form.Post
-form-enum-told-2 t c = search needs
-
-form-same-length : (t : ℕ) → form-lts.Need-same-length (
-  head-reads.Asked,
-  head-reads.Learnt,
-  list-below t,
-  list.Post,
-  again-reads.Asked,
-  again-reads.Learnt,
-  close-reads.Asked,
-  close-reads.Learnt,
-  keep-reads.Asked,
-  keep-reads.Learnt,
-) (form-at t) form.Post
-form-same-length t c = search needs
-
-form-same-length-2 : (t : ℕ) → form-lts.Need-same-length-2 (
-  head-reads.Asked,
-  head-reads.Learnt,
-  list-below t,
-  list.Post,
-  again-reads.Asked,
-  again-reads.Learnt,
-  close-reads.Asked,
-  close-reads.Learnt,
-  keep-reads.Asked,
-  keep-reads.Learnt,
-) (form-at t) form.Post
-form-same-length-2 t c = search needs
-
-form-returns-3 : (t : ℕ) → form-lts.Need-returns-3 (
-  head-reads.Asked,
-  head-reads.Learnt,
-  list-below t,
-  list.Post,
-  again-reads.Asked,
-  again-reads.Learnt,
-  close-reads.Asked,
-  close-reads.Learnt,
-  keep-reads.Asked,
-  keep-reads.Learnt,
-) (form-at t) form.Post
-form-returns-3 t c = let a = c .before .before .before .before .before .before .before .before .before .before .before .before .before .before .before .before .before .before .before .before .args in let x = head-at a.s.now a.at (c .before .before .before .before .before .before .before .before .before .before .before .before .before .before .head .last .1 .1 .0) (c .before .before .before .before .before .before .before .before .before .before .before .start .given .1) (c .before .before .before .before .before .before .before .before .before .before .before .before .before .before .head .ensures) in again-no a.s.now a.at a.depth (c .before .before .before .before .before .before .before .before .before .before .before .before .before .before .before .before .if1 .left) (c .before .before .before .before .before .before .before .before .before .before .before .before .before .before .head .last .1 .1 .0) (x .2) (sym (x .1) ∙ c .before .before .before .before .before .before .before .before .before .if2 .taken) (got-no specs.counts specs.actionsOf (specs.list (specs.form (a.depth - 1))) a.s.now _ 1 a.forms.now (c .before .before .before .before .before .before .list .last .1 .1 .1 .0) a.actions.now (c .before .before .before .before .before .before .list .last .1 .1 .1 .1 .1 .0) a.f a.n (c .enum-told2 .given .1) (c .before .before .before .before .before .before .list .ensures))
-
-form-array-read-again : (t : ℕ) → form-lts.Need-array-read-again (
-  head-reads.Asked,
-  head-reads.Learnt,
-  list-below t,
-  list.Post,
-  again-reads.Asked,
-  again-reads.Learnt,
-  close-reads.Asked,
-  close-reads.Learnt,
-  keep-reads.Asked,
-  keep-reads.Learnt,
-) (form-at t) form.Post
-form-array-read-again t c = search needs
-
-form-again-requires : (t : ℕ) → form-lts.Need-again-requires (
-  head-reads.Asked,
-  head-reads.Learnt,
-  list-below t,
-  list.Post,
-  again-reads.Asked,
-  again-reads.Learnt,
-  close-reads.Asked,
-  close-reads.Learnt,
-  keep-reads.Asked,
-  keep-reads.Learnt,
-) (form-at t) form.Post
-form-again-requires t c κs = let a = c .before .before .before .before .before .before .before .before .before .before .before .before .before .before .before .before .before .before .before .before .before .before .args in let p = c .before .before .before .before .before .before .before .before .before .before .before .before .before .before .before .before .before .before .before .before .before .before .pre .1 in let y = got-at specs.counts specs.actionsOf (specs.list (specs.form (a.depth - 1))) a.s.now _ 1 a.forms.now (c .before .before .before .before .before .before .before .before .list .last .1 .1 .1 .0) a.actions.now (c .before .before .before .before .before .before .before .before .list .last .1 .1 .1 .1 .1 .0) a.f a.n (c .before .before .inner .given .1) (c .before .before .before .before .before .before .before .before .list .ensures) in let same = c .before .before .before .before .before .before .before .before .list .kept .1 .1 .1 .1 .1 .0 in (omega (arith, y .2 .forms .next), ((omega (arith, y .2 .acts .next), omega (arith, y .2 .room)), omega (arith, p .limit)))
-
-form-same-length-3 : (t : ℕ) → form-lts.Need-same-length-3 (
-  head-reads.Asked,
-  head-reads.Learnt,
-  list-below t,
-  list.Post,
-  again-reads.Asked,
-  again-reads.Learnt,
-  close-reads.Asked,
-  close-reads.Learnt,
-  keep-reads.Asked,
-  keep-reads.Learnt,
-) (form-at t) form.Post
-form-same-length-3 t c = search needs
-
-form-same-length-4 : (t : ℕ) → form-lts.Need-same-length-4 (
-  head-reads.Asked,
-  head-reads.Learnt,
-  list-below t,
-  list.Post,
-  again-reads.Asked,
-  again-reads.Learnt,
-  close-reads.Asked,
-  close-reads.Learnt,
-  keep-reads.Asked,
-  keep-reads.Learnt,
-) (form-at t) form.Post
-form-same-length-4 t c = search needs
-
-form-returns-4 : (t : ℕ) → form-lts.Need-returns-4 (
-  head-reads.Asked,
-  head-reads.Learnt,
-  list-below t,
-  list.Post,
-  again-reads.Asked,
-  again-reads.Learnt,
-  close-reads.Asked,
-  close-reads.Learnt,
-  keep-reads.Asked,
-  keep-reads.Learnt,
-) (form-at t) form.Post
-unfolding specs.count
-form-returns-4 t c = let a = c .before .before .before .before .before .before .before .before .before .before .before .before .before .before .before .before .before .before .before .before .before .before .before .before .before .args in let x = head-at a.s.now a.at (c .before .before .before .before .before .before .before .before .before .before .before .before .before .before .before .before .before .before .before .head .last .1 .1 .0) (c .before .before .before .before .before .before .before .before .before .before .before .before .before .before .before .before .start .given .1) (c .before .before .before .before .before .before .before .before .before .before .before .before .before .before .before .before .before .before .before .head .ensures) in let y = got-at specs.counts specs.actionsOf (specs.list (specs.form (a.depth - 1))) a.s.now _ 1 a.forms.now (c .before .before .before .before .before .before .before .before .before .before .before .list .last .1 .1 .1 .0) a.actions.now (c .before .before .before .before .before .before .before .before .before .before .before .list .last .1 .1 .1 .1 .1 .0) a.f a.n (c .before .before .before .before .before .inner .given .1) (c .before .before .before .before .before .before .before .before .before .before .before .list .ensures) in let g = c .before .before .again in (specs.again _ (y .0), again-at a.s.now a.at a.depth (c .before .before .before .before .before .before .before .before .before .before .before .before .before .before .before .before .before .before .before .before .before .if1 .left) (c .before .before .before .before .before .before .before .before .before .before .before .before .before .before .before .before .before .before .before .head .last .1 .1 .0) (x .2) (sym (x .1) ∙ c .before .before .before .before .before .before .before .before .before .before .before .before .before .before .if2 .taken) (y .1), rw (actions-again _ (y .0)) (g .ensures .0 a.forms.now (c .before .before .before .before .before .before .before .before .before .before .before .list .last .1 .1 .1 .0) a.actions.now (specs.counts (y .0)) (specs.actionsOf (y .0)) (sym (c .before .before .before .before .before .before .before .before .before .before .before .list .kept .1 .1 .1 .1 .1 .0)) (y .2)), omega (arith, g .ensures .1, y .3))
-
-form-close-requires : (t : ℕ) → form-lts.Need-close-requires (
-  head-reads.Asked,
-  head-reads.Learnt,
-  list-below t,
-  list.Post,
-  again-reads.Asked,
-  again-reads.Learnt,
-  close-reads.Asked,
-  close-reads.Learnt,
-  keep-reads.Asked,
-  keep-reads.Learnt,
-) (form-at t) form.Post
-form-close-requires t c κs = let a = c .before .before .before .before .before .before .before .before .before .before .before .args in let x = head-at a.s.now a.at (c .before .before .before .before .before .head .last .1 .1 .0) (c .before .before .start .given .1) (c .before .before .before .before .before .head .ensures) in x .2 .within
-
-form-enum-known-end : (t : ℕ) → form-lts.Need-enum-known-end (
-  head-reads.Asked,
-  head-reads.Learnt,
-  list-below t,
-  list.Post,
-  again-reads.Asked,
-  again-reads.Learnt,
-  close-reads.Asked,
-  close-reads.Learnt,
-  keep-reads.Asked,
-  keep-reads.Learnt,
-) (form-at t) form.Post
-form-enum-known-end t c = search needs
-
-form-enum-told-3 : (t : ℕ) → form-lts.Need-enum-told-3 (
-  head-reads.Asked,
-  head-reads.Learnt,
-  list-below t,
-  list.Post,
-  again-reads.Asked,
-  again-reads.Learnt,
-  close-reads.Asked,
-  close-reads.Learnt,
-  keep-reads.Asked,
-  keep-reads.Learnt,
-) (form-at t) form.Post
-form-enum-told-3 t c = search needs
-
-form-returns-5 : (t : ℕ) → form-lts.Need-returns-5 (
-  head-reads.Asked,
-  head-reads.Learnt,
-  list-below t,
-  list.Post,
-  again-reads.Asked,
-  again-reads.Learnt,
-  close-reads.Asked,
-  close-reads.Learnt,
-  keep-reads.Asked,
-  keep-reads.Learnt,
-) (form-at t) form.Post
-form-returns-5 t c = let a = c .before .before .before .before .before .before .before .before .before .before .before .before .before .before .args in let x = head-at a.s.now a.at (c .before .before .before .before .before .before .before .before .head .last .1 .1 .0) (c .before .before .before .before .before .start .given .1) (c .before .before .before .before .before .before .before .before .head .ensures) in act-no a.s.now a.at a.depth (c .before .before .before .before .before .before .before .before .before .before .if1 .left) (c .before .before .before .before .before .before .before .before .head .last .1 .1 .0) (x .2) (λ e. c .before .before .before .if2 .left (x .1 ∙ e)) (place-no a.s.now _ specs.close 1 (c .enum-told3 .given .1) (c .before .before .close .ensures))
-
-form-slice-aggregate-keep : (t : ℕ) → form-lts.Need-slice-aggregate-keep (
-  head-reads.Asked,
-  head-reads.Learnt,
-  list-below t,
-  list.Post,
-  again-reads.Asked,
-  again-reads.Learnt,
-  close-reads.Asked,
-  close-reads.Learnt,
-  keep-reads.Asked,
-  keep-reads.Learnt,
-) (form-at t) form.Post
-form-slice-aggregate-keep t c = search needs
-
-form-keep-requires : (t : ℕ) → form-lts.Need-keep-requires (
-  head-reads.Asked,
-  head-reads.Learnt,
-  list-below t,
-  list.Post,
-  again-reads.Asked,
-  again-reads.Learnt,
-  close-reads.Asked,
-  close-reads.Learnt,
-  keep-reads.Asked,
-  keep-reads.Learnt,
-) (form-at t) form.Post
-form-keep-requires t c κs = let a = c .before .before .before .before .before .before .before .before .before .before .before .before .before .before .before .before .before .before .args in let p = c .before .before .before .before .before .before .before .before .before .before .before .before .before .before .before .before .before .before .pre .1 in let x = head-at a.s.now a.at (c .before .before .before .before .before .before .before .before .before .before .before .before .head .last .1 .1 .0) (c .before .before .before .before .before .before .before .before .before .start .given .1) (c .before .before .before .before .before .before .before .before .before .before .before .before .head .ensures) in let y = place-at a.s.now _ specs.close 1 (c .before .before .before .before .end .given .1) (c .before .before .before .before .before .before .close .ensures) in (omega (arith, x .2 .past, y .past, y .within, p .few, p .table), (omega (arith, p .few, p .here, p .small), (p .room, search needs)))
-
-form-same-length-5 : (t : ℕ) → form-lts.Need-same-length-5 (
-  head-reads.Asked,
-  head-reads.Learnt,
-  list-below t,
-  list.Post,
-  again-reads.Asked,
-  again-reads.Learnt,
-  close-reads.Asked,
-  close-reads.Learnt,
-  keep-reads.Asked,
-  keep-reads.Learnt,
-) (form-at t) form.Post
-form-same-length-5 t c = search needs
-
-form-same-length-6 : (t : ℕ) → form-lts.Need-same-length-6 (
-  head-reads.Asked,
-  head-reads.Learnt,
-  list-below t,
-  list.Post,
-  again-reads.Asked,
-  again-reads.Learnt,
-  close-reads.Asked,
-  close-reads.Learnt,
-  keep-reads.Asked,
-  keep-reads.Learnt,
-) (form-at t) form.Post
-form-same-length-6 t c = search needs
-
-form-returns-6 : (t : ℕ) → form-lts.Need-returns-6 (
-  head-reads.Asked,
-  head-reads.Learnt,
-  list-below t,
-  list.Post,
-  again-reads.Asked,
-  again-reads.Learnt,
-  close-reads.Asked,
-  close-reads.Learnt,
-  keep-reads.Asked,
-  keep-reads.Learnt,
-) (form-at t) form.Post
-unfolding specs.count specs.actions
-form-returns-6 t c = let a = c .before .before .before .before .before .before .before .before .before .before .before .before .before .before .before .before .before .before .before .before .before .before .before .args in let p = c .before .before .before .before .before .before .before .before .before .before .before .before .before .before .before .before .before .before .before .before .before .before .before .pre .1 in let x = head-at a.s.now a.at (c .before .before .before .before .before .before .before .before .before .before .before .before .before .before .before .before .before .head .last .1 .1 .0) (c .before .before .before .before .before .before .before .before .before .before .before .before .before .before .start .given .1) (c .before .before .before .before .before .before .before .before .before .before .before .before .before .before .before .before .before .head .ensures) in let y = place-at a.s.now _ specs.close 1 (c .before .before .before .before .before .before .before .before .before .end .given .1) (c .before .before .before .before .before .before .before .before .before .before .before .close .ensures) in (specs.act _, act-at a.s.now a.at a.depth (c .before .before .before .before .before .before .before .before .before .before .before .before .before .before .before .before .before .before .before .if1 .left) (c .before .before .before .before .before .before .before .before .before .before .before .before .before .before .before .before .before .head .last .1 .1 .0) (x .2) (λ e. c .before .before .before .before .before .before .before .before .before .before .before .before .if2 .left (x .1 ∙ e)) y, rw (x .1) at (c .before .before .before .before .keep .ensures .0), omega (arith, c .before .before .before .before .keep .ensures .1, x .2 .past, y .past, p .few))
-
-abbrev list-Inv-loop : list-lts.InvT-loop
-list-Inv-loop s at depth forms₀ f actions₀ n i₀ g₀ m₀ over₀ forms actions i g m over = Walk (specs.space >> specs.form depth) specs.close s at forms₀ actions₀ f n forms actions i g m over
-
-abbrev list-μ-loop : list-lts.MeasureT-loop
-list-μ-loop s at depth forms₀ f actions₀ n i₀ g₀ m₀ over₀ forms actions i g m over = length s - i
-
-list-loop-holds : (t : ℕ) → list-lts.Need-loop-holds (
-  close-reads.Asked,
-  close-reads.Learnt,
-  space-reads.Asked,
-  space-reads.Learnt,
-  form-below t,
-  form.Post,
-) (list-at t) list.Post list-Inv-loop list-μ-loop
-list-loop-holds t c = let a = c .before .before .before .args in walk-start (specs.space >> specs.form a.depth) specs.close a.s.now a.at a.forms.now a.actions.now a.f a.n (c .before .before .before .pre .1)
-
-list-close-requires : (t : ℕ) → list-lts.Need-close-requires (
-  close-reads.Asked,
-  close-reads.Learnt,
-  space-reads.Asked,
-  space-reads.Learnt,
-  form-below t,
-  form.Post,
-) (list-at t) list.Post list-Inv-loop list-μ-loop
-list-close-requires t c κs = c .loop .inv .ready .here
-
-list-enum-known-end : (t : ℕ) → list-lts.Need-enum-known-end (
-  close-reads.Asked,
-  close-reads.Learnt,
-  space-reads.Asked,
-  space-reads.Learnt,
-  form-below t,
-  form.Post,
-) (list-at t) list.Post list-Inv-loop list-μ-loop
-list-enum-known-end t c = search needs
-
-list-same-length : (t : ℕ) → list-lts.Need-same-length (
-  close-reads.Asked,
-  close-reads.Learnt,
-  space-reads.Asked,
-  space-reads.Learnt,
-  form-below t,
-  form.Post,
-) (list-at t) list.Post list-Inv-loop list-μ-loop
-list-same-length t c = search needs
-
-list-same-length-2 : (t : ℕ) → list-lts.Need-same-length-2 (
-  close-reads.Asked,
-  close-reads.Learnt,
-  space-reads.Asked,
-  space-reads.Learnt,
-  form-below t,
-  form.Post,
-) (list-at t) list.Post list-Inv-loop list-μ-loop
-list-same-length-2 t c = search needs
-
-list-returns : (t : ℕ) → list-lts.Need-returns (
-  close-reads.Asked,
-  close-reads.Learnt,
-  space-reads.Asked,
-  space-reads.Learnt,
-  form-below t,
-  form.Post,
-) (list-at t) list.Post list-Inv-loop list-μ-loop
-list-returns t c = let a = c .before .before .before .before .before .before .before .before .args in let l = c .before .before .before .before .loop in let x = place-at a.s.now l.i specs.close 1 (c .before .end .given .1) (c .before .before .before .close .ensures) in walk-end (specs.space >> specs.form a.depth) specs.close a.s.now a.at a.forms.now a.actions.now a.f a.n l.inv 1 (x .finds) (x .past) (x .within)
-
-list-enum-told : (t : ℕ) → list-lts.Need-enum-told (
-  close-reads.Asked,
-  close-reads.Learnt,
-  space-reads.Asked,
-  space-reads.Learnt,
-  form-below t,
-  form.Post,
-) (list-at t) list.Post list-Inv-loop list-μ-loop
-list-enum-told t c = search needs
-
-list-space-requires : (t : ℕ) → list-lts.Need-space-requires (
-  close-reads.Asked,
-  close-reads.Learnt,
-  space-reads.Asked,
-  space-reads.Learnt,
-  form-below t,
-  form.Post,
-) (list-at t) list.Post list-Inv-loop list-μ-loop
-list-space-requires t c κs = c .before .before .before .loop .inv .ready .here
-
-list-enum-known-gap : (t : ℕ) → list-lts.Need-enum-known-gap (
-  close-reads.Asked,
-  close-reads.Learnt,
-  space-reads.Asked,
-  space-reads.Learnt,
-  form-below t,
-  form.Post,
-) (list-at t) list.Post list-Inv-loop list-μ-loop
-list-enum-known-gap t c = search needs
-
-list-enum-told-2 : (t : ℕ) → list-lts.Need-enum-told-2 (
-  close-reads.Asked,
-  close-reads.Learnt,
-  space-reads.Asked,
-  space-reads.Learnt,
-  form-below t,
-  form.Post,
-) (list-at t) list.Post list-Inv-loop list-μ-loop
-list-enum-told-2 t c = search needs
-
-list-same-length-3 : (t : ℕ) → list-lts.Need-same-length-3 (
-  close-reads.Asked,
-  close-reads.Learnt,
-  space-reads.Asked,
-  space-reads.Learnt,
-  form-below t,
-  form.Post,
-) (list-at t) list.Post list-Inv-loop list-μ-loop
-list-same-length-3 t c = search needs
-
-list-same-length-4 : (t : ℕ) → list-lts.Need-same-length-4 (
-  close-reads.Asked,
-  close-reads.Learnt,
-  space-reads.Asked,
-  space-reads.Learnt,
-  form-below t,
-  form.Post,
-) (list-at t) list.Post list-Inv-loop list-μ-loop
-list-same-length-4 t c = search needs
-
-list-returns-2 : (t : ℕ) → list-lts.Need-returns-2 (
-  close-reads.Asked,
-  close-reads.Learnt,
-  space-reads.Asked,
-  space-reads.Learnt,
-  form-below t,
-  form.Post,
-) (list-at t) list.Post list-Inv-loop list-μ-loop
-list-returns-2 t c = let a = c .before .before .before .before .before .before .before .before .before .before .args in let l = c .before .before .before .before .before .before .loop in walk-stop (specs.space >> specs.form a.depth) specs.close a.s.now a.at a.forms.now a.actions.now a.f a.n l.inv (place-no a.s.now l.i specs.close 1 (c .before .before .before .enum-told .given .1) (c .before .before .before .before .before .close .ensures)) (rw (place-no a.s.now l.i specs.space 1 (c .enum-told2 .given .1) (c .before .before .space .ensures)))
-
-list-form-requires : (t : ℕ) → list-lts.Need-form-requires (
-  close-reads.Asked,
-  close-reads.Learnt,
-  space-reads.Asked,
-  space-reads.Learnt,
-  form-below t,
-  form.Post,
-) (list-at t) list.Post list-Inv-loop list-μ-loop
-list-form-requires t c κs = let a = c .before .before .before .before .before .before .before .before .before .before .before .before .before .args in let l = c .before .before .before .before .before .before .before .before .before .loop in let x = place-at a.s.now l.i specs.space 1 (c .before .before .before .gap .given .1) (c .before .before .before .before .before .space .ensures) in (omega (arith, c .before .before .before .before .before .before .before .before .before .before .before .before .before .pre .0), ready-later (l.inv .ready) (omega (arith, x .past)) (x .within))
-
-list-enum-known-got : (t : ℕ) → list-lts.Need-enum-known-got (
-  close-reads.Asked,
-  close-reads.Learnt,
-  space-reads.Asked,
-  space-reads.Learnt,
-  form-below t,
-  form.Post,
-) (list-at t) list.Post list-Inv-loop list-μ-loop
-list-enum-known-got t c = search needs
-
-list-enum-told-3 : (t : ℕ) → list-lts.Need-enum-told-3 (
-  close-reads.Asked,
-  close-reads.Learnt,
-  space-reads.Asked,
-  space-reads.Learnt,
-  form-below t,
-  form.Post,
-) (list-at t) list.Post list-Inv-loop list-μ-loop
-list-enum-told-3 t c = search needs
-
-list-same-length-5 : (t : ℕ) → list-lts.Need-same-length-5 (
-  close-reads.Asked,
-  close-reads.Learnt,
-  space-reads.Asked,
-  space-reads.Learnt,
-  form-below t,
-  form.Post,
-) (list-at t) list.Post list-Inv-loop list-μ-loop
-list-same-length-5 t c = search needs
-
-list-same-length-6 : (t : ℕ) → list-lts.Need-same-length-6 (
-  close-reads.Asked,
-  close-reads.Learnt,
-  space-reads.Asked,
-  space-reads.Learnt,
-  form-below t,
-  form.Post,
-) (list-at t) list.Post list-Inv-loop list-μ-loop
-list-same-length-6 t c = search needs
-
-list-returns-3 : (t : ℕ) → list-lts.Need-returns-3 (
-  close-reads.Asked,
-  close-reads.Learnt,
-  space-reads.Asked,
-  space-reads.Learnt,
-  form-below t,
-  form.Post,
-) (list-at t) list.Post list-Inv-loop list-μ-loop
-list-returns-3 t c = let a = c .before .before .before .before .before .before .before .before .before .before .before .before .before .before .before .before .before .before .before .before .args in let l = c .before .before .before .before .before .before .before .before .before .before .before .before .before .before .before .before .loop in let x = place-at a.s.now l.i specs.space 1 (c .before .before .before .before .before .before .before .before .before .before .gap .given .1) (c .before .before .before .before .before .before .before .before .before .before .before .before .space .ensures) in walk-stop (specs.space >> specs.form a.depth) specs.close a.s.now a.at a.forms.now a.actions.now a.f a.n l.inv (place-no a.s.now l.i specs.close 1 (c .before .before .before .before .before .before .before .before .before .before .before .before .before .enum-told .given .1) (c .before .before .before .before .before .before .before .before .before .before .before .before .before .before .before .close .ensures)) (rw (x .finds) (got-no specs.count specs.actions (specs.form a.depth) a.s.now _ 8 l.forms (c .before .before .before .before .before .before .form .last .1 .1 .1 .0) l.actions (c .before .before .before .before .before .before .form .last .1 .1 .1 .1 .1 .0) l.g l.m (c .enum-told3 .given .1) (c .before .before .before .before .before .before .form .ensures)))
-
-list-loop-less : (t : ℕ) → list-lts.Need-loop-less (
-  close-reads.Asked,
-  close-reads.Learnt,
-  space-reads.Asked,
-  space-reads.Learnt,
-  form-below t,
-  form.Post,
-) (list-at t) list.Post list-Inv-loop list-μ-loop
-list-loop-less t c = let a = c .before .before .before .before .before .before .before .before .before .before .before .before .before .before .before .before .before .before .before .before .before .before .args in let l = c .before .before .before .before .before .before .before .before .before .before .before .before .before .before .before .before .before .before .loop in let x = place-at a.s.now l.i specs.space 1 (c .before .before .before .before .before .before .before .before .before .before .before .before .gap .given .1) (c .before .before .before .before .before .before .before .before .before .before .before .before .before .before .space .ensures) in let y = got-at specs.count specs.actions (specs.form a.depth) a.s.now _ 8 l.forms (c .before .before .before .before .before .before .before .before .form .last .1 .1 .1 .0) l.actions (c .before .before .before .before .before .before .before .before .form .last .1 .1 .1 .1 .1 .0) l.g l.m (c .before .before .got .given .1) (c .before .before .before .before .before .before .before .before .form .ensures) in omega (arith, x .past, y .1 .past, y .1 .within)
-
-list-loop-again : (t : ℕ) → list-lts.Need-loop-again (
-  close-reads.Asked,
-  close-reads.Learnt,
-  space-reads.Asked,
-  space-reads.Learnt,
-  form-below t,
-  form.Post,
-) (list-at t) list.Post list-Inv-loop list-μ-loop
-list-loop-again t c = let a = c .before .before .before .before .before .before .before .before .before .before .before .before .before .before .before .before .before .before .before .before .before .before .args in let l = c .before .before .before .before .before .before .before .before .before .before .before .before .before .before .before .before .before .before .loop in let x = place-at a.s.now l.i specs.space 1 (c .before .before .before .before .before .before .before .before .before .before .before .before .gap .given .1) (c .before .before .before .before .before .before .before .before .before .before .before .before .before .before .space .ensures) in let y = got-at specs.count specs.actions (specs.form a.depth) a.s.now _ 8 l.forms (c .before .before .before .before .before .before .before .before .form .last .1 .1 .1 .0) l.actions (c .before .before .before .before .before .before .before .before .form .last .1 .1 .1 .1 .1 .0) l.g l.m (c .before .before .got .given .1) (c .before .before .before .before .before .before .before .before .form .ensures) in walk-more (specs.space >> specs.form a.depth) specs.close a.s.now a.at a.forms.now a.actions.now a.f a.n l.inv (place-no a.s.now l.i specs.close 1 (c .before .before .before .before .before .before .before .before .before .before .before .before .before .before .before .enum-told .given .1) (c .before .before .before .before .before .before .before .before .before .before .before .before .before .before .before .before .before .close .ensures)) (rw (x .finds) (y .1 .finds)) (omega (arith, x .past, y .1 .past)) (y .1 .within) (y .2) (y .3) (c .before .before .before .before .before .before .before .before .form .kept .1 .1 .1 .0) (c .before .before .before .before .before .before .before .before .form .kept .1 .1 .1 .1 .1 .0)
-
-pub +form+list-spec : {M : Type 1} → statement M
-+form+list-spec = close μ-form μ-list (λ t. form-lts.spec (
+abbrev form-claims : ℕ → form-lts.Claims
+form-claims t = (
   head-reads.Asked,
   head-reads.Learnt,
   list-below t,
@@ -651,34 +59,215 @@ pub +form+list-spec : {M : Type 1} → statement M
   keep-reads.Asked,
   keep-reads.Learnt,
 )
+
+abbrev list-claims : ℕ → list-lts.Claims
+list-claims t = (
+  close-reads.Asked,
+  close-reads.Learnt,
+  space-reads.Asked,
+  space-reads.Learnt,
+  form-below t,
+  form.Post,
+)
+
+module _ (t : ℕ) where
+  -- where form was entered, from after its head
+  abbrev entered : form-lts.After-start (form-claims t) (form-at t) form.Post → form-lts.Start (form-claims t) (form-at t) form.Post
+  entered c = c .before .before .before .before .before .before .before .before .before
+
+  -- the head was read
+  head-read : (c : form-lts.After-start (form-claims t) (form-at t) form.Post) → let a = entered c .args in HeadIs a.s.now a.at (c .before .before .before .head .last .1 .1 .0) (start.Known (c .start .given .0 .0) (c .start .given .0 .1 .0))
+  head-read c = head-at _ _ _ (c .start .given .1) (c .before .before .before .head .ensures)
+
+  -- the forms of again were read
+  inner-read : (c : form-lts.After-inner (form-claims t) (form-at t) form.Post) → let a = entered (c .before .before .before .before .before .before .before .before .before .before .before) .args in let l = c .before .before .before .before .before .before .list .last .1 .1 .1 in let g = c .inner .given .0 in GotIs specs.counts specs.actionsOf (specs.list (specs.form (a.depth - 1))) a.s.now (c .before .before .before .before .before .before .before .before .before .before .before .start .given .0 .1 .0) 1 a.forms.now (l .0) a.actions.now (l .1 .1 .0) a.f a.n (got.At (g .0) (g .1 .0) (g .1 .1 .0) (g .1 .1 .1 .0))
+  inner-read c =
+      let a = entered (c .before .before .before .before .before .before .before .before .before .before .before) .args in
+      got-at specs.counts specs.actionsOf (specs.list (specs.form (a.depth - 1))) _ _ 1 _ _ _ _ _ _ (c .inner .given .1) (c .before .before .before .before .before .before .list .ensures)
+
+  -- the bracket of an action was read
+  end-read : (c : form-lts.After-end (form-claims t) (form-at t) form.Post) → Reads specs.close (entered (c .before .before .before .before .before) .args .s .now) (c .before .before .before .before .before .start .given .0 .1 .0) 1 tt (c .end .given .0 .0)
+  end-read c = place-at _ _ specs.close 1 (c .end .given .1) (c .before .before .close .ensures)
+
+  form-returns : form-lts.Need-returns (form-claims t) (form-at t) form.Post
+  form-returns c = form-none _ _ (c .if1 .taken)
+
+  form-head-requires : form-lts.Need-head-requires (form-claims t) (form-at t) form.Post
+  form-head-requires c κs = (c .before .before .before .before .before .pre .1 .here, search needs)
+
+  form-returns-2 : form-lts.Need-returns-2 (form-claims t) (form-at t) form.Post
+  form-returns-2 c =
+      let a = c .before .before .before .before .before .before .before .before .before .args in
+      form-no a.s.now a.at a.depth (c .before .before .before .before .before .if1 .left) (head-no a.s.now a.at _ (c .enum-told .given .1) (c .before .before .before .head .ensures))
+
+  form-list-requires : form-lts.Need-list-requires (form-claims t) (form-at t) form.Post
+  form-list-requires c κs =
+      let x = head-read (c .before .before .before .before) in
+      let e = entered (c .before .before .before .before) .pre in
+      (omega (arith, e .0, c .before .before .before .before .before .before .before .before .before .if1 .left), ready-later (e .1) (omega (arith, x .2 .past)) (x .2 .within))
+
+  form-returns-3 : form-lts.Need-returns-3 (form-claims t) (form-at t) form.Post
+  form-returns-3 c =
+      let a = entered (c .before .before .before .before .before .before .before .before .before .before .before) .args in
+      let x = head-read (c .before .before .before .before .before .before .before .before .before .before .before) in
+      again-no a.s.now a.at a.depth (c .before .before .before .before .before .before .before .before .before .before .before .before .before .before .before .before .if1 .left) _ (x .2) (sym (x .1) ∙ c .before .before .before .before .before .before .before .before .before .if2 .taken)
+      (got-no specs.counts specs.actionsOf (specs.list (specs.form (a.depth - 1))) _ _ 1 _ _ _ _ _ _ (c .enum-told2 .given .1) (c .before .before .before .before .before .before .list .ensures))
+
+  form-again-requires : form-lts.Need-again-requires (form-claims t) (form-at t) form.Post
+  form-again-requires c κs =
+      let p = entered (c .before .before .before .before .before .before .before .before .before .before .before .before .before) .pre .1 in
+      let y = inner-read (c .before .before) in
+      let same = c .before .before .before .before .before .before .before .before .list .kept .1 .1 .1 .1 .1 .0 in
+      (omega (arith, y .2 .forms .next), ((omega (arith, y .2 .acts .next), omega (arith, y .2 .room)), omega (arith, p .limit)))
+
+  form-returns-4 : form-lts.Need-returns-4 (form-claims t) (form-at t) form.Post
+  unfolding specs.count
+  form-returns-4 c =
+      let a = entered (c .before .before .before .before .before .before .before .before .before .before .before .before .before .before .before .before) .args in
+      let x = head-read (c .before .before .before .before .before .before .before .before .before .before .before .before .before .before .before .before) in
+      let y = inner-read (c .before .before .before .before .before) in
+      let g = c .before .before .again in
+      let whole = again-at a.s.now a.at a.depth (c .before .before .before .before .before .before .before .before .before .before .before .before .before .before .before .before .before .before .before .before .before .if1 .left) _ (x .2) (sym (x .1) ∙ c .before .before .before .before .before .before .before .before .before .before .before .before .before .before .if2 .taken) (y .1) in
+      let times = getD (c .before .before .before .before .before .before .before .before .before .before .before .before .before .before .before .before .before .before .before .head .last .1 .1 .0) 0 0 in
+      kept-got specs.count specs.actions (specs.form a.depth) a.s.now a.at 8 a.forms.now (c .before .before .before .before .before .before .before .before .before .before .before .list .last .1 .1 .1 .0) a.actions.now (g.last .0) a.f a.n (c .before .before .before .before .before .inner .given .0 .1 .1 .0) (specs.again times (y .0)) whole (y .3) g.result
+      (rw (actions-again times (y .0)) (g.ensures _ _ _ (specs.counts (y .0)) (specs.actionsOf (y .0)) (sym (c .before .before .before .before .before .before .before .before .before .before .before .list .kept .1 .1 .1 .1 .1 .0)) (y .2)))
+
+  form-close-requires : form-lts.Need-close-requires (form-claims t) (form-at t) form.Post
+  form-close-requires c κs = head-read (c .before .before) .2 .within
+
+  form-returns-5 : form-lts.Need-returns-5 (form-claims t) (form-at t) form.Post
+  form-returns-5 c =
+      let a = entered (c .before .before .before .before .before) .args in
+      let x = head-read (c .before .before .before .before .before) in
+      act-no a.s.now a.at a.depth (c .before .before .before .before .before .before .before .before .before .before .if1 .left) _ (x .2) (λ e. c .before .before .before .if2 .left (x .1 ∙ e)) (place-no _ _ specs.close 1 (c .enum-told3 .given .1) (c .before .before .close .ensures))
+
+  form-keep-requires : form-lts.Need-keep-requires (form-claims t) (form-at t) form.Post
+  form-keep-requires c κs =
+      let p = entered (c .before .before .before .before .before .before .before .before .before) .pre .1 in
+      let x = head-read (c .before .before .before .before .before .before .before .before .before) in
+      let y = end-read (c .before .before .before .before) in
+      (omega (arith, x .2 .past, y .past, y .within, p .few, p .table), (omega (arith, p .few, p .here, p .small), (p .room, search needs)))
+
+  form-returns-6 : form-lts.Need-returns-6 (form-claims t) (form-at t) form.Post
+  unfolding specs.count specs.actions
+  form-returns-6 c =
+      let a = entered (c .before .before .before .before .before .before .before .before .before .before .before .before .before .before) .args in
+      let p = entered (c .before .before .before .before .before .before .before .before .before .before .before .before .before .before) .pre .1 in
+      let x = head-read (c .before .before .before .before .before .before .before .before .before .before .before .before .before .before) in
+      let y = end-read (c .before .before .before .before .before .before .before .before .before) in
+      let k = c .before .before .before .before .keep in
+      let whole = act-at a.s.now a.at a.depth (c .before .before .before .before .before .before .before .before .before .before .before .before .before .before .before .before .before .before .before .if1 .left) _ (x .2) (λ e. c .before .before .before .before .before .before .before .before .before .before .before .before .if2 .left (x .1 ∙ e)) y in
+      kept-got specs.count specs.actions (specs.form a.depth) a.s.now a.at 8 a.forms.now (k.last .0) a.actions.now (k.last .1 .1 .0) a.f a.n (a.f + 1) (specs.act _) whole (omega (arith, x .2 .past, y .past, p .few)) k.result (rw (x .1) at k.ensures)
+
+abbrev list-Inv-loop : list-lts.InvT-loop
+list-Inv-loop s at depth forms₀ f actions₀ n i₀ g₀ m₀ over₀ forms actions i g m over = Walk (specs.space >> specs.form depth) specs.close s at forms₀ actions₀ f n forms actions i g m over
+
+abbrev list-μ-loop : list-lts.MeasureT-loop
+list-μ-loop s at depth forms₀ f actions₀ n i₀ g₀ m₀ over₀ forms actions i g m over = length s - i
+
+module _ (t : ℕ) where
+  -- the turn of list's loop, from after a test of its bracket, and from after a space
+  abbrev tested : list-lts.After-enum-told (list-claims t) (list-at t) list.Post list-Inv-loop list-μ-loop → list-lts.At-loop (list-claims t) (list-at t) list.Post list-Inv-loop list-μ-loop
+  tested c = c .before .before .before
+
+  abbrev spaced : list-lts.After-gap (list-claims t) (list-at t) list.Post list-Inv-loop list-μ-loop → list-lts.After-enum-told (list-claims t) (list-at t) list.Post list-Inv-loop list-μ-loop
+  spaced c = c .before .before .before
+
+  -- here is no bracket
+  end-no : (c : list-lts.After-enum-told (list-claims t) (list-at t) list.Post list-Inv-loop list-μ-loop) → specs.close (drop (tested c .loop .i) (tested c .before .before .before .before .args .s .now)) ≡ none
+  end-no c = place-no _ _ specs.close 1 (c .enum-told .given .1) (c .before .before .close .ensures)
+
+  -- a space was read
+  gap-read : (c : list-lts.After-gap (list-claims t) (list-at t) list.Post list-Inv-loop list-μ-loop) → Reads specs.space (tested (spaced c) .before .before .before .before .args .s .now) (tested (spaced c) .loop .i) 1 tt (c .gap .given .0 .0)
+  gap-read c = place-at _ _ specs.space 1 (c .gap .given .1) (c .before .before .space .ensures)
+
+  -- a form was read after the space
+  form-read : (c : list-lts.After-got (list-claims t) (list-at t) list.Post list-Inv-loop list-μ-loop) → let l = tested (spaced (c .before .before .before .before .before .before .before .before .before .before)) in let a = l .before .before .before .before .args in let b = c .before .before .before .before .before .before .form .last .1 .1 .1 in let g = c .got .given .0 in GotIs specs.count specs.actions (specs.form a.depth) a.s.now (c .before .before .before .before .before .before .before .before .before .before .gap .given .0 .0) 8 (l.loop .forms) (b .0) (l.loop .actions) (b .1 .1 .0) (l.loop .g) (l.loop .m) (got.At (g .0) (g .1 .0) (g .1 .1 .0) (g .1 .1 .1 .0))
+  form-read c =
+      let a = tested (spaced (c .before .before .before .before .before .before .before .before .before .before)) .before .before .before .before .args in
+      got-at specs.count specs.actions (specs.form a.depth) _ _ 8 _ _ _ _ _ _ (c .got .given .1) (c .before .before .before .before .before .before .form .ensures)
+
+  list-loop-holds : list-lts.Need-loop-holds (list-claims t) (list-at t) list.Post list-Inv-loop list-μ-loop
+  list-loop-holds c =
+      let a = c .before .before .before .args in
+      walk-start (specs.space >> specs.form a.depth) specs.close a.s.now a.at a.forms.now a.actions.now a.f a.n (c .before .before .before .pre .1)
+
+  list-close-requires : list-lts.Need-close-requires (list-claims t) (list-at t) list.Post list-Inv-loop list-μ-loop
+  list-close-requires c κs = c .loop .inv .ready .here
+
+  list-returns : list-lts.Need-returns (list-claims t) (list-at t) list.Post list-Inv-loop list-μ-loop
+  list-returns c =
+      let a = c .before .before .before .before .before .before .before .before .args in
+      let x = place-at _ _ specs.close 1 (c .before .end .given .1) (c .before .before .before .close .ensures) in
+      walk-end (specs.space >> specs.form a.depth) specs.close a.s.now a.at a.forms.now a.actions.now a.f a.n (c .before .before .before .before .loop .inv) 1 (x .finds) (x .past) (x .within)
+
+  list-space-requires : list-lts.Need-space-requires (list-claims t) (list-at t) list.Post list-Inv-loop list-μ-loop
+  list-space-requires c κs = tested c .loop .inv .ready .here
+
+  list-returns-2 : list-lts.Need-returns-2 (list-claims t) (list-at t) list.Post list-Inv-loop list-μ-loop
+  list-returns-2 c =
+      let l = tested (c .before .before .before) in
+      let a = l .before .before .before .before .args in
+      walk-stop (specs.space >> specs.form a.depth) specs.close a.s.now a.at a.forms.now a.actions.now a.f a.n (l.loop .inv) (end-no (c .before .before .before)) (rw (place-no a.s.now (l.loop .i) specs.space 1 (c .enum-told2 .given .1) (c .before .before .space .ensures)))
+
+  list-form-requires : list-lts.Need-form-requires (list-claims t) (list-at t) list.Post list-Inv-loop list-μ-loop
+  list-form-requires c κs =
+      let l = tested (spaced (c .before .before .before)) in
+      let x = gap-read (c .before .before .before) in
+      (omega (arith, l .before .before .before .before .pre .0), ready-later (l.loop .inv .ready) (omega (arith, x .past)) (x .within))
+
+  list-returns-3 : list-lts.Need-returns-3 (list-claims t) (list-at t) list.Post list-Inv-loop list-μ-loop
+  list-returns-3 c =
+      let l = tested (spaced (c .before .before .before .before .before .before .before .before .before .before)) in
+      let a = l .before .before .before .before .args in
+      let bad = got-no specs.count specs.actions (specs.form a.depth) _ _ 8 _ _ _ _ _ _ (c .enum-told3 .given .1) (c .before .before .before .before .before .before .form .ensures) in
+      walk-stop (specs.space >> specs.form a.depth) specs.close a.s.now a.at a.forms.now a.actions.now a.f a.n (l.loop .inv) (end-no (spaced (c .before .before .before .before .before .before .before .before .before .before))) (rw (gap-read (c .before .before .before .before .before .before .before .before .before .before) .finds) bad)
+
+  list-loop-less : list-lts.Need-loop-less (list-claims t) (list-at t) list.Post list-Inv-loop list-μ-loop
+  list-loop-less c =
+      let x = gap-read (c .before .before .before .before .before .before .before .before .before .before .before) in
+      let y = form-read (c .before) in
+      omega (arith, x .past, y .1 .past, y .1 .within)
+
+  list-loop-again : list-lts.Need-loop-again (list-claims t) (list-at t) list.Post list-Inv-loop list-μ-loop
+  list-loop-again c =
+      let l = tested (spaced (c .before .before .before .before .before .before .before .before .before .before .before)) in
+      let a = l .before .before .before .before .args in
+      let x = gap-read (c .before .before .before .before .before .before .before .before .before .before .before) in
+      let y = form-read (c .before) in
+      let same = c .before .before .before .before .before .before .before .form .kept .1 .1 .1 in
+      walk-more (specs.space >> specs.form a.depth) specs.close a.s.now a.at a.forms.now a.actions.now a.f a.n (l.loop .inv) (end-no (spaced (c .before .before .before .before .before .before .before .before .before .before .before))) (rw (x .finds) (y .1 .finds)) (omega (arith, x .past, y .1 .past)) (y .1 .within) (y .2) (y .3) (same .0) (same .1 .1 .0)
+
+pub +form+list-spec : {M : Type 1} → statement M
++form+list-spec = close μ-form μ-list (λ t. form-lts.spec (form-claims t)
     (form-at t)
     form.Post
     (form-returns t)
-    (form-slice-aggregate-head t)
+    (λ c. search needs)
     (form-head-requires t)
-    (form-enum-known-start t)
-    (form-enum-told t)
+    (λ c. search needs)
+    (λ c. search needs)
     (form-returns-2 t)
-    (form-sub-list t)
+    (λ c. search needs)
     (form-list-requires t)
-    (form-enum-known-inner t)
-    (form-enum-told-2 t)
-    (form-same-length t)
-    (form-same-length-2 t)
+    (λ c. search needs)
+    (λ c. search needs)
+    (λ c. search needs)
+    (λ c. search needs)
     (form-returns-3 t)
-    (form-array-read-again t)
+    (λ c. search needs)
     (form-again-requires t)
-    (form-same-length-3 t)
-    (form-same-length-4 t)
+    (λ c. search needs)
+    (λ c. search needs)
     (form-returns-4 t)
     (form-close-requires t)
-    (form-enum-known-end t)
-    (form-enum-told-3 t)
+    (λ c. search needs)
+    (λ c. search needs)
     (form-returns-5 t)
-    (form-slice-aggregate-keep t)
+    (λ c. search needs)
     (form-keep-requires t)
-    (form-same-length-5 t)
-    (form-same-length-6 t)
+    (λ c. search needs)
+    (λ c. search needs)
     (form-returns-6 t))
     λ t. list-lts.spec (
       close-reads.Asked,
@@ -694,22 +283,22 @@ pub +form+list-spec : {M : Type 1} → statement M
     list-μ-loop
     (list-loop-holds t)
     (list-close-requires t)
-    (list-enum-known-end t)
-    (list-same-length t)
-    (list-same-length-2 t)
+    (λ c. search needs)
+    (λ c. search needs)
+    (λ c. search needs)
     (list-returns t)
-    (list-enum-told t)
+    (λ c. search needs)
     (list-space-requires t)
-    (list-enum-known-gap t)
-    (list-enum-told-2 t)
-    (list-same-length-3 t)
-    (list-same-length-4 t)
+    (λ c. search needs)
+    (λ c. search needs)
+    (λ c. search needs)
+    (λ c. search needs)
     (list-returns-2 t)
     (list-form-requires t)
-    (list-enum-known-got t)
-    (list-enum-told-3 t)
-    (list-same-length-5 t)
-    (list-same-length-6 t)
+    (λ c. search needs)
+    (λ c. search needs)
+    (λ c. search needs)
+    (λ c. search needs)
     (list-returns-3 t)
     (list-loop-less t)
     (list-loop-again t)

@@ -1,12 +1,13 @@
 use borrow.Author.Needs.{needs}
 use native.Mathlib.Omega.{arith}
 use lib.ListN.{length-set}
+use mathlib.Core.Path.{refl}
 use Rattle.session_reader.proofs.Standing.{keep-over, keep-one}
 use Rattle.session_reader.proofs.forms.keep.Statement.{statement}
 use Rattle.session_reader.proofs.forms.keep.Tie as tie
 
 returns : tie.Need-returns
-returns c = let a = c .before .args in (keep-over a.forms.now a.actions.now a.f a.n a.kind a.numbers.now (omega arith) (omega arith) (c .if1 .taken) _, search needs)
+returns c = let a = c .before .args in (refl, keep-over a.forms.now a.actions.now a.f a.n a.kind a.numbers.now (omega arith) (omega arith) (c .if1 .taken) _, search needs)
 
 mul-at : tie.Need-mul-at
 mul-at c = search needs
@@ -74,11 +75,11 @@ mul-actions c = search needs
 slice-write-actions : tie.Need-slice-write-actions
 slice-write-actions c = search needs
 
-add-t13 : tie.Need-add-t13
-add-t13 c = search needs
+add-t14 : tie.Need-add-t14
+add-t14 c = search needs
 
-add-t8 : tie.Need-add-t8
-add-t8 c = search needs
+add-t9 : tie.Need-add-t9
+add-t9 c = search needs
 
 same-length : tie.Need-same-length
 same-length c = search needs
@@ -87,7 +88,7 @@ same-length-2 : tie.Need-same-length-2
 same-length-2 c = search needs
 
 returns-2 : tie.Need-returns-2
-returns-2 c = let a = c .before .before .before .before .before .args in (keep-one a.forms.now a.actions.now a.f a.n a.kind a.numbers.now (omega arith) (omega arith) (omega arith), search needs)
+returns-2 c = let a = c .before .before .before .before .before .args in (refl, keep-one a.forms.now a.actions.now a.f a.n a.kind a.numbers.now (omega arith) (omega arith) (omega arith), search needs)
 
 pub keep-spec : {M : Type 1} → statement M
 keep-spec =
@@ -116,8 +117,8 @@ keep-spec =
     cast-actions
     mul-actions
     slice-write-actions
-    add-t13
-    add-t8
+    add-t14
+    add-t9
     same-length
     same-length-2
     returns-2)

@@ -2,6 +2,8 @@ use borrow.Author.Needs.{needs}
 use native.Mathlib.Omega.{arith}
 use Rattle.session_reader.proofs.Walks.{got-at, got-no, Walk, walk-start, walk-end, walk-stop, walk-more, finish-no, finish-at}
 use Rattle.session_reader.specs.Session as specs
+use Rattle.session_reader.specs.Answers.{GotIs}
+use Rattle.session_reader.specs.declared.forms.Got.the-variants as got
 use lib.ListN.{length}
 use Prim.Native.Nat.{_+_, _-_}
 use Rattle.session_reader.proofs.forms.lines.Statement.{statement}
@@ -19,35 +21,35 @@ loop-holds c = let a = c .before .before .before .args in walk-start specs.line 
 line-requires : tie.Need-line-requires Inv-loop μ-loop
 line-requires c κs = c .before .before .before .loop .inv .ready
 
-enum-known-got : tie.Need-enum-known-got Inv-loop μ-loop
-enum-known-got c = search needs
-
-enum-told : tie.Need-enum-told Inv-loop μ-loop
-enum-told c = search needs
-
-same-length : tie.Need-same-length Inv-loop μ-loop
-same-length c = search needs
-
-same-length-2 : tie.Need-same-length-2 Inv-loop μ-loop
-same-length-2 c = search needs
+-- a line was read
+line-read : (c : tie.After-got Inv-loop μ-loop) → let s = c .before .before .before .before .before .before .before .before .before .before .before .before .before .before .args .s .now in let l = c .before .before .before .before .before .before .before .before .before .before .loop in let b = c .before .before .before .before .before .before .line .last .1 .1 in let g = c .got .given .0 in GotIs specs.count specs.actions specs.line s l.i 8 l.forms (b .0) l.actions (b .1 .1 .0) l.g l.m (got.At (g .0) (g .1 .0) (g .1 .1 .0) (g .1 .1 .1 .0))
+line-read c = got-at specs.count specs.actions specs.line _ _ 8 _ _ _ _ _ _ (c .got .given .1) (c .before .before .before .before .before .before .line .ensures)
 
 returns : tie.Need-returns Inv-loop μ-loop
-returns c = let a = c .before .before .before .before .before .before .before .before .before .before .before .before .before .before .args in let l = c .before .before .before .before .before .before .before .before .before .before .loop in walk-stop specs.line specs.finish a.s.now a.at a.forms.now a.actions.now 0 0 l.inv (finish-no a.s.now l.i (c .before .before .before .before .before .before .before .before .before .loop-test .taken)) (got-no specs.count specs.actions specs.line a.s.now l.i 8 l.forms (c .before .before .before .before .before .before .line .last .1 .1 .0) l.actions (c .before .before .before .before .before .before .line .last .1 .1 .1 .1 .0) l.g l.m (c .enum-told .given .1) (c .before .before .before .before .before .before .line .ensures))
+returns c =
+    let a = c .before .before .before .before .before .before .before .before .before .before .before .before .before .before .args in
+    let l = c .before .before .before .before .before .before .before .before .before .before .loop in
+    let bad = got-no specs.count specs.actions specs.line _ _ 8 _ _ _ _ _ _ (c .enum-told .given .1) (c .before .before .before .before .before .before .line .ensures) in
+    walk-stop specs.line specs.finish a.s.now a.at a.forms.now a.actions.now 0 0 l.inv (finish-no a.s.now l.i (c .before .before .before .before .before .before .before .before .before .loop-test .taken)) bad
 
 loop-less : tie.Need-loop-less Inv-loop μ-loop
-loop-less c = let a = c .before .before .before .before .before .before .before .before .before .before .before .before .before .before .before .before .args in let l = c .before .before .before .before .before .before .before .before .before .before .before .before .loop in let x = got-at specs.count specs.actions specs.line a.s.now l.i 8 l.forms (c .before .before .before .before .before .before .before .before .line .last .1 .1 .0) l.actions (c .before .before .before .before .before .before .before .before .line .last .1 .1 .1 .1 .0) l.g l.m (c .before .before .got .given .1) (c .before .before .before .before .before .before .before .before .line .ensures) in omega (arith, x .1 .past, x .1 .within)
+loop-less c =
+    let x = line-read (c .before) in
+    omega (arith, x .1 .past, x .1 .within)
 
 loop-again : tie.Need-loop-again Inv-loop μ-loop
-loop-again c = let a = c .before .before .before .before .before .before .before .before .before .before .before .before .before .before .before .before .args in let l = c .before .before .before .before .before .before .before .before .before .before .before .before .loop in let x = got-at specs.count specs.actions specs.line a.s.now l.i 8 l.forms (c .before .before .before .before .before .before .before .before .line .last .1 .1 .0) l.actions (c .before .before .before .before .before .before .before .before .line .last .1 .1 .1 .1 .0) l.g l.m (c .before .before .got .given .1) (c .before .before .before .before .before .before .before .before .line .ensures) in walk-more specs.line specs.finish a.s.now a.at a.forms.now a.actions.now 0 0 l.inv (finish-no a.s.now l.i (c .before .before .before .before .before .before .before .before .before .before .before .loop-test .taken)) (x .1 .finds) (omega (arith, x .1 .past)) (x .1 .within) (x .2) (x .3) (c .before .before .before .before .before .before .before .before .line .kept .1 .1 .0) (c .before .before .before .before .before .before .before .before .line .kept .1 .1 .1 .1 .0)
-
-same-length-3 : tie.Need-same-length-3 Inv-loop μ-loop
-same-length-3 c = search needs
-
-same-length-4 : tie.Need-same-length-4 Inv-loop μ-loop
-same-length-4 c = search needs
+loop-again c =
+    let a = c .before .before .before .before .before .before .before .before .before .before .before .before .before .before .before .args in
+    let l = c .before .before .before .before .before .before .before .before .before .before .before .loop in
+    let x = line-read (c .before) in
+    let same = c .before .before .before .before .before .before .before .line .kept .1 .1 in
+    walk-more specs.line specs.finish a.s.now a.at a.forms.now a.actions.now 0 0 l.inv (finish-no a.s.now l.i (c .before .before .before .before .before .before .before .before .before .before .loop-test .taken)) (x .1 .finds) (omega (arith, x .1 .past)) (x .1 .within) (x .2) (x .3) (same .0) (same .1 .1 .0)
 
 returns-2 : tie.Need-returns-2 Inv-loop μ-loop
-returns-2 c = let a = c .before .before .before .before .before .args in let l = c .before .loop in walk-end specs.line specs.finish a.s.now a.at a.forms.now a.actions.now 0 0 l.inv 0 (finish-at a.s.now l.i (c .loop-test .left)) (omega arith) (l.inv .ready .here)
+returns-2 c =
+    let a = c .before .before .before .before .before .args in
+    let l = c .before .loop in
+    walk-end specs.line specs.finish a.s.now a.at a.forms.now a.actions.now 0 0 l.inv 0 (finish-at a.s.now l.i (c .loop-test .left)) (omega arith) (l.inv .ready .here)
 
 pub lines-spec : {M : Type 1} → statement M
 lines-spec =
@@ -57,13 +59,13 @@ lines-spec =
     μ-loop
     loop-holds
     line-requires
-    enum-known-got
-    enum-told
-    same-length
-    same-length-2
+    (λ c. search needs)
+    (λ c. search needs)
+    (λ c. search needs)
+    (λ c. search needs)
     returns
     loop-less
     loop-again
-    same-length-3
-    same-length-4
+    (λ c. search needs)
+    (λ c. search needs)
     returns-2)
