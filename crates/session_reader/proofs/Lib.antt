@@ -1,4 +1,3 @@
-mod Shapes
 mod Counted
 mod Arms
 mod Turns

@@ -2,7 +2,6 @@
 mod forms;
 mod items;
 mod opening;
-mod shape;
 
 ghost use mathlib.Core.Path.{_≡_};
 ghost use Prim.Native.Nat.{_*_, _≤_};
@@ -40,7 +39,7 @@ fn read(file: &[u8], values: &mut [u32], kept: &mut [u32], actions: &mut [u32]) 
     if 65536 < file.len() {
         return Reading::Bad(12);
     }
-    if !shape::shaped(file) {
+    if !session_shape::shaped(file) {
         return Reading::Bad(13);
     }
     let first = opening::opening(file, values);

@@ -10,6 +10,7 @@ use Rattle.cells.specs.Open.{opened}
 use Rattle.cells.specs.Begin.{readBegun, swapBegun}
 use Rattle.cells.specs.Step.{ran, stepped}
 use Rattle.cells.specs.Look.{looked}
+use Rattle.session_shape.specs.Shape.{fits, deeper, shapedAfter}
 use Rattle.session_reader.specs.Session as reader
 use Rattle.session_runner.specs.Lines.{numbers, doneStart}
 use Rattle.session_runner.specs.Printed.{reported, cellLines, pending, closed, played, started, printed}
@@ -48,5 +49,5 @@ prints :
     ("(open 2 1 5 (5))\n(read 1 0)\n(step 0)\n(step 1)\n", "(no 1 11)\n(cell 0 5)\n(end 0 1 0 0)\n") ∷
     []
     )
-unfolding digits word digitsAfter number fit recordFit cellsFit recordsFit hasNone openQuestions isCurrent isHeld used unused opened readBegun swapBegun ran stepped looked reader.fits reader.deeper reader.shapedAfter reader.numbers reader.manyWithin reader.values reader.opening reader.keyword reader.head reader.body reader.form reader.line reader.count reader.times reader.actions reader.counted reader.formed reader.verdict numbers doneStart reported cellLines pending closed played started printed reader.played
+unfolding digits word digitsAfter number fit recordFit cellsFit recordsFit hasNone openQuestions isCurrent isHeld used unused opened readBegun swapBegun ran stepped looked fits deeper shapedAfter reader.numbers reader.manyWithin reader.values reader.opening reader.keyword reader.head reader.body reader.form reader.line reader.count reader.times reader.actions reader.counted reader.formed reader.verdict numbers doneStart reported cellLines pending closed played started printed reader.played
 prints = (refl, (refl, (refl, (refl, (refl, (refl, (refl, (refl, (refl, (refl, (refl, (refl, (refl, (refl, (refl, tt)))))))))))))))

@@ -4,6 +4,7 @@ use Rattle.session_reader.proofs.Verdicts.{opened-at, opened-no, is-12,
 use Rattle.session_reader.proofs.Walks.{got-at, got-no}
 use Rattle.session_reader.proofs.Standing.{whole, spilled}
 use Rattle.session_reader.proofs.Keeping.{stands-named}
+use Rattle.session_shape.specs.Shape as shape
 use Rattle.session_reader.specs.Session as specs
 use Rattle.session_reader.specs.Answers.{OpenedIs, GotIs}
 use Rattle.session_reader.specs.declared.opening.Opened.the-variants as opened
@@ -24,7 +25,7 @@ file c = c .before .before .before .before .before .before .before .args .file .
 short : (c : tie.Else2) → length (file c) ≤ 65536
 short c = c .before .before .if1 .left
 
-shaped : (c : tie.Else2) → specs.shaped (file c) ≡ true
+shaped : (c : tie.Else2) → shape.shaped (file c) ≡ true
 shaped c = sym (c .before .shaped .ensures) ∙ not-false (c .before .shaped .result) (c .if2 .left)
 
 -- the first line was read

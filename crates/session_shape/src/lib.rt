@@ -1,8 +1,7 @@
-// Question 13: brackets, spaces and lines.
+// Question 13 of a session file: brackets, spaces and lines.
 ghost use mathlib.Core.Path.{_≡_};
-ghost use Prim.Native.Nat.{_<_, _≤_};
-ghost use lib.ListN.{length};
-ghost use Rattle.session_reader.specs.Session.{fits as «fitsOf», deeper as «deeperOf», shaped as «shapedOf»};
+ghost use Prim.Native.Nat.{_<_};
+ghost use Rattle.session_shape.specs.Shape.{fits as «fitsOf», deeper as «deeperOf», shaped as «shapedOf»};
 
 // Whether b may stand after p, with d brackets open.
 fn fits(d: usize, p: u8, b: u8) -> bool
@@ -34,8 +33,8 @@ fn deeper(d: usize, b: u8) -> usize
     d
 }
 
+// Whether the text is forms in brackets, one a line.
 pub fn shaped(s: &[u8]) -> bool
-    requires { ⌜ length (now s) ≤ 65536 ⌝ }
     ensures { λ r. ⌜ r ≡ «shapedOf» (now (s .entry)) ⌝ }
 {
     let mut d = 0;

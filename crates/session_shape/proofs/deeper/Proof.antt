@@ -1,9 +1,9 @@
 use borrow.Author.Needs.{needs}
 use native.Mathlib.Omega.{arith}
-use Rattle.session_reader.specs.Session.{deeper}
+use Rattle.session_shape.specs.Shape.{deeper}
 use borrow.Author.Tests.{eq-eqb, ne-eqb}
-use Rattle.session_reader.proofs.shape.deeper.Statement.{statement}
-use Rattle.session_reader.proofs.shape.deeper.Tie as tie
+use Rattle.session_shape.proofs.deeper.Statement.{statement}
+use Rattle.session_shape.proofs.deeper.Tie as tie
 
 add-result : tie.Need-add-result
 add-result c = search needs

@@ -1,9 +1,9 @@
 use borrow.Author.Needs.{needs}
 use native.Mathlib.Omega.{arith}
-use Rattle.session_reader.specs.Session.{fits}
+use Rattle.session_shape.specs.Shape.{fits}
 use borrow.Author.Tests.{ne-eqb}
-use Rattle.session_reader.proofs.shape.fits.Statement.{statement}
-use Rattle.session_reader.proofs.shape.fits.Tie as tie
+use Rattle.session_shape.proofs.fits.Statement.{statement}
+use Rattle.session_shape.proofs.fits.Tie as tie
 
 returns : tie.Need-returns
 unfolding fits
