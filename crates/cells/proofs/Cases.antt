@@ -10,7 +10,7 @@ use Rattle.cells.specs.declared.Outcome.{Outcome}
 use Rattle.cells.specs.declared.Outcome.the-variants.{Refused, Acted, Ended}
 use Rattle.lines.specs.Record.{noValue, idle}
 use Rattle.questions.specs.Questions.{hasNone, openQuestions, recordFit, cellsFit, recordsFit, fit}
-use Rattle.cells.specs.Blocks.{isCurrent, isHeld, used, unused}
+use Rattle.blocks.specs.Blocks.{isCurrent, isHeld, used, unused}
 use Rattle.cells.specs.Open.{After, opened}
 use Rattle.cells.specs.Begin.{readBegun, swapBegun}
 use Rattle.cells.specs.Step.{ran, stepped}

@@ -1,10 +1,7 @@
-pub mod Counting
-pub mod Unused
 pub mod Words
 pub mod Cases
 pub mod Parts
 pub mod TurnLaw
-pub mod Search
 pub mod Replies
 pub mod Stepping
 pub mod Filling

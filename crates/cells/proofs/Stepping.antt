@@ -13,12 +13,12 @@ use Rattle.lines.specs.declared.Record.{Record}
 use Rattle.questions.specs.declared.State.{State}
 use Rattle.lines.specs.Record.{recordAt}
 use Rattle.questions.specs.Questions.{Question, refusal, recordFit, busyTests, recordsFit, fit, fitTests, stepQuestions}
-use Rattle.cells.specs.Blocks.{unused}
+use Rattle.blocks.specs.Blocks.{unused}
 use Rattle.cells.specs.Step.{current, stepped}
 use Rattle.cells.specs.Turn.{turn, There, Ready}
 use Rattle.questions.proofs.Tests.{answers, all-yes, all-at, nth}
 use Rattle.questions.proofs.Fits.{sizes}
-use Rattle.cells.proofs.Search.{unused-below}
+use Rattle.blocks.proofs.Search.{unused-below}
 use Rattle.cells.proofs.TurnLaw.{putBack, ran-turn, ready, turn-free}
 
 -- the block handed to a turn: what the search finds, where the line is one that asks

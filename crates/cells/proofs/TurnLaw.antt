@@ -21,7 +21,7 @@ use Rattle.lines.specs.Record.{noValue}
 use Rattle.lines.specs.Lines.{Line, l1, l2, l3, l10, l11, l12, l15, l16, l17, l18, l19, l20, l21, l22, l23, l24, l26, l27, l29, l30, nowhere, lineOf, accessAt, accessOf, nextAt, nextOf, counted}
 use Rattle.cells.specs.Pool.{word}
 use Rattle.questions.specs.Questions.{recordFit, busyTests, holds, installs}
-use Rattle.cells.specs.Blocks.{unused}
+use Rattle.blocks.specs.Blocks.{unused}
 use Rattle.cells.specs.Open.{After}
 use Rattle.cells.specs.Step.{Memory, memory, current, perform, followed, ran}
 use Rattle.cells.specs.Turn.{Touched, performed, Turned, ending, turn, Reaches, Ready}

@@ -1,5 +1,4 @@
 pub mod Pool
-pub mod Blocks
 pub mod Open
 pub mod Begin
 pub mod Step

@@ -17,7 +17,7 @@ use Rattle.lines.specs.Record.{noValue, idle, recordAt}
 use Rattle.lines.specs.Lines.{accessOf, nextOf}
 use Rattle.cells.specs.Pool.{word, setWord, fill}
 use Rattle.questions.specs.Questions.{refusal, fit, stepQuestions}
-use Rattle.cells.specs.Blocks.{unused}
+use Rattle.blocks.specs.Blocks.{unused}
 use Rattle.cells.specs.Open.{After, unless}
 use Rattle.cells.specs.Begin.{withRecord}
 

@@ -10,7 +10,6 @@ ghost use Rattle.cells.specs.Step.{stepped};
 ghost use Rattle.cells.specs.Lent.{isRefused, lent, steppedLent};
 ghost use Rattle.cells.specs.Look.{looked, shownValue};
 
-pub mod blocks;
 mod opening;
 mod pool;
 pub mod turn;

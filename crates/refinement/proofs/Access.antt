@@ -12,9 +12,9 @@ use Rattle.lines.specs.declared.Access.the-variants.{LoadCell, Load, Store, Dec
 use Rattle.lines.specs.Record.{noValue}
 use Rattle.lines.specs.Lines.{hardware}
 use Rattle.cells.specs.Pool.{setWord}
-use Rattle.cells.specs.Blocks.{unused}
+use Rattle.blocks.specs.Blocks.{unused}
 use Rattle.cells.specs.Step.{Memory, memory, perform, current, withCurrent}
-use Rattle.cells.proofs.Unused.{Found}
+use Rattle.blocks.proofs.Unused.{Found}
 use Rattle.figure.specs.Figure.{World, install}
 use Rattle.figure.specs.Figure
 use Rattle.refinement.proofs.Agree.{Links, Agree}

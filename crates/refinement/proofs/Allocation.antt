@@ -7,7 +7,7 @@ use native.Mathlib.Omega.{arith}
 use Rattle.questions.specs.declared.State.{State}
 use Rattle.lines.specs.declared.Field.{Field}
 use Rattle.cells.specs.Pool.{fill, fresh}
-use Rattle.cells.specs.Blocks.{used}
+use Rattle.blocks.specs.Blocks.{used}
 use Rattle.cells.specs.Step.{withLast}
 use Rattle.cells.proofs.Words.{fields, fill-here, fill-else, length-fill}
 use Rattle.history.specs.Basics.{upd}

@@ -12,7 +12,7 @@ use Rattle.questions.specs.declared.State.{State}
 use Rattle.lines.specs.Basics.{ands}
 use Rattle.lines.specs.Record.{isIdle, recordAt}
 use Rattle.questions.specs.Questions.{holds, installs, busyTests, recordFit, cellsFit, recordsFit, fit}
-use Rattle.cells.specs.Blocks.{isCurrent, isHeld, used, usesBlock}
+use Rattle.blocks.specs.Blocks.{isCurrent, isHeld, used, usesBlock}
 use Rattle.cells.specs.Step.{current}
 use Rattle.questions.proofs.Tests.{both, implied, or-left, or-right, all-from, none-of}
 use Rattle.figure.specs.Figure.{World}

@@ -11,9 +11,9 @@ use Rattle.lines.specs.declared.Next.the-variants.{Go, Done}
 use Rattle.lines.specs.Lines.{Line, for13, for25, for28, l1, l2, l3, l10, l11, l12, l15, l16, l17, l18, l19, l20, l21, l22, l23, l24, l26, l27, l29, l30, nowhere, at, goto, decide, accessAt, nextAt}
 use Rattle.lines.specs.Lines
 use Rattle.questions.specs.Questions.{ofKind}
-use Rattle.cells.specs.Blocks.{unused}
+use Rattle.blocks.specs.Blocks.{unused}
 use Rattle.questions.proofs.Numbers.{number}
-use Rattle.cells.proofs.Unused.{Found}
+use Rattle.blocks.proofs.Unused.{Found}
 use Rattle.refinement.specs.Terms.{named}
 use Rattle.refinement.proofs.Agree.{Links, Task, holdsAt, installsAt}
 use Rattle.refinement.proofs.Access.{Linked, loadCell, load, store, decideCas, installCas, allocate, Answers}

@@ -22,7 +22,7 @@ use Rattle.cells.specs.Begin.{readBegun, swapBegun, started}
 use Rattle.cells.specs.Step.{Memory, perform, followed, ran, stepped}
 use Rattle.questions.proofs.Tests.{nth, answers, all-yes}
 use Rattle.questions.proofs.Numbers.{number, at-number}
-use Rattle.cells.proofs.Unused.{one-is-unused}
+use Rattle.blocks.proofs.Unused.{one-is-unused}
 use Rattle.history.specs.History.{Op, read, swap, begin, step, Event}
 use Rattle.figure.specs.Figure.{Cell, World, withBoth, leaving, recordAfter, outcomeOf, beginEvent, stepEvent, tried, figure}
 use Rattle.figure.specs.Figure

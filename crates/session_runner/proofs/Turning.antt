@@ -18,12 +18,12 @@ use Rattle.questions.proofs.Tests.{answers, all-yes, nth, within-true}
 use Rattle.questions.proofs.Fits.{sizes}
 use Rattle.cells.specs.declared.Outcome.{Outcome}
 use Rattle.cells.specs.declared.Outcome.the-variants.{Refused, Acted}
-use Rattle.cells.specs.Blocks.{unused, found}
+use Rattle.blocks.specs.Blocks.{unused, found}
 use Rattle.cells.specs.Open.{After, leaving, unless}
 use Rattle.cells.specs.Begin.{started, begun, readBegun, swapBegun}
 use Rattle.cells.specs.Step.{current, ran, stepped}
 use Rattle.cells.specs.Turn.{Turned, turned, turn, There, Ready}
-use Rattle.cells.proofs.Search.{finds, can-search}
+use Rattle.blocks.proofs.Search.{finds, can-search}
 use Rattle.cells.proofs.TurnLaw.{putBack}
 use Rattle.cells.proofs.Stepping.{Free, Acting, own-acting}
 use Rattle.history.specs.History.{begin}

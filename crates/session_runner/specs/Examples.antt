@@ -5,7 +5,7 @@ use Prim.Native.String.{String}
 use Rattle.text.specs.Bytes.{bytes, digits}
 use Rattle.text.specs.Readers.{word, digitsAfter, number}
 use Rattle.questions.specs.Questions.{fit, recordFit, cellsFit, recordsFit, hasNone, openQuestions}
-use Rattle.cells.specs.Blocks.{isCurrent, isHeld, used, unused}
+use Rattle.blocks.specs.Blocks.{isCurrent, isHeld, used, unused}
 use Rattle.cells.specs.Open.{opened}
 use Rattle.cells.specs.Begin.{readBegun, swapBegun}
 use Rattle.cells.specs.Step.{ran, stepped}

@@ -1,7 +1,7 @@
 // One action on a state that is known to be fit, told numbers only: nothing copies the state, and nobody asks question 6.
 use crate::actions::Action;
+use blocks::Found;
 use cells::Outcome;
-use cells::blocks::Found;
 use cells::turn::Turn;
 use cells::turn::take_turn;
 use lines::Record;
@@ -14,7 +14,7 @@ ghost use mathlib.Core.List.{List};
 ghost use Prim.Native.Nat.{ℕ};
 ghost use lib.ListN.{length};
 ghost use Rattle.cells.specs.declared.Outcome.the-variants.{Refused};
-ghost use Rattle.cells.specs.Blocks.{foundOf};
+ghost use Rattle.blocks.specs.Blocks.{foundOf};
 ghost use Rattle.cells.specs.Turn.{turned};
 ghost use Rattle.session_runner.specs.Printed.{taskOf};
 ghost use Rattle.session_runner.specs.Actions.{actOf};

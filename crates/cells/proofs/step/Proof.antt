@@ -11,10 +11,10 @@ use denote.Ref.{now}
 use Rattle.lines.specs.declared.Record.{Record}
 use Rattle.lines.specs.Record.{isIdle, recordAt}
 use Rattle.questions.specs.Questions.{Question, refusal, fit}
-use Rattle.cells.specs.Blocks.{foundOf}
+use Rattle.blocks.specs.Blocks.{foundOf}
 use Rattle.cells.specs.Step.{ran, stepped}
 use Rattle.cells.proofs.Replies.{is-refused, is-allowed, asked-of, task-below}
-use Rattle.cells.proofs.Search.{finds, can-search}
+use Rattle.blocks.proofs.Search.{finds, can-search}
 use Rattle.cells.proofs.Stepping.{Free, Acting, asked, acting}
 use Rattle.cells.proofs.TurnLaw.{putBack}
 use borrow.Author.Needs.{needs}

@@ -1,7 +1,7 @@
 use borrow.Author.Needs.{needs}
 use mathlib.Core.Path.{sym, _∙_}
 use denote.Ref.{now}
-use Rattle.cells.specs.Blocks.{foundOf}
+use Rattle.blocks.specs.Blocks.{foundOf}
 use Rattle.cells.proofs.TurnLaw.{turns}
 use Rattle.cells.proofs.turn.take_turn.Statement.{statement}
 use Rattle.cells.proofs.turn.take_turn.Tie as tie

@@ -6,7 +6,7 @@ use Prim.Native.Nat.{_-_, _*_, _≤_, _<_}
 use lib.ListN.{length, drop}
 use mathlib.Core.Logic.{inl, inr, ⊎-elim}
 use Rattle.lines.specs.Record.{recordAt}
-use Rattle.cells.specs.Blocks.{foundOf}
+use Rattle.blocks.specs.Blocks.{foundOf}
 use Rattle.cells.proofs.Stepping.{Free}
 use Rattle.refinement.specs.Reached.{Reached}
 use Rattle.session_reader.specs.Reading.{actAt}

@@ -7,8 +7,8 @@ use native.Mathlib.Omega.{arith}
 use lib.Dec.{leb, ltb}
 use borrow.Author.Tests.{le-leb, lt-ltb, leb-true, ltb-true}
 use Rattle.questions.specs.declared.State.{State}
-use Rattle.cells.specs.Blocks.{used, after, unusedFrom, unused, searchable, found}
-use Rattle.cells.proofs.Unused.{after-below}
+use Rattle.blocks.specs.Blocks.{used, after, unusedFrom, unused, searchable, found}
+use Rattle.blocks.proofs.Unused.{after-below}
 
 less : (k : ℕ) → 0 < k → k ≡ suc (k - 1)
 less k h = omega arith

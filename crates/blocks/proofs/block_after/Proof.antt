@@ -1,8 +1,8 @@
 -- Each return by the test that led to it.
 use borrow.Author.Tests.{eq-eqb, ne-eqb}
 use borrow.Author.Needs.{needs}
-use Rattle.cells.proofs.blocks.block_after.Statement.{statement}
-use Rattle.cells.proofs.blocks.block_after.Tie as tie
+use Rattle.blocks.proofs.block_after.Statement.{statement}
+use Rattle.blocks.proofs.block_after.Tie as tie
 
 add-if1 : tie.Need-add-if1
 add-if1 c = search needs

@@ -4,7 +4,7 @@ ghost use lib.Dec.{eqb};
 ghost use lib.ListN.{getD};
 ghost use Prim.Native.Nat.{_≤_, _<_};
 ghost use Rattle.lines.specs.Basics.{anyFrom};
-ghost use Rattle.cells.specs.Blocks.{usesBlock, used, after, found, foundOf};
+ghost use Rattle.blocks.specs.Blocks.{usesBlock, used, after, found, foundOf};
 use lines::Record;
 use questions::State;
 

@@ -6,8 +6,8 @@ use lib.Dec.{eqb, leb, ltb}
 use lib.ListN.{getD}
 use Rattle.lines.specs.declared.Record.{Record}
 use Rattle.questions.specs.declared.State.{State}
-use Rattle.cells.specs.declared.blocks.Found.{Found}
-use Rattle.cells.specs.declared.blocks.Found.the-variants.{At, Nowhere}
+use Rattle.blocks.specs.declared.Found.{Found}
+use Rattle.blocks.specs.declared.Found.the-variants.{At, Nowhere}
 use Rattle.lines.specs.Basics.{anyFrom}
 use Rattle.lines.specs.Record.{isIdle, recordAt}
 use Rattle.questions.specs.Questions.{holds, installs}

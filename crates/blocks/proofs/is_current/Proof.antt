@@ -12,8 +12,8 @@ use Rattle.lines.specs.Basics.{anyFrom}
 use Rattle.questions.proofs.Loops.{any-no, any-yes, any-end}
 use borrow.Author.Needs.{needs}
 use native.Mathlib.Omega.{arith}
-use Rattle.cells.proofs.blocks.is_current.Statement.{statement}
-use Rattle.cells.proofs.blocks.is_current.Tie as tie
+use Rattle.blocks.proofs.is_current.Statement.{statement}
+use Rattle.blocks.proofs.is_current.Tie as tie
 
 abbrev test : List ℕ → ℕ → ℕ → Bool
 test l b k = eqb (getD l k 0) b

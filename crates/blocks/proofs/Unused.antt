@@ -14,9 +14,9 @@ use Rattle.lines.specs.declared.Record.{Record}
 use Rattle.questions.specs.declared.State.{State}
 use Rattle.lines.specs.Record.{isIdle, recordAt}
 use Rattle.questions.specs.Questions.{holds, installs, fit, fitTests}
-use Rattle.cells.specs.Blocks.{isCurrent, isHeld, used, usesBlock, after, unusedFrom, unused}
+use Rattle.blocks.specs.Blocks.{isCurrent, isHeld, used, usesBlock, after, unusedFrom, unused}
 use Rattle.questions.proofs.Tests.{nth, blocks-true}
-use Rattle.cells.proofs.Counting.{count, gap, count-or, count-and, count-none, count-one, count-any, count-less}
+use Rattle.blocks.proofs.Counting.{count, gap, count-or, count-and, count-none, count-one, count-any, count-less}
 
 -- COUNTING
 

@@ -3,13 +3,13 @@ use mathlib.Core.Path.{_≡_, refl, sym, _∙_}
 use Prim.Native.Nat.{_≤_, _<_}
 use mathlib.Core.Bool.{true}
 use borrow.Author.Tests.{not-true, not-false}
-use Rattle.cells.specs.Blocks.{unused, unusedFrom, searchable, found}
-use Rattle.cells.proofs.Unused.{after-below}
-use Rattle.cells.proofs.Search.{here, onward, over, searched, finds, finds-none}
+use Rattle.blocks.specs.Blocks.{unused, unusedFrom, searchable, found}
+use Rattle.blocks.proofs.Unused.{after-below}
+use Rattle.blocks.proofs.Search.{here, onward, over, searched, finds, finds-none}
 use borrow.Author.Needs.{needs}
 use native.Mathlib.Omega.{arith}
-use Rattle.cells.proofs.blocks.unused_block.Statement.{statement}
-use Rattle.cells.proofs.blocks.unused_block.Tie as tie
+use Rattle.blocks.proofs.unused_block.Statement.{statement}
+use Rattle.blocks.proofs.unused_block.Tie as tie
 
 abbrev Inv-loop : tie.InvT-loop
 Inv-loop s b₀ left₀ b left = ((s .tasks ≤ 32) × (s .cells ≤ 16) × (s .last < s .blocks)) × (b < s .blocks) × (unusedFrom s b left ≡ found s)

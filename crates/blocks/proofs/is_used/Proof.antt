@@ -6,12 +6,12 @@ use native.Mathlib.Nat.{sub-zero}
 use Rattle.questions.specs.declared.State.{State}
 use Rattle.lines.specs.Basics.{anyFrom}
 use Rattle.lines.specs.Record.{recordAt}
-use Rattle.cells.specs.Blocks.{isCurrent, isHeld, used, usesBlock}
+use Rattle.blocks.specs.Blocks.{isCurrent, isHeld, used, usesBlock}
 use Rattle.questions.proofs.Loops.{any-no, any-yes, any-end}
 use borrow.Author.Needs.{needs}
 use native.Mathlib.Omega.{arith}
-use Rattle.cells.proofs.blocks.is_used.Statement.{statement}
-use Rattle.cells.proofs.blocks.is_used.Tie as tie
+use Rattle.blocks.proofs.is_used.Statement.{statement}
+use Rattle.blocks.proofs.is_used.Tie as tie
 
 abbrev test : ℕ → State → ℕ → Bool
 test b s t = usesBlock (recordAt (s .records) t) b
