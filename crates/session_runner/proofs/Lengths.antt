@@ -1,7 +1,7 @@
 -- How long the lines are.
 use mathlib.Core.Path.{_≡_, ap, _∙_}
 use mathlib.Core.List.{List, [], _∷_, _++_}
-use Prim.Native.Nat.{ℕ, _+_, _≤_}
+use Prim.Native.Nat.{ℕ, _+_, _≤_, _<_}
 use native.Mathlib.Omega.{arith}
 use lib.ListN.{length, length-append}
 use Rattle.text.specs.Bytes.{bytes, decimal}
@@ -37,3 +37,8 @@ line-2 s a b h k = omega (arith, line-length s (a ∷ b ∷ []), numbers-2 a b h
 pub line-4 : (s : List ℕ) (a b c d : ℕ) → a ≤ 18446744073709551615 → b ≤ 18446744073709551615 → c ≤ 18446744073709551615 → d ≤ 18446744073709551615 → length (line s (a ∷ b ∷ c ∷ d ∷ [])) ≤ length s + 86
 line-4 s a b c d h i j k =
     omega (arith, line-length s (a ∷ b ∷ c ∷ d ∷ []), numbers-length a (b ∷ c ∷ d ∷ []), numbers-length b (c ∷ d ∷ []), numbers-length c (d ∷ []), numbers-length d [], none-length, decimal-64 a h, decimal-64 b i, decimal-64 c j, decimal-64 d k)
+
+-- the line of a finished call, where it starts at a, its numbers at d, and its last part at e
+pub done-short : (at d e t k s h : ℕ) → d ≤ at + 23 + (length (decimal t) + length (decimal k)) → e ≡ d + length (numbers (s ∷ h ∷ [])) → (t < 100) × (k < 100) × (s < 100) × (h < 100) → e + 2 ≤ at + 36
+done-short at d e t k s h x y z =
+    omega (arith, x, y, numbers-length s (h ∷ []), numbers-length h [], none-length, decimal-short 1 t (z .0), decimal-short 1 k (z .1), decimal-short 1 s (z .2), decimal-short 1 h (z .3))

@@ -4,3 +4,4 @@ mod Loops
 mod Acting
 mod Playing
 pub mod Turning
+pub mod Outcomes

@@ -85,16 +85,16 @@ pool-length {l} {w} e h = let d : length l ≡ 640 = ap length e ∙ length-repl
 pub taken : {n m : ℕ} (l : List ℕ) → n ≤ length l → length l ≤ m → length (take n l) ≤ m
 taken {n} {m} l h k = omega (arith, length-take-le n l h)
 
-pub no-room : (s : List ℕ) (n : ℕ) → n < 4400000 → [] ≡ printedWithin n s
+pub no-room : (s : List ℕ) (n : ℕ) → n < 2400000 → [] ≡ printedWithin n s
 unfolding printedWithin
-no-room s n h = rw (lt-leb 4400000 n h)
+no-room s n h = rw (lt-leb 2400000 n h)
 
-with-room : (s : List ℕ) (n : ℕ) → 4400000 ≤ n → shown (verdict s) ≡ printedWithin n s
+with-room : (s : List ℕ) (n : ℕ) → 2400000 ≤ n → shown (verdict s) ≡ printedWithin n s
 unfolding printedWithin printed
-with-room s n h = rw (le-leb 4400000 n h)
+with-room s n h = rw (le-leb 2400000 n h)
 
 -- the reader's answer, printed
-pub whole : (s : List ℕ) (n : ℕ) {a b c r : ℕ} {v : Verdict} {old new : List ℕ} → Appended old new 0 r (shown v) → v ≡ judged a b c s → a ≡ 32768 → b ≡ 40960 → c ≡ 65535 → 4400000 ≤ n → take r new ≡ printedWithin n s
+pub whole : (s : List ℕ) (n : ℕ) {a b c r : ℕ} {v : Verdict} {old new : List ℕ} → Appended old new 0 r (shown v) → v ≡ judged a b c s → a ≡ 32768 → b ≡ 40960 → c ≡ 65535 → 2400000 ≤ n → take r new ≡ printedWithin n s
 whole s n {a} {b} {c} x e p q r h = x .words ∙ ap shown (e ∙ right-sizes a b c s p q r) ∙ with-room s n h
 
 -- what is appended from the start lies within the buffer

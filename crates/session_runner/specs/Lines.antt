@@ -1,12 +1,14 @@
 -- The lines that a session prints, after the scope's "Sessions in brackets".
 use mathlib.Core.Bool.{cond}
 use mathlib.Core.List.{List, [], _∷_, _++_}
-use Prim.Native.Nat.{ℕ, _*_, _/_}
+use Prim.Native.Nat.{ℕ, _*_, _/_, _<_}
 use lib.Dec.{eqb}
 use Rattle.text.specs.Bytes.{bytes, decimal}
 use Rattle.lines.specs.declared.Answer.{Answer}
 use Rattle.lines.specs.declared.Answer.the-variants.{Value, Yes, No}
 use Rattle.lines.specs.declared.Finished.{Finished}
+use Rattle.cells.specs.declared.Outcome.{Outcome}
+use Rattle.cells.specs.declared.Outcome.the-variants.{Refused, Acted, Ended}
 
 -- numbers, each after a space
 unfoldable pub numbers : List ℕ → List ℕ
@@ -47,3 +49,11 @@ rate h f = cond (eqb f 0) 0 (h * 1000 / f)
 
 abbrev pub endLine : (finished unfinished hard : ℕ) → List ℕ
 endLine f u h = line (bytes "(end") (f ∷ u ∷ h ∷ rate h f ∷ [])
+
+-- HOW LONG THE LINE OF AN ACTION IS
+
+-- the numbers of a finished call, but for a value that it answers, have at most two digits
+abbrev pub Small : (task : ℕ) → Outcome → Type 0
+Small t (Refused n) = Unit {0}
+Small t Acted = Unit {0}
+Small t (Ended f) = (t < 100) × (f .cell < 100) × (f .steps < 100) × (f .hard < 100)

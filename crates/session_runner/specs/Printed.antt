@@ -96,4 +96,4 @@ printed s = shown (verdict s)
 
 -- nothing is printed where there is no room for the longest text
 unfoldable pub printedWithin : (room : ℕ) → List ℕ → List ℕ
-printedWithin n s = cond (leb 4400000 n) (printed s) []
+printedWithin n s = cond (leb 2400000 n) (printed s) []

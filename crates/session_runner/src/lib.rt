@@ -20,8 +20,8 @@ ghost use Rattle.session_reader.specs.Reading.{actAt, verdictOf};
 ghost use Rattle.session_reader.specs.Kept.{Named, Within};
 ghost use Rattle.session_runner.specs.Printed.{started, blank as «blankOf», poolWords, run as «runOf», shown, printedWithin};
 
-// Enough for 65,535 lines of 67 bytes, one of each cell and the end.
-pub const ROOM: usize = 4400000;
+// Enough for 65,535 lines of 36 bytes, one of each cell and the end.
+pub const ROOM: usize = 2400000;
 
 fn blank() -> State
     ensures { λ s. ⌜ s ≡ «blankOf» ⌝ }
@@ -62,7 +62,7 @@ fn start(
 ) -> usize
     requires { ⌜ length (now kept) ≤ 65535 ⌝ }
     requires { ⌜ Named (length (now forms)) (now kept) ⌝ }
-    requires { ⌜ 4400000 ≤ length (now out) ⌝ }
+    requires { ⌜ 2400000 ≤ length (now out) ⌝ }
     ensures { λ r. ⌜ Appended (now (out .entry)) (now (out .exit)) 0 r (started tasks cells (map (actAt (now (forms .entry))) (now (kept .entry))) (opened «blankOf» (now (pool .entry)) tasks cells blocks (now (values .entry)))) ⌝ }
 {
     let first = cells::open(blank(), pool, tasks, cells, blocks, values);
@@ -105,7 +105,7 @@ fn run(
 ) -> usize
     requires { ⌜ length (now kept) ≤ 65535 ⌝ }
     requires { ⌜ Named (length (now forms)) (now kept) ⌝ }
-    requires { ⌜ 4400000 ≤ length (now out) ⌝ }
+    requires { ⌜ 2400000 ≤ length (now out) ⌝ }
     ensures { λ r. ⌜ Appended (now (out .entry)) (now (out .exit)) 0 r («runOf» (record { tasks = tasks; cells = cells; blocks = blocks; values = now (values .entry) }) (map (actAt (now (forms .entry))) (now (kept .entry)))) ⌝ }
 {
     let words = pool_words(blocks);
@@ -126,7 +126,7 @@ fn run(
 fn print(out: &mut [u8], found: Reading, values: &[u32], forms: &[u32], actions: &[u32]) -> usize
     requires { ⌜ Within found (now values) (now forms) (now actions) ⌝ }
     requires { ⌜ length (now actions) ≤ 65535 ⌝ }
-    requires { ⌜ 4400000 ≤ length (now out) ⌝ }
+    requires { ⌜ 2400000 ≤ length (now out) ⌝ }
     ensures { λ r. ⌜ Appended (now (out .entry)) (now (out .exit)) 0 r (shown (verdictOf found (now (values .entry)) (now (forms .entry)) (now (actions .entry)))) ⌝ }
 {
     match found {

@@ -17,6 +17,7 @@ ghost use Rattle.text.specs.Append.{Appended};
 ghost use Rattle.refinement.specs.Reached.{Reached};
 ghost use Rattle.session_reader.specs.Reading.{actAt};
 ghost use Rattle.session_reader.specs.Kept.{Named};
+ghost use Rattle.session_runner.specs.Lines.{Small};
 ghost use Rattle.session_runner.specs.Printed.{Totals, totals, reported, counted, lookLine, cellLines, pending as «pendingOf», closed, played};
 ghost use Rattle.session_runner.specs.Actions.{totalsOf};
 
@@ -30,7 +31,7 @@ pub struct Tally {
 fn report(out: &mut [u8], at: usize, i: u32, task: u32, outcome: Outcome) -> usize
     requires { ⌜ at + 67 ≤ length (now out) ⌝ }
     ensures { λ r. ⌜ Appended (now (out .entry)) (now (out .exit)) at r (reported i task outcome) ⌝ }
-    ensures { λ r. ⌜ r ≤ at + 67 ⌝ }
+    ensures { λ r. ⌜ (Small task outcome → r ≤ at + 36) ⌝ }
 {
     match outcome {
         Outcome::Refused(n) => printing::put_no(out, at, i, n),
@@ -130,7 +131,7 @@ pub fn play(
     requires { ⌜ Reached tasks cells first (now pool) ⌝ }
     requires { ⌜ length (now kept) ≤ 65535 ⌝ }
     requires { ⌜ Named (length (now forms)) (now kept) ⌝ }
-    requires { ⌜ 4400000 ≤ length (now out) ⌝ }
+    requires { ⌜ 2400000 ≤ length (now out) ⌝ }
     ensures { λ r. ⌜ Appended (now (out .entry)) (now (out .exit)) 0 r (played tasks cells 0 (totals 0 0) first (now (pool .entry)) (map (actAt (now (forms .entry))) (now (kept .entry)))) ⌝ }
 {
     let mut i = 0;

@@ -1,10 +1,12 @@
-// The lines that a session prints. Room for the longest of them is 67 bytes; only the end may be longer, at most 90.
+// The lines that a session prints. Room for any of them is 67 bytes, for the end 90; with the numbers that a session has,
+// the line of an action takes at most 36.
 ghost use mathlib.Core.Path.{_≡_};
 ghost use Prim.Native.Nat.{_+_, _*_, _≤_};
 ghost use lib.ListN.{length};
+ghost use Rattle.cells.specs.declared.Outcome.the-variants.{Ended};
 ghost use Rattle.text.specs.Append.{Appended};
 ghost use Rattle.text.specs.Bytes.{decimal};
-ghost use Rattle.session_runner.specs.Lines.{line, numbers as «numbersOf», badLine, noLine, cellLine, kindWord, answerWord, doneStart, doneLine, rate as «rateOf», endLine};
+ghost use Rattle.session_runner.specs.Lines.{line, numbers as «numbersOf», badLine, noLine, cellLine, kindWord, answerWord, doneStart, doneLine, rate as «rateOf», endLine, Small};
 use lines::Answer;
 use lines::Finished;
 
@@ -49,7 +51,7 @@ pub fn put_bad(out: &mut [u8], at: usize, n: u32) -> usize
 pub fn put_no(out: &mut [u8], at: usize, action: u32, n: u32) -> usize
     requires { ⌜ at + 67 ≤ length (now out) ⌝ }
     ensures { λ r. ⌜ Appended (now (out .entry)) (now (out .exit)) at r (noLine action n) ⌝ }
-    ensures { λ r. ⌜ r ≤ at + 67 ⌝ }
+    ensures { λ r. ⌜ r ≤ at + 36 ⌝ }
 {
     put_line(out, at, b"(no", &[wide(action), wide(n)])
 }
@@ -97,7 +99,7 @@ fn put_kind(out: &mut [u8], at: usize, kind: u32) -> usize
 fn put_done_start(out: &mut [u8], at: usize, task: u32, f: Finished) -> usize
     requires { ⌜ at + 43 ≤ length (now out) ⌝ }
     ensures { λ r. ⌜ Appended (now (out .entry)) (now (out .exit)) at r (doneStart task f) ⌝ }
-    ensures { λ r. ⌜ r ≤ at + 43 ⌝ }
+    ensures { λ r. ⌜ (r ≤ at + 43) × (r ≤ at + 23 + (length (decimal task) + length (decimal (f .cell)))) ⌝ }
 {
     let a = text::put(out, at, b"(done ");
     let b = put_small(out, a, task);
@@ -111,7 +113,7 @@ fn put_done_start(out: &mut [u8], at: usize, task: u32, f: Finished) -> usize
 pub fn put_done(out: &mut [u8], at: usize, task: u32, f: Finished) -> usize
     requires { ⌜ at + 67 ≤ length (now out) ⌝ }
     ensures { λ r. ⌜ Appended (now (out .entry)) (now (out .exit)) at r (doneLine task f) ⌝ }
-    ensures { λ r. ⌜ r ≤ at + 67 ⌝ }
+    ensures { λ r. ⌜ (Small task (Ended f) → r ≤ at + 36) ⌝ }
 {
     let a = put_done_start(out, at, task, f);
     let b = put_numbers(out, a, &[wide(f.steps), wide(f.hard)]);

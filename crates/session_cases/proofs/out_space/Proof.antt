@@ -6,7 +6,7 @@ use Rattle.session_cases.proofs.out_space.Statement.{statement}
 use Rattle.session_cases.proofs.out_space.Tie as tie
 
 returns : tie.Need-returns
-returns c = sym (length-replicate {A = ℕ} 4400000 0)
+returns c = sym (length-replicate {A = ℕ} 2400000 0)
 
 pub out-space-spec : {M : Type 1} → statement M
 out-space-spec = tie.close (tie.spec returns)

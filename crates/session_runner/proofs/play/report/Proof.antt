@@ -1,3 +1,4 @@
+use native.Mathlib.Omega.{arith}
 use Rattle.text.proofs.Appending.{nothing}
 use Rattle.session_runner.specs.Printed.{reported}
 use borrow.Author.Needs.{needs}
@@ -24,11 +25,11 @@ same-length c = search needs
 
 returns : tie.Need-returns
 unfolding reported
-returns c = rw (c .before .before .before .before .before .outcome .given .1) (c .before .before .put-no .ensures)
+returns c = rw (c .before .before .before .before .before .outcome .given .1) (c .before .before .put-no .ensures .0, λ _. c .before .before .put-no .ensures .1)
 
 returns-2 : tie.Need-returns-2
 unfolding reported
-returns-2 c = (rw (c .enum-told .given .1) (nothing _ _), search needs)
+returns-2 c = (rw (c .enum-told .given .1) (nothing _ _), λ _. omega arith)
 
 same-length-2 : tie.Need-same-length-2
 same-length-2 c = search needs

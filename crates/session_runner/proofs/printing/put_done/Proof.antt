@@ -1,7 +1,7 @@
 use Rattle.session_runner.specs.Lines.{doneStart}
 use native.Mathlib.Omega.{arith}
 use Rattle.text.proofs.Appending.{then}
-use Rattle.session_runner.proofs.Lengths.{numbers-2}
+use Rattle.session_runner.proofs.Lengths.{numbers-2, done-short}
 use borrow.Author.Needs.{needs}
 use Rattle.session_runner.proofs.printing.put_done.Statement.{statement}
 use Rattle.session_runner.proofs.printing.put_done.Tie as tie
@@ -32,7 +32,16 @@ same-length c = search needs
 
 returns : tie.Need-returns
 unfolding doneStart
-returns c = let h = numbers-2 (c .before .before .before .before .before .before .before .before .before .before .wide .result) (c .before .before .before .before .before .before .before .before .before .wide2 .result) (c .before .before .before .before .before .before .before .before .before .before .wide .ensures .1) (c .before .before .before .before .before .before .before .before .before .wide2 .ensures .1) in (rw (← (c .before .before .before .before .before .before .before .before .before .before .wide .ensures .0), ← (c .before .before .before .before .before .before .before .before .before .wide2 .ensures .0)) (then (then (c .before .before .before .before .before .before .before .before .before .before .before .before .before .before .put-done-start .ensures .0) (c .before .before .before .before .before .before .before .put-numbers .ensures)) (c .before .before .put .ensures)), omega (arith, h, c .before .before .before .before .before .before .before .put-numbers .ensures .next, c .before .before .put .ensures .next))
+returns c =
+    let a = c .before .before .before .before .before .before .before .before .before .before .before .before .before .before .before .before .before .args in
+    let st = c .before .before .before .before .before .before .before .before .before .before .before .before .before .before .put-done-start .ensures in
+    let w = c .before .before .before .before .before .before .before .before .before .before .wide in
+    let w2 = c .before .before .before .before .before .before .before .before .before .wide2 in
+    let n = c .before .before .before .before .before .before .before .put-numbers .ensures in
+    let p = c .before .before .put .ensures in (
+      rw (← (w .ensures .0), ← (w2 .ensures .0)) (then (then (st .0) n) p),
+      λ z. omega (arith, p .next, done-short a.at _ _ a.task (a .f .cell) (w .result) (w2 .result) (st .1 .1) (n .next) (z .0, z .1, omega (arith, z .2, w .ensures .0), omega (arith, z .3, w2 .ensures .0))),
+    )
 
 pub put-done-spec : {M : Type 1} → statement M
 put-done-spec =
