@@ -21,7 +21,20 @@ ghost use Rattle.session_reader.specs.Kept.{Named, Within};
 ghost use Rattle.session_runner.specs.Printed.{started, blank as «blankOf», poolWords, run as «runOf», shown, printedWithin};
 
 // Enough for 65,535 lines of 36 bytes, one of each cell and the end.
-pub const ROOM: usize = 2400000;
+const ROOM: usize = 2400000;
+
+// One byte more than a session may have, to tell a longer one.
+pub fn file_space() -> [u8; 65537]
+    ensures { λ r. ⌜ 65537 ≡ length r ⌝ }
+{
+    [0; 65537]
+}
+
+pub fn text_space() -> [u8; ROOM]
+    ensures { λ r. ⌜ 2400000 ≡ length r ⌝ }
+{
+    [0; ROOM]
+}
 
 fn blank() -> State
     ensures { λ s. ⌜ s ≡ «blankOf» ⌝ }
