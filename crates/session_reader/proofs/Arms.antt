@@ -11,7 +11,7 @@ use Rattle.text.specs.Readers.{Reads, word}
 use Rattle.text.specs.Answers.{PlaceIs}
 use Rattle.text.specs.declared.Place.{Place}
 use Rattle.text.specs.declared.Place.the-variants as place
-use Rattle.session_reader.specs.Session.{Kind, reading, swapping, stepping, repeating, arity, keyword, head, numbers, values, opening}
+use Rattle.session_file.specs.Session.{Kind, reading, swapping, stepping, repeating, arity, keyword, head, numbers, values, opening}
 use Rattle.session_reader.specs.Answers.{kindNumber, KeywordIs, NumbersAre, ValuesAre, Led, LeadIs}
 use Rattle.session_reader.specs.declared.forms.Word.{Word}
 use Rattle.session_reader.specs.declared.forms.Word.the-variants as key

@@ -10,7 +10,7 @@ use Rattle.text.specs.Readers.{Reads, pure, onward, number}
 use Rattle.text.specs.Answers.{NumeralIs}
 use Rattle.text.specs.declared.Numeral.{Numeral}
 use Rattle.text.specs.declared.Numeral.the-variants as numeral
-use Rattle.session_reader.specs.Session.{space, item, numbers}
+use Rattle.session_file.specs.Session.{space, item, numbers}
 
 -- a space, and what was answered after it
 pub number-after : (s : List ℕ) (at : ℕ) {a : ℕ} → Reads space s at 1 tt a → (r : Numeral) → NumeralIs number s a 1 r → NumeralIs item s at 2 r

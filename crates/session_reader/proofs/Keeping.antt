@@ -5,7 +5,7 @@ use mathlib.Core.List.{List}
 use Prim.Native.Nat.{ℕ, zero, suc, _+_, _*_}
 use native.Mathlib.Omega.{arith}
 use lib.ListN.{length, take, length-take}
-use Rattle.session_reader.specs.Session.{Act}
+use Rattle.session_file.specs.Session.{Act}
 use Rattle.session_reader.specs.Answers.{Told, untold, told, Kept, Stands}
 use Rattle.session_reader.specs.Kept.{Named}
 

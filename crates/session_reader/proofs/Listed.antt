@@ -5,7 +5,7 @@ use mathlib.Core.Option.{none, some}
 use Prim.Native.Nat.{ℕ}
 use lib.ListN.{drop}
 use Rattle.text.specs.Readers.{Reads, number}
-use Rattle.session_reader.specs.Session.{close, item, many, snoc, values}
+use Rattle.session_file.specs.Session.{close, item, many, snoc, values}
 
 module _ (s : List ℕ) (at : ℕ) where
   pub values-none : {next : ℕ} → Reads close s at 1 tt next → values (drop at s) ≡ some ([], drop next s)

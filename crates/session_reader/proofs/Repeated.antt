@@ -9,7 +9,7 @@ use lib.ListN.{length, take, drop, getD, set, length-append, length-drop, List·
 use lib.Seq.{length-take-le, take-add, take-at, take-all, getD-append-add, getD-take}
 use Rattle.text.specs.Append.{Appended}
 use Rattle.text.proofs.Appending.{more}
-use Rattle.session_reader.specs.Session.{times}
+use Rattle.session_file.specs.Session.{times}
 
 module _ {A : Type 0} where
   pub times-none : (l : List A) → times 0 l ≡ []

@@ -9,7 +9,7 @@ use lib.ListN.{length, take, drop, getD, set, length-set, length-append, take-ap
 use lib.Seq.{length-take-le, getD-at, drop-append-add}
 use Rattle.text.specs.Append.{Appended}
 use Rattle.text.proofs.Appending.{nothing, one, then, front, behind}
-use Rattle.session_reader.specs.Session.{Act, times}
+use Rattle.session_file.specs.Session.{Act, times}
 use Rattle.session_reader.specs.Reading.{acted, actAt}
 use Rattle.session_reader.specs.Answers.{Told, untold, told, Far, Kept, kept, Stands}
 use Rattle.session_reader.proofs.Told.{told-append, told-times, told-actions, told-grown}

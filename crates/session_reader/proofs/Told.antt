@@ -5,7 +5,7 @@ use Prim.Native.Nat.{ℕ, zero, suc, _+_, _*_, _≤_}
 use native.Mathlib.Omega.{arith}
 use lib.ListN.{length, take, drop, getD, length-append, length-drop, List·getD-append}
 use lib.Seq.{drop-append-le, take-append-le}
-use Rattle.session_reader.specs.Session.{Act, times}
+use Rattle.session_file.specs.Session.{Act, times}
 use Rattle.session_reader.specs.Reading.{acted, actAt}
 use Rattle.session_reader.specs.Answers.{Told, untold, told}
 

@@ -6,7 +6,7 @@ use Prim.Native.Nat.{ℕ, suc, _+_, _-_, _≤_, _<_}
 use native.Mathlib.Omega.{arith}
 use lib.ListN.{length, drop, length-drop}
 use Rattle.text.specs.Readers.{Reader}
-use Rattle.session_reader.specs.Session.{manyWithin, many}
+use Rattle.session_file.specs.Session.{manyWithin, many}
 
 module _ {A B : Type 0} (add : B → A → B) (each : Reader A) (end : Reader (Unit {0})) where
   -- from at to i the items l were read, and what is said of the rest after them is what is said of the whole

@@ -8,7 +8,7 @@ use native.Mathlib.Omega.{arith}
 use lib.ListN.{length, drop, drop-of-length-le}
 use Rattle.text.proofs.Reading.{drop-byte}
 use Rattle.text.specs.Readers.{Reader, Reads}
-use Rattle.session_reader.specs.Session.{Act, Form, Forms, empty, with, many, finish, count, counts, actions, actionsOf}
+use Rattle.session_file.specs.Session.{Act, Form, Forms, empty, with, many, finish, count, counts, actions, actionsOf}
 use Rattle.session_reader.specs.Answers.{Kept, kept, Stands, KeptIs, Ready, GotIs}
 use Rattle.session_reader.specs.declared.forms.Got.{Got}
 use Rattle.session_reader.specs.declared.forms.Got.the-variants as got

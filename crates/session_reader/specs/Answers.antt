@@ -10,7 +10,7 @@ use Rattle.text.specs.Bytes.{bytes}
 use Rattle.text.specs.Readers.{Reader, Reads, word as literal}
 use Rattle.text.specs.declared.Place.{Place}
 use Rattle.text.specs.declared.Place.the-variants as place
-use Rattle.session_reader.specs.Session.{Act, Kind, reading, swapping, stepping, repeating, numbers, values, opening, keyword, arity, head}
+use Rattle.session_file.specs.Session.{Act, Kind, reading, swapping, stepping, repeating, numbers, values, opening, keyword, arity, head}
 use Rattle.session_reader.specs.Reading.{actAt}
 use Rattle.session_reader.specs.declared.opening.Listed.{Listed}
 use Rattle.session_reader.specs.declared.opening.Listed.the-variants as listed

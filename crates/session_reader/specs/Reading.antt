@@ -4,7 +4,7 @@ use mathlib.Core.List.{List, [], _∷_, map}
 use Prim.Native.Nat.{ℕ, _+_, _*_}
 use lib.Dec.{eqb}
 use lib.ListN.{take, drop, getD}
-use Rattle.session_reader.specs.Session.{Act, read, swap, step, Verdict, bad, session, verdict}
+use Rattle.session_file.specs.Session.{Act, read, swap, step, Verdict, bad, session, verdict}
 use Rattle.session_reader.specs.declared.Reading.{Reading}
 use Rattle.session_reader.specs.declared.Reading.the-variants as reading
 

@@ -6,7 +6,7 @@ ghost use mathlib.Core.List.{List, [], _∷_};
 ghost use Prim.Native.Nat.{ℕ, _+_, _-_, _*_, _≤_, _<_};
 ghost use lib.ListN.{length, take, drop, getD};
 ghost use Rattle.text.specs.Append.{Appended};
-ghost use Rattle.session_reader.specs.Session.{Act, times, form as «formOf», list as «listOf», line as «lineOf», lines as «linesOf», count, counts, actions as «actionsOf1», actionsOf};
+ghost use Rattle.session_file.specs.Session.{Act, times, form as «formOf», list as «listOf», line as «lineOf», lines as «linesOf», count, counts, actions as «actionsOf1», actionsOf};
 ghost use Rattle.session_reader.specs.Reading.{acted};
 ghost use Rattle.session_reader.specs.Answers.{KeywordIs, HeadIs, kept, Stands, KeptIs, GotIs, Ready};
 

@@ -5,7 +5,7 @@ ghost use mathlib.Core.Path.{_≡_};
 ghost use Prim.Native.Nat.{_≤_};
 ghost use lib.ListN.{length};
 ghost use Rattle.text.specs.Answers.{PlaceIs, NumeralIs};
-ghost use Rattle.session_reader.specs.Session.{space as «spaceOf», item as «itemOf», close as «closeOf»};
+ghost use Rattle.session_file.specs.Session.{space as «spaceOf», item as «itemOf», close as «closeOf»};
 ghost use Rattle.session_reader.specs.Answers.{NumbersAre};
 
 pub fn space(s: &[u8], at: usize) -> Place

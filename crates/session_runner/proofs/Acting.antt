@@ -6,7 +6,7 @@ use native.Mathlib.Omega.{arith}
 use borrow.Author.Tests.{ne-eqb}
 use lib.ListN.{take, drop, getD}
 use lib.Seq.{getD-take, getD-drop}
-use Rattle.session_reader.specs.Session.{read, swap, step}
+use Rattle.session_file.specs.Session.{read, swap, step}
 use Rattle.session_reader.specs.Reading.{actAt}
 
 field : (l : List ℕ) (a j k : ℕ) → j < 4 → a + j ≡ k → getD (take 4 (drop a l)) j 0 ≡ getD l k 0

@@ -6,7 +6,7 @@ use native.Mathlib.Omega.{arith}
 use lib.ListN.{length, length-append}
 use Rattle.text.specs.Bytes.{bytes, decimal}
 use Rattle.text.proofs.Decimal.{decimal-short}
-use Rattle.session_runner.specs.Lines.{numbers, line}
+use Rattle.session_text.specs.Lines.{numbers, line}
 
 pub decimal-32 : (n : ℕ) → n ≤ 4294967295 → length (decimal n) ≤ 10
 decimal-32 n h = decimal-short 9 n (omega arith)

@@ -12,8 +12,8 @@ use Rattle.text.specs.Bytes.{bytes, decimal}
 use Rattle.questions.specs.declared.State.{State}
 use Rattle.lines.specs.Record.{isIdle, recordAt}
 use Rattle.cells.specs.Look.{looked}
-use Rattle.session_runner.specs.Lines.{numbers}
-use Rattle.session_runner.specs.Printed.{lookLine, cellLines, pending}
+use Rattle.session_text.specs.Lines.{numbers}
+use Rattle.session_text.specs.Printed.{lookLine, cellLines, pending}
 
 -- NUMBERS
 

@@ -18,9 +18,9 @@ use Rattle.cells.specs.Step.{current, ran, stepped}
 use Rattle.cells.specs.Turn.{Touched, performed, ending, turn}
 use Rattle.cells.proofs.TurnLaw.{ran-turn}
 use Rattle.cells.proofs.Stepping.{Acting, own-acting}
-use Rattle.session_reader.specs.Session.{Act, read, swap, step}
-use Rattle.session_runner.specs.Lines.{Small}
-use Rattle.session_runner.specs.Printed.{taskOf, done}
+use Rattle.session_file.specs.Session.{Act, read, swap, step}
+use Rattle.session_text.specs.Lines.{Small}
+use Rattle.session_text.specs.Printed.{taskOf, done}
 
 module _ (t : ℕ) where
   asked : (o : Option ℕ) (s : State) (p : List ℕ) (a : After) → (o ≡ none → Small t (a .outcome)) → Small t (unless o s p a .outcome)

@@ -19,11 +19,11 @@ use Rattle.questions.specs.Questions.{refusal, openQuestions}
 use Rattle.cells.proofs.Acts.{acts, acts-iff, open-acts}
 use Rattle.refinement.specs.Reached.{Reached}
 use Rattle.refinement.proofs.Reaching.{reached-open}
-use Rattle.session_reader.specs.Session.{Act, Verdict, verdict}
+use Rattle.session_file.specs.Session.{Act, Verdict, verdict}
 use Rattle.session_reader.specs.Reading.{judged}
 use Rattle.session_reader.proofs.Verdicts.{right-sizes}
-use Rattle.session_runner.specs.Lines.{noLine}
-use Rattle.session_runner.specs.Printed.{Totals, totals, taskOf, done, reported, counted, closed, played, started, blank, poolWords, shown, printed, printedWithin}
+use Rattle.session_text.specs.Lines.{noLine}
+use Rattle.session_text.specs.Printed.{Totals, totals, taskOf, done, reported, counted, closed, played, started, blank, poolWords, shown, printed, printedWithin}
 
 -- THE LOOP
 

@@ -30,8 +30,8 @@ use Rattle.history.specs.History.{begin}
 use Rattle.history.specs.History as History
 use Rattle.refinement.specs.Reached.{Reached}
 use Rattle.refinement.proofs.Reaching.{reached-next, reached-fit}
-use Rattle.session_reader.specs.Session.{Act, read, swap, step}
-use Rattle.session_runner.specs.Printed.{taskOf, done}
+use Rattle.session_file.specs.Session.{Act, read, swap, step}
+use Rattle.session_text.specs.Printed.{taskOf, done}
 use Rattle.session_runner.specs.Turns.{slot, refusing, beginTurn, stepTurn, actTurn, Prepared}
 
 -- FROM THE CODE'S NUMBER

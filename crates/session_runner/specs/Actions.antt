@@ -1,6 +1,6 @@
 -- The code's actions and totals as the definition's.
-use Rattle.session_reader.specs.Session.{Act, read, swap, step}
-use Rattle.session_runner.specs.Printed.{Totals, totals}
+use Rattle.session_file.specs.Session.{Act, read, swap, step}
+use Rattle.session_text.specs.Printed.{Totals, totals}
 use Rattle.session_runner.specs.declared.actions.Action.{Action}
 use Rattle.session_runner.specs.declared.actions.Action.the-variants as action
 use Rattle.session_runner.specs.declared.play.Tally.{Tally}

@@ -11,7 +11,7 @@ use Rattle.lines.specs.Record.{firstRead, firstSwap}
 use Rattle.questions.specs.Questions.{refusal, swapQuestions, stepQuestions}
 use Rattle.cells.specs.declared.Outcome.the-variants.{Refused, Acted}
 use Rattle.cells.specs.Turn.{Turned, turned, turn, There, Ready}
-use Rattle.session_reader.specs.Session.{Act, read, swap, step}
+use Rattle.session_file.specs.Session.{Act, read, swap, step}
 
 -- the place of one of m; the first for a number that is none of them
 abbrev pub slot : ℕ → ℕ → ℕ

@@ -15,10 +15,10 @@ ghost use lib.ListN.{length, take, replicate};
 ghost use Rattle.io.specs.Counts.{Counts};
 ghost use Rattle.text.specs.Append.{Appended};
 ghost use Rattle.cells.specs.Open.{opened};
-ghost use Rattle.session_reader.specs.Session.{Opening};
+ghost use Rattle.session_file.specs.Session.{Opening};
 ghost use Rattle.session_reader.specs.Reading.{actAt, verdictOf};
 ghost use Rattle.session_reader.specs.Kept.{Named, Within};
-ghost use Rattle.session_runner.specs.Printed.{started, blank as «blankOf», poolWords, run as «runOf», shown, printedWithin};
+ghost use Rattle.session_text.specs.Printed.{started, blank as «blankOf», poolWords, run as «runOf», shown, printedWithin};
 
 // Enough for 65,535 lines of 36 bytes, one of each cell and the end.
 const ROOM: usize = 2400000;

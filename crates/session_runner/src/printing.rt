@@ -6,7 +6,7 @@ ghost use lib.ListN.{length};
 ghost use Rattle.cells.specs.declared.Outcome.the-variants.{Ended};
 ghost use Rattle.text.specs.Append.{Appended};
 ghost use Rattle.text.specs.Bytes.{decimal};
-ghost use Rattle.session_runner.specs.Lines.{line, numbers as «numbersOf», badLine, noLine, cellLine, kindWord, answerWord, doneStart, doneLine, rate as «rateOf», endLine, Small};
+ghost use Rattle.session_text.specs.Lines.{line, numbers as «numbersOf», badLine, noLine, cellLine, kindWord, answerWord, doneStart, doneLine, rate as «rateOf», endLine, Small};
 use lines::Answer;
 use lines::Finished;
 

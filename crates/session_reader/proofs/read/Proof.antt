@@ -5,7 +5,7 @@ use Rattle.session_reader.proofs.Walks.{got-at, got-no}
 use Rattle.session_reader.proofs.Standing.{whole, spilled}
 use Rattle.session_reader.proofs.Keeping.{stands-named}
 use Rattle.session_shape.specs.Shape as shape
-use Rattle.session_reader.specs.Session as specs
+use Rattle.session_file.specs.Session as specs
 use Rattle.session_reader.specs.Answers.{OpenedIs, GotIs}
 use Rattle.session_reader.specs.declared.opening.Opened.the-variants as opened
 use Rattle.session_reader.specs.declared.forms.Got.the-variants as got

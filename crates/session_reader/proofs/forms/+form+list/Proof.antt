@@ -2,7 +2,7 @@ use borrow.Author.Needs.{needs}
 use native.Mathlib.Omega.{arith}
 use Rattle.session_reader.proofs.Walks.{got-at, got-no, kept-got, ready-later, Walk, walk-start, walk-end, walk-stop, walk-more}
 use Rattle.session_reader.proofs.Forming.{head-at, head-no, actions-again, form-none, form-no, again-no, again-at, act-no, act-at}
-use Rattle.session_reader.specs.Session as specs
+use Rattle.session_file.specs.Session as specs
 use Rattle.session_reader.specs.Answers.{HeadIs, GotIs}
 use Rattle.session_reader.specs.declared.forms.Start.the-variants as start
 use Rattle.session_reader.specs.declared.forms.Got.the-variants as got

@@ -1,7 +1,7 @@
 use borrow.Author.Needs.{needs}
 use native.Mathlib.Omega.{arith}
 use Rattle.session_reader.proofs.Arms.{keyword-at, keyword-no, numbers-at, numbers-no, few-numbers, head-no, head-at}
-use Rattle.session_reader.specs.Session.{arity, numbers, head}
+use Rattle.session_file.specs.Session.{arity, numbers, head}
 use Rattle.text.specs.Readers.{Reads}
 use lib.ListN.{take}
 use Prim.Native.Nat.{_*_}

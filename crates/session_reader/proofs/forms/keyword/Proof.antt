@@ -1,6 +1,6 @@
 use borrow.Author.Needs.{needs}
 use native.Mathlib.Omega.{arith}
-use Rattle.session_reader.specs.Session.{reading, swapping, stepping, repeating, keyword}
+use Rattle.session_file.specs.Session.{reading, swapping, stepping, repeating, keyword}
 use Rattle.text.proofs.Reading.{place-at, place-no}
 use Rattle.text.specs.Readers as readers
 use Rattle.text.specs.Bytes.{bytes}

@@ -1,7 +1,7 @@
 use borrow.Author.Needs.{needs}
 use native.Mathlib.Omega.{arith}
 use Rattle.session_reader.proofs.Walks.{got-at, got-no}
-use Rattle.session_reader.specs.Session as specs
+use Rattle.session_file.specs.Session as specs
 use Rattle.session_reader.specs.Answers.{GotIs}
 use Rattle.session_reader.specs.declared.forms.Got.the-variants as got
 use Rattle.text.proofs.Reading.{place-at, place-no}

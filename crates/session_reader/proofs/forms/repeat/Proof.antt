@@ -1,7 +1,7 @@
 use borrow.Author.Needs.{needs}
 use native.Mathlib.Omega.{arith}
 use Rattle.session_reader.proofs.Repeated as repeated
-use Rattle.session_reader.specs.Session.{times}
+use Rattle.session_file.specs.Session.{times}
 use Rattle.text.specs.Append.{Appended}
 use lib.ListN.{length, take, drop}
 use native.Mathlib.Nat.{mul-le-mul-right}

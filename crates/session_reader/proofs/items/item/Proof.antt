@@ -1,7 +1,7 @@
 use borrow.Author.Needs.{needs}
 use native.Mathlib.Omega.{arith}
 use Rattle.session_reader.proofs.Counted.{number-after}
-use Rattle.session_reader.specs.Session.{space, item}
+use Rattle.session_file.specs.Session.{space, item}
 use Rattle.text.proofs.Reading.{place-at, place-no}
 use Rattle.text.specs.Readers.{Reader, number}
 use Rattle.session_reader.proofs.items.item.Statement.{statement}

@@ -1,7 +1,7 @@
 use borrow.Author.Needs.{needs}
 use native.Mathlib.Omega.{arith}
 use Rattle.session_reader.proofs.Counted as counted
-use Rattle.session_reader.specs.Session.{item, numbers}
+use Rattle.session_file.specs.Session.{item, numbers}
 use Rattle.text.proofs.Reading.{number-at, number-no}
 use Rattle.text.proofs.Appending.{one}
 use lib.ListN.{length, take, drop}

@@ -1,6 +1,6 @@
 use borrow.Author.Needs.{needs}
 use Rattle.session_reader.proofs.Arms.{numbers-at, numbers-no, lead-ends}
-use Rattle.session_reader.specs.Session.{numbers, opening}
+use Rattle.session_file.specs.Session.{numbers, opening}
 use Rattle.text.proofs.Reading.{place-at, place-no}
 use Rattle.text.specs.Readers.{Reads, word}
 use Rattle.text.specs.Bytes.{bytes}

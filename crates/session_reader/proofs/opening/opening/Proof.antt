@@ -1,7 +1,7 @@
 use borrow.Author.Needs.{needs}
 use native.Mathlib.Omega.{arith}
 use Rattle.session_reader.proofs.Arms.{values-at, values-no, lead-at, lead-no, values-wrong, end-wrong, opening-at}
-use Rattle.session_reader.specs.Session.{values}
+use Rattle.session_file.specs.Session.{values}
 use Rattle.session_reader.specs.Answers.{Led}
 use Rattle.text.proofs.Reading.{place-at, place-no}
 use Rattle.text.specs.Readers.{Reads, word}

@@ -3,7 +3,7 @@ use native.Mathlib.Omega.{arith}
 use lib.ListN.{length, take, drop, length-set}
 use Rattle.session_reader.proofs.Listed.{values-none, values-wrong, values-first}
 use Rattle.session_reader.proofs.Turns.{Turn, turn-start, turn-end, turn-stop, turn-more}
-use Rattle.session_reader.specs.Session as specs
+use Rattle.session_file.specs.Session as specs
 use Rattle.text.proofs.Reading.{place-at, place-no, number-at, number-no}
 use Rattle.text.proofs.Appending.{one}
 use Rattle.text.specs.Readers.{number}

@@ -1,5 +1,5 @@
 use Rattle.text.proofs.Appending.{then}
-use Rattle.session_runner.specs.Printed.{closed}
+use Rattle.session_text.specs.Printed.{closed}
 use borrow.Author.Needs.{needs}
 use Rattle.session_runner.proofs.play.finish.Statement.{statement}
 use Rattle.session_runner.proofs.play.finish.Tie as tie

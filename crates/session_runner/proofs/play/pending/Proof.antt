@@ -5,7 +5,7 @@ use Rattle.session_runner.proofs.Loops.{task-end, task-busy, task-idle}
 use native.Mathlib.Nat.{zero-add, sub-zero}
 use borrow.Author.Needs.{needs}
 use mathlib.Core.Path.{_≡_}
-use Rattle.session_runner.specs.Printed.{pending}
+use Rattle.session_text.specs.Printed.{pending}
 use Rattle.session_runner.proofs.play.pending.Statement.{statement}
 use Rattle.session_runner.proofs.play.pending.Tie as tie
 

@@ -10,12 +10,12 @@ use Rattle.blocks.specs.Blocks.{foundOf}
 use Rattle.cells.proofs.Stepping.{Free}
 use Rattle.refinement.specs.Reached.{Reached}
 use Rattle.session_reader.specs.Reading.{actAt}
-use Rattle.session_runner.specs.Printed.{totals, played}
+use Rattle.session_text.specs.Printed.{totals, played}
 use Rattle.session_runner.specs.Actions.{actOf, totalsOf}
 use Rattle.session_runner.proofs.Toward.{Toward, toward-start, toward-more, toward-last}
 use Rattle.session_runner.proofs.Playing.{one-action, no-action}
 use Rattle.cells.specs.Open.{After}
-use Rattle.session_runner.specs.Lines.{Small}
+use Rattle.session_text.specs.Lines.{Small}
 use Rattle.session_runner.proofs.Outcomes.{small}
 use Rattle.session_runner.proofs.Turning.{task-below, cell-below, reached-small, finds-unused, reached-then, is-prepared, is-done}
 use Rattle.session_runner.proofs.play.play.Statement.{statement}

@@ -1,6 +1,6 @@
 use native.Mathlib.Omega.{arith}
 use Rattle.text.proofs.Appending.{nothing}
-use Rattle.session_runner.specs.Printed.{reported}
+use Rattle.session_text.specs.Printed.{reported}
 use borrow.Author.Needs.{needs}
 use Rattle.session_runner.proofs.play.report.Statement.{statement}
 use Rattle.session_runner.proofs.play.report.Tie as tie

@@ -1,4 +1,4 @@
-use Rattle.session_runner.specs.Lines.{doneStart}
+use Rattle.session_text.specs.Lines.{doneStart}
 use native.Mathlib.Omega.{arith}
 use Rattle.text.proofs.Appending.{then}
 use Rattle.session_runner.proofs.Lengths.{numbers-2, done-short}

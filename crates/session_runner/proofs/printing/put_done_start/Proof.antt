@@ -1,6 +1,6 @@
 use native.Mathlib.Omega.{arith}
 use Rattle.text.proofs.Appending.{then}
-use Rattle.session_runner.specs.Lines.{doneStart}
+use Rattle.session_text.specs.Lines.{doneStart}
 use borrow.Author.Needs.{needs}
 use Rattle.session_runner.proofs.printing.put_done_start.Statement.{statement}
 use Rattle.session_runner.proofs.printing.put_done_start.Tie as tie

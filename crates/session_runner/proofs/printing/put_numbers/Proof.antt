@@ -3,7 +3,7 @@ use Rattle.text.proofs.Appending.{then}
 use borrow.Author.Needs.{needs}
 use Prim.Native.Nat.{_+_, _-_, _≤_, _<_}
 use lib.ListN.{length, drop}
-use Rattle.session_runner.specs.Lines.{numbers}
+use Rattle.session_text.specs.Lines.{numbers}
 use Rattle.session_runner.proofs.Toward.{Toward, toward-start, toward-more, toward-end}
 use Rattle.session_runner.proofs.Loops.{numbers-at, numbers-room, numbers-end}
 use Rattle.session_runner.proofs.printing.put_numbers.Statement.{statement}

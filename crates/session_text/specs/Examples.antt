@@ -11,9 +11,9 @@ use Rattle.cells.specs.Begin.{readBegun, swapBegun}
 use Rattle.cells.specs.Step.{ran, stepped}
 use Rattle.cells.specs.Look.{looked}
 use Rattle.session_shape.specs.Shape.{fits, deeper, shapedAfter}
-use Rattle.session_reader.specs.Session as reader
-use Rattle.session_runner.specs.Lines.{numbers, doneStart}
-use Rattle.session_runner.specs.Printed.{reported, cellLines, pending, closed, played, started, printed}
+use Rattle.session_file.specs.Session as reader
+use Rattle.session_text.specs.Lines.{numbers, doneStart}
+use Rattle.session_text.specs.Printed.{reported, cellLines, pending, closed, played, started, printed}
 
 abbrev Prints : List (String × String) → Type 0
 Prints [] = Unit {0}

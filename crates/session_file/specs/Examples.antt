@@ -8,7 +8,7 @@ use lib.ListN.{length, replicate}
 use Rattle.text.specs.Bytes.{bytes}
 use Rattle.text.specs.Readers.{word, digitsAfter, number}
 use Rattle.session_shape.specs.Shape.{fits, deeper, shapedAfter}
-use Rattle.session_reader.specs.Session.{Act, read, swap, step, Verdict, bad, session, short, numbers, manyWithin, values, opening, keyword, head, body, form, line, count, times, actions, formed, played, counted, verdict}
+use Rattle.session_file.specs.Session.{Act, read, swap, step, Verdict, bad, session, short, numbers, manyWithin, values, opening, keyword, head, body, form, line, count, times, actions, formed, played, counted, verdict}
 
 -- P1: its opening and 15 actions
 p1 :

@@ -15,8 +15,8 @@ use Rattle.cells.specs.Open.{After, opened}
 use Rattle.cells.specs.Begin.{readBegun, swapBegun}
 use Rattle.cells.specs.Step.{stepped}
 use Rattle.cells.specs.Look.{looked}
-use Rattle.session_reader.specs.Session.{Act, read, swap, step, Opening, Verdict, bad, session, verdict}
-use Rattle.session_runner.specs.Lines.{badLine, noLine, doneLine, cellLine, endLine}
+use Rattle.session_file.specs.Session.{Act, read, swap, step, Opening, Verdict, bad, session, verdict}
+use Rattle.session_text.specs.Lines.{badLine, noLine, doneLine, cellLine, endLine}
 
 -- finished calls, and their hardware CAS attempts
 pub record Totals : Type 0 where

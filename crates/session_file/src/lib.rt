@@ -1,0 +1,1 @@
+// What a session file is: definitions alone, in specs/.

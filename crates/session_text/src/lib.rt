@@ -1,0 +1,1 @@
+// What a session prints: definitions alone, in specs/.
