@@ -1,7 +1,7 @@
 // Hands the entries wrong numbers, unfit states and pools of another length, one fault at a time, and prints what each
 // answers: 100 acted, 200 ended, else the number of the refusal, and ! if a refused entry did not leave state and pool as
-// they were. Standard input has the plain case on its first line, and then a case on each: a letter and a number for each
-// word that is other than in the plain case, and the name of the case. The letters stand for:
+// they were. Standard input has a case on each line: a letter and a number for each word that is not as in the plain case,
+// then the name of the case. The letters stand for:
 // - a .. f, of the state: tasks, cells, blocks, block last taken, blocks of cells 1 and 2; g: words of the pool
 // - h: whose record is set; i .. r, of that record: line, wanted, kind, cell, expected, new, held, taken, steps, hard
 // - s .. v, of the calls: task, cell, expected, new
@@ -85,34 +85,16 @@ fn print_reply(before: u32, r: Reply, pool: &[u32]) {
 
 // A CASE
 
-fn try_read(before: u32, s: State, pool: &[u32], task: u32, cell: u32) {
-    let r = cells::begin_read(s, pool, task, cell);
-    print_reply(before, r, pool);
-}
-
-fn try_swap(before: u32, s: State, pool: &[u32], task: u32, cell: u32, expected: u32, new: u32) {
-    let r = cells::begin_swap(s, pool, task, cell, expected, new);
-    print_reply(before, r, pool);
-}
-
-fn try_step(before: u32, s: State, pool: &mut [u32], task: u32) {
-    let r = cells::step(s, pool, task);
-    print_reply(before, r, pool);
-}
-
 fn try_entries(s: State, pool: &mut [u32], task: u32, cell: u32, expected: u32, new: u32) {
     let before = sum_of(s, pool);
     let looked = cells::look(s, pool, cell);
-    try_read(before, s, pool, task, cell);
-    try_swap(before, s, pool, task, cell, expected, new);
-    try_step(before, s, pool, task);
-    print_look(looked);
-}
-
-fn try_open(s: State, pool: &mut [u32], tasks: u32, cells: u32, blocks: u32, values: &[u32]) {
-    let before = sum_of(s, pool);
-    let r = cells::open(s, pool, tasks, cells, blocks, values);
+    let r = cells::begin_read(s, pool, task, cell);
     print_reply(before, r, pool);
+    let q = cells::begin_swap(s, pool, task, cell, expected, new);
+    print_reply(before, q, pool);
+    let e = cells::step(s, pool, task);
+    print_reply(before, e, pool);
+    print_look(looked);
 }
 
 fn record_of(c: [u32; 26]) -> Record {
@@ -131,30 +113,31 @@ fn record_of(c: [u32; 26]) -> Record {
     }
 }
 
-fn state_of(c: [u32; 26], idle: Record) -> State {
-    State {
+fn state_of(c: [u32; 26]) -> State {
+    let idle = records::idle();
+    let mut s = State {
         tasks: c[0],
         cells: c[1],
         blocks: c[2],
         last: c[3],
         current: [0, c[4], c[5], 3, 4, 5, 6, 7, 8, 9, 10, 11, 12, 13, 14, 15],
         records: [idle; 32],
-    }
-}
-
-fn with_record(mut s: State, t: u32, r: Record) -> State {
+    };
+    let t = c[7] as usize;
     if t < 32 {
-        s.records[t as usize] = r;
+        s.records[t] = record_of(c);
     }
     s
 }
 
 fn try_case(c: [u32; 26], pool: &mut [u32], values: &[u32]) {
-    let s = with_record(state_of(c, records::idle()), c[7], record_of(c));
+    let s = state_of(c);
     if c[22] == 0 {
         try_entries(s, pool, c[18], c[19], c[20], c[21]);
     } else {
-        try_open(s, pool, c[0], c[1], c[2], values);
+        let before = sum_of(s, pool);
+        let r = cells::open(s, pool, s.tasks, s.cells, s.blocks, values);
+        print_reply(before, r, pool);
     }
 }
 
@@ -169,22 +152,46 @@ fn lend(c: [u32; 26], all: &mut [u32], words: u32, values: &[u32], given: u32) {
     }
 }
 
-// Nine blocks' words, opened.
+// The words of nine blocks, as opening two cells with 5 and 6 leaves them.
+fn opened() -> [u32; 45] {
+    let mut pool = [0u32; 45];
+    pool[0] = 255;
+    pool[3] = 5;
+    pool[4] = 4294967295;
+    pool[5] = 255;
+    pool[8] = 6;
+    pool[9] = 4294967295;
+    pool
+}
+
 fn run_case(c: [u32; 26]) {
-    let mut all = [0u32; 45];
-    cells::open(state_of(c, records::idle()), &mut all, 3, 2, 9, &[5, 6]);
+    let mut all = opened();
     lend(c, &mut all, c[6], &[5, c[23], 6], c[22]);
     io::write_all(STDOUT_FILENO, b"\n");
 }
 
 // READING
 
-// The plain case's words and this case's, so far; the word whose number is read; whether the name has begun.
+// The case's words so far, and the word whose number is read; 26 in the name.
 struct Reading {
-    plain: [u32; 26],
     words: [u32; 26],
     at: usize,
-    named: bool,
+}
+
+// Three tasks, two cells, eight blocks, all idle; task 0 is to swap 5 for 7; the second value is 6.
+fn plain() -> Reading {
+    let mut words = [0u32; 26];
+    words[0] = 3;
+    words[1] = 2;
+    words[2] = 8;
+    words[3] = 1;
+    words[4] = 1;
+    words[5] = 2;
+    words[6] = 40;
+    words[20] = 5;
+    words[21] = 7;
+    words[23] = 6;
+    Reading { words, at: 0 }
 }
 
 fn with_digit(n: u32, digit: u8) -> u32 {
@@ -205,11 +212,7 @@ fn read(mut r: Reading, byte: u8) -> Reading {
             }
         }
         b':' => {
-            r.named = true;
-        }
-        b'\n' => {
-            let plain = r.words;
-            r.plain = plain;
+            r.at = 26;
         }
         _ => {}
     }
@@ -217,32 +220,25 @@ fn read(mut r: Reading, byte: u8) -> Reading {
 }
 
 // A byte of the name, or the line's end.
-fn name(mut r: Reading, byte: u8) -> Reading {
+fn name(r: Reading, byte: u8) -> Reading {
     if byte != b'\n' {
         io::write_all(STDOUT_FILENO, &[byte]);
         return r;
     }
     let words = r.words;
     run_case(words);
-    let plain = r.plain;
-    r.words = plain;
-    r.named = false;
-    r
+    plain()
 }
 
 fn run(text: &[u8]) {
-    let mut r = Reading {
-        plain: [0; 26],
-        words: [0; 26],
-        at: 0,
-        named: false,
-    };
+    let mut r = plain();
     let mut k: usize = 0;
     while k < text.len() {
-        r = if r.named {
-            name(r, text[k])
+        let byte = text[k];
+        r = if r.at < 26 {
+            read(r, byte)
         } else {
-            read(r, text[k])
+            name(r, byte)
         };
         k += 1;
     }

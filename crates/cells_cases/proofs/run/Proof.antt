@@ -11,20 +11,20 @@ Inv-loop text r₀ k₀ r k = k ≤ length text
 abbrev μ-loop : tie.MeasureT-loop
 μ-loop text r₀ k₀ r k = length text - k
 
+plain-requires : tie.Need-plain-requires Inv-loop μ-loop
+plain-requires c κs = search needs
+
 loop-holds : tie.Need-loop-holds Inv-loop μ-loop
 loop-holds c = search needs
 
-shared-slice-read-name : tie.Need-shared-slice-read-name Inv-loop μ-loop
-shared-slice-read-name c = search needs
-
-name-requires : tie.Need-name-requires Inv-loop μ-loop
-name-requires c κs = search needs
-
-shared-slice-read-read : tie.Need-shared-slice-read-read Inv-loop μ-loop
-shared-slice-read-read c = search needs
+shared-slice-read-byte : tie.Need-shared-slice-read-byte Inv-loop μ-loop
+shared-slice-read-byte c = search needs
 
 read-requires : tie.Need-read-requires Inv-loop μ-loop
 read-requires c κs = search needs
+
+name-requires : tie.Need-name-requires Inv-loop μ-loop
+name-requires c κs = search needs
 
 add-k : tie.Need-add-k Inv-loop μ-loop
 add-k c = search needs
@@ -44,11 +44,11 @@ run-spec =
     (tie.spec
     Inv-loop
     μ-loop
+    plain-requires
     loop-holds
-    shared-slice-read-name
-    name-requires
-    shared-slice-read-read
+    shared-slice-read-byte
     read-requires
+    name-requires
     add-k
     loop-less
     loop-again
