@@ -22,3 +22,4 @@ pub mod Simulation
 pub mod Reachable
 pub mod Ninth
 pub mod TracedCalls
+pub mod Examples

@@ -8,12 +8,13 @@ use mathlib.Core.List.{List, [], _∷_, _++_}
 use Prim.Native.Nat.{ℕ, _+_, _*_, _≤_, _<_}
 use native.Mathlib.Omega.{arith}
 use lib.Dec.{eqb, T}
+use lib.ListN.{replicate}
 use borrow.Author.Tests.{eq-eqb, ne-eqb}
 use Rattle.history.specs.Basics.{upd, _∈_, Once}
 use Rattle.history.specs.History.{Op, read, swap, Action, begin, step, Event, refused, begun, going, answered, Answer, Value, Yes, No, Begin, Call, Finished, Calls, noCalls, callsOf}
 use Rattle.history.specs.History.{CallOf, finished, pending, WellFormed}
-use Rattle.history.specs.Linearization.{Point, replies, Placed, Linearizes}
-use Rattle.history.specs.Demand3.{most, mostHard, Bounds, Alone, NoHardware, Demand3}
+use Rattle.history.specs.Linearization.{apply, Point, replies, Placed, Linearizes}
+use Rattle.history.specs.Demand3.{most, mostHard, Bounds, Unequal, Alone, NoHardware, Demand3}
 use Rattle.history.proofs.Basics.{either}
 use Rattle.history.proofs.Tracks.{clash, some-inj}
 use Rattle.history.proofs.Points.{ats, to-ats}
@@ -246,6 +247,13 @@ no-call-twice values b c m n xs ys i r = not-again xs ys (point c m) (point c n)
 pub no-effect-at-the-begin : (values : ℕ → ℕ) (b : Calls) (l : List Point) (x : Point) → x ∈ l → x .moment ≤ x .call .at → Linearizes values b l → ⊥
 no-effect-at-the-begin values b l x i q r = let p = r .placed x i in omega (arith, p .after-begin, ap (λ (s : Begin). s .at) (p .is))
 
+-- RIGHT: a swap changes its own cell and no other
+pub its-own-cell : apply five (swap 1 5 7) 1 ≡ 7
+its-own-cell = refl
+
+pub no-other-cell : apply five (swap 1 5 7) 0 ≡ 5
+no-other-cell = refl
+
 -- WRONG ANSWERS: no linearization has them
 
 -- a call of one step or more, finished as reported
@@ -396,6 +404,39 @@ pub no-read-beyond-its-bound : Bounds (callsOf ((begin 0 (read 0), begun) ∷
 unfolding upd
 no-read-beyond-its-bound c = omega (arith, c .unended 0 _ refl .0)
 
+-- a swap that seventeen steps did not end
+pub no-swap-beyond-its-bound : Bounds (callsOf ((begin 0 (swap 0 5 7), begun) ∷ replicate 17 (step 0, going 0))) → ⊥
+unfolding upd
+no-swap-beyond-its-bound c = omega (arith, c .unended 0 _ refl .0)
+
+-- a hardware CAS more than the kind's most
+pub no-read-of-two-hardware-CAS : Bounds (callsOf ((begin 0 (read 0), begun) ∷ replicate 2 (step 0, going 1))) → ⊥
+unfolding upd
+no-read-of-two-hardware-CAS c = omega (arith, c .unended 0 _ refl .1)
+
+pub no-swap-of-four-hardware-CAS : Bounds (callsOf ((begin 0 (swap 0 5 7), begun) ∷ replicate 4 (step 0, going 1))) → ⊥
+unfolding upd
+no-swap-of-four-hardware-CAS c = omega (arith, c .unended 0 _ refl .1)
+
+-- RIGHT: document 01's longest calls, a read that decides and a swap that ends at 30 by 25
+abbrev only : Finished → Calls
+only f = record { now = 18; accepted = []; pending = λ t. none; finished = f ∷ [] }
+
+within-bounds : (f : Finished) → (f .call .steps ≤ most (f .call .start .op)) × (f .call .hard ≤ mostHard (f .call .start .op)) → (f .steps ≡ f .call .steps) × (f .hard ≡ f .call .hard) → Bounds (only f)
+within-bounds f h r = record { ended = ended; reported = reported; unended = λ t c e. absurd (clash refl e) }
+  where
+    ended : (g : Finished) → g ∈ (f ∷ []) → (g .call .steps ≤ most (g .call .start .op)) × (g .call .hard ≤ mostHard (g .call .start .op))
+    ended g (inl q) = rw q h
+
+    reported : (g : Finished) → g ∈ (f ∷ []) → (g .steps ≡ g .call .steps) × (g .hard ≡ g .call .hard)
+    reported g (inl q) = rw q r
+
+pub longest-read : Bounds (only (ended 0 0 (read 0) [] 6 6 1 (Value 5)))
+longest-read = within-bounds _ (omega arith) (refl, refl)
+
+pub longest-swap : Bounds (only (ended 0 0 (swap 0 5 7) [] 17 17 3 Yes))
+longest-swap = within-bounds _ (omega arith) (refl, refl)
+
 -- a swap that is alone, on an active block, tries the hardware CAS
 abbrev needless : Finished
 needless = ended 0 0 (swap 0 5 7) [] 1 1 1 Yes
@@ -412,4 +453,31 @@ no-hardware-CAS-alone h = omega (arith, h (needless .call) 1 (finished needless 
       where
         go : (d ≡ needless .call) ⊎ (d ≡ needless .call) → ⊥
         go (inl q) = ne (ap (λ (c : Call). c .start .at) q)
+        go (inr q) = ne (ap (λ (c : Call). c .start .at) q)
+
+-- and so does one beside which only a swap of equal values is pending
+abbrev beside-equal : List (Action × Event)
+beside-equal = (begin 0 (swap 0 5 5), begun) ∷ (begin 1 (swap 0 5 7), begun) ∷ (step 1, answered 1 Yes 1 1) ∷ []
+
+abbrev equal : Call
+equal = record { start = record { at = 0; task = 0; op = swap 0 5 5; before = [] }; last = 0; steps = 0; hard = 0 }
+
+abbrev beside : Finished
+beside = ended 1 1 (swap 0 5 7) (begin 0 (swap 0 5 5) ∷ []) 2 1 1 Yes
+
+pub no-hardware-CAS-beside-an-equal-swap : NoHardware (λ l k. Unit {0}) (callsOf beside-equal) → ⊥
+unfolding upd
+no-hardware-CAS-beside-an-equal-swap h = omega (arith, h (beside .call) 2 (finished beside (inl refl)) tt alone)
+  where
+    done : (f : Finished) → f ∈ (beside ∷ []) → (f .call ≡ equal) ⊎ (f .call ≡ beside .call)
+    done f (inl q) = inr (ap (λ (f : Finished). f .call) q)
+
+    two : TwoCalls (callsOf beside-equal) equal (beside .call)
+    two = two-calls (callsOf beside-equal) equal (beside .call) (λ t p q. rw (ne-eqb t 0 p, ne-eqb t 1 q)) (λ e h. some-inj h refl) refl done
+
+    alone : Alone (callsOf beside-equal) (beside .call) 2
+    alone d n i u q ne = absurd (go (two d n i))
+      where
+        go : (d ≡ equal) ⊎ (d ≡ beside .call) → ⊥
+        go (inl q) = subst (λ (d : Call). Unequal (d .start .op)) q u refl
         go (inr q) = ne (ap (λ (c : Call). c .start .at) q)

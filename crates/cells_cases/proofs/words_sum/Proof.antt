@@ -1,15 +1,15 @@
--- The loop ends with the pool.
+-- The loop ends with the words.
 use Prim.Native.Nat.{_≤_, _-_}
 use lib.ListN.{length}
 use borrow.Author.Needs.{needs}
-use Rattle.cells_cases.proofs.pool_sum.Statement.{statement}
-use Rattle.cells_cases.proofs.pool_sum.Tie as tie
+use Rattle.cells_cases.proofs.words_sum.Statement.{statement}
+use Rattle.cells_cases.proofs.words_sum.Tie as tie
 
 abbrev Inv-loop : tie.InvT-loop
-Inv-loop start pool sum₀ i₀ sum i = i ≤ length pool
+Inv-loop start words sum₀ k₀ sum k = k ≤ length words
 
 abbrev μ-loop : tie.MeasureT-loop
-μ-loop start pool sum₀ i₀ sum i = length pool - i
+μ-loop start words sum₀ k₀ sum k = length words - k
 
 loop-holds : tie.Need-loop-holds Inv-loop μ-loop
 loop-holds c = search needs
@@ -23,8 +23,8 @@ shared-slice-read-mixed c = search needs
 mixed-requires : tie.Need-mixed-requires Inv-loop μ-loop
 mixed-requires c κs = search needs
 
-add-i : tie.Need-add-i Inv-loop μ-loop
-add-i c = search needs
+add-k : tie.Need-add-k Inv-loop μ-loop
+add-k c = search needs
 
 loop-less : tie.Need-loop-less Inv-loop μ-loop
 loop-less c = search needs
@@ -35,8 +35,8 @@ loop-again c = search needs
 returns : tie.Need-returns Inv-loop μ-loop
 returns c = search needs
 
-pub pool-sum-spec : {M : Type 1} → statement M
-pool-sum-spec =
+pub words-sum-spec : {M : Type 1} → statement M
+words-sum-spec =
     tie.close
     (tie.spec
     Inv-loop
@@ -45,7 +45,7 @@ pool-sum-spec =
     mul-mixed
     shared-slice-read-mixed
     mixed-requires
-    add-i
+    add-k
     loop-less
     loop-again
     returns)
