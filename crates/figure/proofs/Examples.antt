@@ -5,7 +5,7 @@ use Prim.Native.Nat.{ℕ}
 use lib.ListN.{replicate}
 use Rattle.history.specs.Basics.{upd}
 use Rattle.history.specs.History.{Op, swap, Action, begin, step, Yes, No, Event, refused, begun, going, answered, history}
-use Rattle.figure.specs.Figure.{World, opening, ran, stepped, begins, figure}
+use Rattle.figure.specs.Figure.{opening, ran, stepped, begins, figure}
 
 abbrev ends : List (Action × Event) → List Event
 ends [] = []

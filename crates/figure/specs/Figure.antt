@@ -1,6 +1,6 @@
 -- Figure 2 with a new block each time. The cells share nothing: each numbers its own blocks. The lines are those of `cells`.
 use mathlib.Core.Path.{_≡_}
-use mathlib.Core.Bool.{Bool, true, false, cond}
+use mathlib.Core.Bool.{cond}
 use mathlib.Core.Option.{Option, none, some}
 use mathlib.Core.List.{List}
 use Prim.Native.Nat.{ℕ, suc}

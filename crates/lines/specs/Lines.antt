@@ -1,10 +1,9 @@
 -- Figure 2 without its memory: what each line accesses, and what follows from the value that memory answers.
 -- The pool and the figure with a new block each time both run these clauses.
-use mathlib.Core.Bool.{Bool, true, false, cond}
+use mathlib.Core.Bool.{cond}
 use Prim.Native.Nat.{ℕ, _+_}
 use lib.Dec.{eqb}
 use Rattle.lines.specs.declared.Record.{Record}
-use Rattle.lines.specs.declared.Finished.{Finished}
 use Rattle.lines.specs.declared.Answer.{Answer}
 use Rattle.lines.specs.declared.Answer.the-variants.{Value, Yes, No}
 use Rattle.lines.specs.declared.Field.{Field}

@@ -22,14 +22,3 @@ unrefused ((n, false) ∷ l) h e = absurd (omega (arith, e, ltb-true 0 n (and-eq
 pub refused : (o : Option ℕ) → (Option·getD o 0 ≡ 0 → ⊥) → o ≡ some (Option·getD o 0)
 refused none h = absurd (h refl)
 refused (some n) h = refl
-
--- further questions are asked only where all before are answered yes
-pub stays : (l m : List Question) → (Option·getD (refusal l) 0 ≡ 0 → ⊥) → refusal (l ++ m) ≡ refusal l
-stays [] m h = absurd (h refl)
-stays ((n, true) ∷ l) m h = stays l m h
-stays ((n, false) ∷ l) m h = refl
-
-pub passes : (l m : List Question) → refusal l ≡ none → refusal (l ++ m) ≡ refusal m
-passes [] m e = refl
-passes ((n, true) ∷ l) m e = passes l m e
-passes ((n, false) ∷ l) m e = cc

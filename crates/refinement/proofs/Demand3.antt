@@ -2,7 +2,7 @@
 use mathlib.Core.Path.{_≡_, refl, sym, subst}
 use mathlib.Core.Logic.{_≢_}
 use mathlib.Core.Bool.{Bool, true, false, not}
-use mathlib.Core.Option.{Option, none, some}
+use mathlib.Core.Option.{none, some}
 use mathlib.Core.List.{List, [], _∷_}
 use Prim.Native.Nat.{ℕ, zero, suc, _≤_}
 use native.Mathlib.Decide.{decLe}
@@ -19,7 +19,7 @@ use Rattle.history.specs.Demand3.{most, Demand3, Meets, Finishes, activeAfter}
 use Rattle.history.proofs.EndsWithin.{ends-within}
 use Rattle.figure.specs.Figure.{figure, opening, active}
 use Rattle.figure.proofs.Simulation.{figure-meets-demand-3}
-use Rattle.refinement.specs.Pool.{Pool, pool}
+use Rattle.refinement.specs.Pool.{pool}
 use Rattle.refinement.specs.Terms.{start}
 use Rattle.refinement.proofs.Refines.{same-history}
 

@@ -1,9 +1,9 @@
 -- The session file, after the scope's "Session file" and "Sessions in brackets": refusals 12 to 15, or a session.
-use mathlib.Core.Bool.{Bool, true, false, cond, not, _&&_, _||_}
+use mathlib.Core.Bool.{Bool, true, false, cond}
 use mathlib.Core.List.{List, [], _∷_, _++_}
 use mathlib.Core.Option.{Option, none, some}
-use Prim.Native.Nat.{ℕ, zero, suc, _+_, _-_, _*_}
-use lib.Dec.{leb, ltb, eqb}
+use Prim.Native.Nat.{ℕ, zero, suc, _+_, _*_}
+use lib.Dec.{leb}
 use lib.ListN.{length, getD}
 use Rattle.session_shape.specs.Shape.{shaped}
 use Rattle.text.specs.Bytes.{bytes}

@@ -1,10 +1,10 @@
 -- What an arm of a match on an answer knows, and the readers that follow one another in a form's head and in open.
-use mathlib.Core.Path.{_≡_, refl, subst}
+use mathlib.Core.Path.{_≡_, subst}
 use mathlib.Core.List.{List}
-use mathlib.Core.Option.{none, some}
-use Prim.Native.Nat.{ℕ, _+_, _*_, _≤_, _<_}
+use mathlib.Core.Option.{none}
+use Prim.Native.Nat.{ℕ, _*_, _≤_}
 use native.Mathlib.Omega.{arith}
-use lib.ListN.{length, take, drop, getD}
+use lib.ListN.{take, drop, getD}
 use lib.Seq.{getD-take}
 use Rattle.text.specs.Bytes.{bytes}
 use Rattle.text.specs.Readers.{Reads, word}

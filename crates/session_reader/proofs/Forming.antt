@@ -1,13 +1,13 @@
 -- The cases of a form, at a place of the text.
 use mathlib.Core.Path.{_≡_, refl, sym, ap, subst, _∙_}
-use mathlib.Core.List.{List, []}
-use mathlib.Core.Option.{none, some}
-use Prim.Native.Nat.{ℕ, zero, suc, _+_, _-_, _*_, _≤_}
+use mathlib.Core.List.{List}
+use mathlib.Core.Option.{none}
+use Prim.Native.Nat.{ℕ, zero, suc, _-_}
 use native.Mathlib.Omega.{arith}
-use lib.ListN.{length, take, drop, getD}
+use lib.ListN.{take, drop, getD}
 use lib.Seq.{getD-take}
 use Rattle.text.specs.Readers.{Reader, Reads, pure, _>>=_, _>>_}
-use Rattle.session_file.specs.Session.{Act, Kind, reading, swapping, stepping, repeating, arity, head, close, Form, Forms, act, again, body, list, form, actions, actionsOf, times}
+use Rattle.session_file.specs.Session.{Kind, reading, swapping, stepping, repeating, arity, head, close, Form, Forms, act, again, body, list, form, actions, actionsOf, times}
 use Rattle.session_reader.specs.Reading.{acted}
 use Rattle.session_reader.specs.Answers.{kindNumber, HeadIs}
 use Rattle.session_reader.specs.declared.forms.Start.{Start}

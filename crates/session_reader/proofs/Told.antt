@@ -1,12 +1,12 @@
 -- Words that number forms of a table, and the actions they make.
-use mathlib.Core.Path.{_≡_, refl, sym, ap, _∙_}
-use mathlib.Core.List.{List, [], _∷_, _++_, map}
+use mathlib.Core.Path.{_≡_, refl, ap, _∙_}
+use mathlib.Core.List.{List, _∷_, _++_, map}
 use Prim.Native.Nat.{ℕ, zero, suc, _+_, _*_, _≤_}
 use native.Mathlib.Omega.{arith}
 use lib.ListN.{length, take, drop, getD, length-append, length-drop, List·getD-append}
 use lib.Seq.{drop-append-le, take-append-le}
 use Rattle.session_file.specs.Session.{Act, times}
-use Rattle.session_reader.specs.Reading.{acted, actAt}
+use Rattle.session_reader.specs.Reading.{actAt}
 use Rattle.session_reader.specs.Answers.{Told, untold, told}
 
 module _ {table : List ℕ} where

@@ -9,7 +9,7 @@ use lib.Dec.{eqb}
 use lib.ListN.{length, take, drop}
 use Rattle.text.specs.Readers.{Reads}
 use Rattle.session_shape.specs.Shape.{shaped}
-use Rattle.session_file.specs.Session.{Opening, Forms, Verdict, bad, session, opening, lines, counts, actionsOf, formed, played, counted, verdict}
+use Rattle.session_file.specs.Session.{Opening, Forms, bad, session, opening, lines, counts, actionsOf, formed, played, counted, verdict}
 use Rattle.session_reader.specs.Reading.{judged}
 use Rattle.session_reader.specs.Answers.{OpenedIs}
 use Rattle.session_reader.specs.declared.opening.Opened.{Opened}

@@ -1,7 +1,6 @@
 // Items of a form: its numbers, and what parts and ends them.
 use text::Numeral;
 use text::Place;
-ghost use mathlib.Core.Path.{_≡_};
 ghost use Prim.Native.Nat.{_≤_};
 ghost use lib.ListN.{length};
 ghost use Rattle.text.specs.Answers.{PlaceIs, NumeralIs};

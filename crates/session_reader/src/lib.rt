@@ -4,7 +4,6 @@ mod items;
 mod opening;
 
 ghost use mathlib.Core.Path.{_≡_};
-ghost use Prim.Native.Nat.{_*_, _≤_};
 ghost use lib.ListN.{length};
 ghost use Rattle.session_file.specs.Session.{verdict};
 ghost use Rattle.session_reader.specs.Reading.{verdictOf, judged};

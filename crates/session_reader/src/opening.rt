@@ -2,7 +2,6 @@
 use crate::items;
 use text::Numeral;
 use text::Place;
-ghost use mathlib.Core.Path.{_≡_};
 ghost use Prim.Native.Nat.{_+_, _*_, _≤_};
 ghost use lib.ListN.{length};
 ghost use Rattle.session_reader.specs.Answers.{ValuesAre, LeadIs, OpenedIs};

@@ -15,7 +15,6 @@ ghost use lib.ListN.{length, take, replicate};
 ghost use Rattle.io.specs.Counts.{Counts};
 ghost use Rattle.text.specs.Append.{Appended};
 ghost use Rattle.cells.specs.Open.{opened};
-ghost use Rattle.session_file.specs.Session.{Opening};
 ghost use Rattle.session_reader.specs.Reading.{actAt, verdictOf};
 ghost use Rattle.session_reader.specs.Kept.{Named, Within};
 ghost use Rattle.session_text.specs.Printed.{started, blank as «blankOf», poolWords, run as «runOf», shown, printedWithin};

@@ -18,7 +18,7 @@ ghost use Rattle.refinement.specs.Reached.{Reached};
 ghost use Rattle.session_reader.specs.Reading.{actAt};
 ghost use Rattle.session_reader.specs.Kept.{Named};
 ghost use Rattle.session_text.specs.Lines.{Small};
-ghost use Rattle.session_text.specs.Printed.{Totals, totals, reported, counted, lookLine, cellLines, pending as «pendingOf», closed, played};
+ghost use Rattle.session_text.specs.Printed.{totals, reported, counted, lookLine, cellLines, pending as «pendingOf», closed, played};
 ghost use Rattle.session_runner.specs.Actions.{totalsOf};
 
 // Finished calls, and their hardware CAS attempts.

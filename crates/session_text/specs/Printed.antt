@@ -1,11 +1,10 @@
 -- What a session file prints.
-use mathlib.Core.Bool.{true, false, cond}
+use mathlib.Core.Bool.{cond}
 use mathlib.Core.List.{List, [], _∷_, _++_}
 use Prim.Native.Nat.{ℕ, zero, suc, _+_, _*_}
 use lib.Dec.{leb}
-use lib.ListN.{length, replicate}
+use lib.ListN.{replicate}
 use Rattle.questions.specs.declared.State.{State}
-use Rattle.lines.specs.declared.Finished.{Finished}
 use Rattle.cells.specs.declared.Outcome.{Outcome}
 use Rattle.cells.specs.declared.Outcome.the-variants.{Refused, Acted, Ended}
 use Rattle.cells.specs.declared.Looked.{Looked}

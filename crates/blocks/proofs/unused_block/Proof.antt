@@ -1,5 +1,5 @@
 -- The loop: what is left from here on finds what the whole search finds.
-use mathlib.Core.Path.{_≡_, refl, sym, _∙_}
+use mathlib.Core.Path.{_≡_, sym, _∙_}
 use Prim.Native.Nat.{_≤_, _<_}
 use mathlib.Core.Bool.{true}
 use borrow.Author.Tests.{not-true, not-false}

@@ -1,7 +1,7 @@
 use borrow.Author.Needs.{needs}
 use native.Mathlib.Omega.{arith}
 use Rattle.session_shape.specs.Shape.{deeper}
-use borrow.Author.Tests.{eq-eqb, ne-eqb}
+use borrow.Author.Tests.{ne-eqb}
 use Rattle.session_shape.proofs.deeper.Statement.{statement}
 use Rattle.session_shape.proofs.deeper.Tie as tie
 

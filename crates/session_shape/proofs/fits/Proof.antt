@@ -1,5 +1,3 @@
-use borrow.Author.Needs.{needs}
-use native.Mathlib.Omega.{arith}
 use Rattle.session_shape.specs.Shape.{fits}
 use borrow.Author.Tests.{ne-eqb}
 use Rattle.session_shape.proofs.fits.Statement.{statement}

@@ -5,7 +5,7 @@ use Rattle.session_shape.specs.Shape.{shaped, shapedAfter}
 use lib.ListN.{length, drop, getD}
 use borrow.Author.Tests.{not-true, not-false}
 use Prim.Native.Nat.{_-_, _≤_}
-use mathlib.Core.Path.{_≡_, refl, sym, _∙_}
+use mathlib.Core.Path.{_≡_, sym, _∙_}
 use Rattle.session_shape.proofs.shaped.Statement.{statement}
 use Rattle.session_shape.proofs.shaped.Tie as tie
 

@@ -3,7 +3,7 @@ use native.Mathlib.Omega.{arith}
 use Rattle.text.proofs.Decimal.{digits-none, digits-one, digits-more, digits-room}
 use lib.ListN.{length}
 use mathlib.Core.Path.{ap}
-use Prim.Native.Nat.{_+_, _-_, _/_, _%_}
+use Prim.Native.Nat.{_+_, _-_, _%_}
 use Rattle.text.proofs.Appending.{nothing, one, then}
 use Prim.Native.Nat.{ℕ, _<_}
 use borrow.Fn.Kinds.{In}

@@ -1,5 +1,5 @@
 use borrow.Author.Needs.{needs}
-use borrow.Author.Tests.{eq-eqb, ne-eqb}
+use borrow.Author.Tests.{ne-eqb}
 use Rattle.lines.proofs.following.next_installed.Statement.{statement}
 use Rattle.lines.proofs.following.next_installed.Tie as tie
 

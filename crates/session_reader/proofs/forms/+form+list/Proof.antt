@@ -9,7 +9,7 @@ use Rattle.session_reader.specs.declared.forms.Got.the-variants as got
 use Rattle.text.proofs.Reading.{place-at, place-no}
 use Rattle.text.specs.Readers.{_>>_, Reads}
 use lib.ListN.{length, drop, getD}
-use Prim.Native.Nat.{ℕ, _+_, _-_, _*_, _≤_, _<_}
+use Prim.Native.Nat.{ℕ, _+_, _-_, _<_}
 use mathlib.Core.Path.{_≡_, sym, _∙_}
 use mathlib.Core.Option.{none}
 use borrow.Fn.Kinds.{In}

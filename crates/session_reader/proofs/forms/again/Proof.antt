@@ -4,7 +4,7 @@ use Rattle.session_reader.proofs.Standing.{again-none, again-over, agai
 use lib.ListN.{length}
 use mathlib.Core.Path.{refl}
 use native.Mathlib.Nat.{mul-le-mul-left}
-use Prim.Native.Nat.{_+_, _-_, _*_, _≤_, _<_}
+use Prim.Native.Nat.{_-_}
 use Rattle.session_reader.proofs.forms.again.Statement.{statement}
 use Rattle.session_reader.proofs.forms.again.Tie as tie
 

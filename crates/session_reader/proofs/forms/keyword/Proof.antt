@@ -4,8 +4,6 @@ use Rattle.session_file.specs.Session.{reading, swapping, stepping, repeating, 
 use Rattle.text.proofs.Reading.{place-at, place-no}
 use Rattle.text.specs.Readers as readers
 use Rattle.text.specs.Bytes.{bytes}
-use Prim.Native.Nat.{ℕ}
-use mathlib.Core.List.{List}
 use mathlib.Core.Path.{refl}
 use Rattle.session_reader.proofs.forms.keyword.Statement.{statement}
 use Rattle.session_reader.proofs.forms.keyword.Tie as tie

@@ -5,7 +5,7 @@ use Rattle.session_file.specs.Session as specs
 use Rattle.session_reader.specs.Answers.{GotIs}
 use Rattle.session_reader.specs.declared.forms.Got.the-variants as got
 use lib.ListN.{length}
-use Prim.Native.Nat.{_+_, _-_}
+use Prim.Native.Nat.{_-_}
 use Rattle.session_reader.proofs.forms.lines.Statement.{statement}
 use Rattle.session_reader.proofs.forms.lines.Tie as tie
 

@@ -1,9 +1,8 @@
 use borrow.Author.Needs.{needs}
-use native.Mathlib.Omega.{arith}
 use Rattle.session_reader.proofs.Counted.{number-after}
 use Rattle.session_file.specs.Session.{space, item}
 use Rattle.text.proofs.Reading.{place-at, place-no}
-use Rattle.text.specs.Readers.{Reader, number}
+use Rattle.text.specs.Readers.{number}
 use Rattle.session_reader.proofs.items.item.Statement.{statement}
 use Rattle.session_reader.proofs.items.item.Tie as tie
 

@@ -8,7 +8,7 @@ use Rattle.text.proofs.Reading.{place-at, place-no, number-at, number-no}
 use Rattle.text.proofs.Appending.{one}
 use Rattle.text.specs.Readers.{number}
 use Prim.Native.Nat.{_+_, _-_, _*_, _≤_}
-use mathlib.Core.Path.{_≡_, refl, sym, _∙_}
+use mathlib.Core.Path.{_≡_, _∙_}
 use Rattle.session_reader.proofs.opening.values.Statement.{statement}
 use Rattle.session_reader.proofs.opening.values.Tie as tie
 

@@ -1,6 +1,5 @@
 use mathlib.Core.Path.{_∙_}
 use borrow.Author.Needs.{needs}
-use native.Mathlib.Omega.{arith}
 use Rattle.session_runner.proofs.turns.act.Statement.{statement}
 use Rattle.session_runner.proofs.turns.act.Tie as tie
 
