@@ -1,6 +1,7 @@
 // The lines that a session prints. Room for any of them is 67 bytes, for the end 90; with the numbers that a session has,
 // the line of an action takes at most 36.
 ghost use mathlib.Core.Path.{_≡_};
+ghost use mathlib.Core.List.{[], _∷_};
 ghost use Prim.Native.Nat.{_+_, _*_, _≤_};
 ghost use lib.ListN.{length};
 ghost use Rattle.cells.specs.declared.Outcome.the-variants.{Ended};
@@ -48,12 +49,20 @@ pub fn put_bad(out: &mut [u8], at: usize, n: u32) -> usize
     put_line(out, at, b"(bad", &[wide(n)])
 }
 
+fn put_pair(out: &mut [u8], at: usize, start: &[u8], a: u32, b: u32) -> usize
+    requires { ⌜ (at + 67 ≤ length (now out)) × (length (now start) ≤ 12) ⌝ }
+    ensures { λ r. ⌜ Appended (now (out .entry)) (now (out .exit)) at r (line (now (start .entry)) (a ∷ b ∷ [])) ⌝ }
+    ensures { λ r. ⌜ r ≤ at + 36 ⌝ }
+{
+    put_line(out, at, start, &[wide(a), wide(b)])
+}
+
 pub fn put_no(out: &mut [u8], at: usize, action: u32, n: u32) -> usize
     requires { ⌜ at + 67 ≤ length (now out) ⌝ }
     ensures { λ r. ⌜ Appended (now (out .entry)) (now (out .exit)) at r (noLine action n) ⌝ }
     ensures { λ r. ⌜ r ≤ at + 36 ⌝ }
 {
-    put_line(out, at, b"(no", &[wide(action), wide(n)])
+    put_pair(out, at, b"(no", action, n)
 }
 
 pub fn put_cell(out: &mut [u8], at: usize, cell: u32, value: u32) -> usize
@@ -61,7 +70,7 @@ pub fn put_cell(out: &mut [u8], at: usize, cell: u32, value: u32) -> usize
     ensures { λ r. ⌜ Appended (now (out .entry)) (now (out .exit)) at r (cellLine cell value) ⌝ }
     ensures { λ r. ⌜ r ≤ at + 67 ⌝ }
 {
-    put_line(out, at, b"(cell", &[wide(cell), wide(value)])
+    put_pair(out, at, b"(cell", cell, value)
 }
 
 // A number of 32 bits has at most ten digits.
