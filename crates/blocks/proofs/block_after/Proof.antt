@@ -4,12 +4,6 @@ use borrow.Author.Needs.{needs}
 use Rattle.blocks.proofs.block_after.Statement.{statement}
 use Rattle.blocks.proofs.block_after.Tie as tie
 
-add-if1 : tie.Need-add-if1
-add-if1 c = search needs
-
-add-result : tie.Need-add-result
-add-result c = search needs
-
 returns : tie.Need-returns
 returns c = rw (eq-eqb _ _ (c .if1 .taken))
 
@@ -17,4 +11,4 @@ returns-2 : tie.Need-returns-2
 returns-2 c = rw (ne-eqb _ _ (c .if1 .left))
 
 pub block-after-spec : {M : Type 1} → statement M
-block-after-spec = tie.close (tie.spec add-if1 add-result returns returns-2)
+block-after-spec = tie.close (tie.spec (λ c. search needs) (λ c. search needs) returns returns-2)

@@ -33,22 +33,10 @@ loop-holds c =
     let h = searched s (guarded (c .before)) in
     rw (c .block-after .ensures) (h, after-below (s .blocks) (s .last) (h .2), sym (finds s (guarded (c .before))))
 
-is-used-requires : tie.Need-is-used-requires Inv-loop μ-loop
-is-used-requires c κs = search needs
-
 returns-2 : tie.Need-returns-2 Inv-loop μ-loop
 returns-2 c =
     let l = c .before .before .before .loop in
     here (c .before .before .before .before .before .before .before .before .before .args .s) (l .b) (l .left) (l .inv .2) (c .before .before .loop-test .taken) (sym (c .before .is-used .ensures) ∙ not-true _ (c .if2 .taken))
-
-block-after-requires-2 : tie.Need-block-after-requires-2 Inv-loop μ-loop
-block-after-requires-2 c κs = search needs
-
-sub-left : tie.Need-sub-left Inv-loop μ-loop
-sub-left c = search needs
-
-loop-less : tie.Need-loop-less Inv-loop μ-loop
-loop-less c = omega arith
 
 loop-again : tie.Need-loop-again Inv-loop μ-loop
 loop-again c =
@@ -69,10 +57,10 @@ unused-block-spec =
     returns
     block-after-requires
     loop-holds
-    is-used-requires
+    (λ c κs. search needs)
     returns-2
-    block-after-requires-2
-    sub-left
-    loop-less
+    (λ c κs. search needs)
+    (λ c. search needs)
+    (λ c. omega arith)
     loop-again
     returns-3)

@@ -33,29 +33,14 @@ number c =
     (asked-of _ (fit s (now (e .pool))) (ltb (e .task) (s .tasks)) _ (recordAt (s .records) (e .task)) (more s (e .q)) (c .before .before .is-fit .ensures)
     (⊎-elim (λ w. inl (w .0 .taken, w .2)) (λ w. inr (w .0 .left)) (c .before .if1 .came)))
 
-is-fit-requires : tie.Need-is-fit-requires
-is-fit-requires c κs = search needs
-
-mul-r : tie.Need-mul-r
-mul-r c = search needs
-
 element-copy-out-r : tie.Need-element-copy-out-r
 element-copy-out-r c = let e = c .before .before .before .args in task-below (e .t1) (now (e .pool)) (e .task) _ (c .before .is-fit .ensures) (c .if1 .taken)
-
-idle-requires : tie.Need-idle-requires
-idle-requires c κs = search needs
-
-begin-refusal-requires : tie.Need-begin-refusal-requires
-begin-refusal-requires c κs = search needs
 
 returns : tie.Need-returns
 unfolding begun
 returns c =
     let e = c .before .before .before .before .before .args in
     is-refused (asked (e .t1) (now (e .pool)) (e .task) (e .q)) _ (number (c .before)) (c .if2 .taken) (e .t1) (now (e .pool)) (started (e .t1) (now (e .pool)) (e .task) (e .q))
-
-mul-q : tie.Need-mul-q
-mul-q c = search needs
 
 element-set-from-q : tie.Need-element-set-from-q
 element-set-from-q c =
@@ -73,12 +58,12 @@ pub begin-spec : {M : Type 1} → statement M
 begin-spec =
     tie.close
     (tie.spec
-    is-fit-requires
-    mul-r
+    (λ c κs. search needs)
+    (λ c. search needs)
     element-copy-out-r
-    idle-requires
-    begin-refusal-requires
+    (λ c κs. search needs)
+    (λ c κs. search needs)
     returns
-    mul-q
+    (λ c. search needs)
     element-set-from-q
     returns-2)

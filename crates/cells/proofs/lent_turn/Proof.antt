@@ -15,38 +15,17 @@ holds c =
     let e = c .before .before .args in
     placed (e .s) (e .task) (e .r) (c .if1 .q) (has-32 (e .s) _ (c .before .before .good .0)) (⊎-elim (λ w. inl (w .1)) (λ w. inr (w .0 .left, w .1)) (c .if1 .came))
 
-mul-r : tie.Need-mul-r
-mul-r c = search needs
-
-element-set-from-r : tie.Need-element-set-from-r
-element-set-from-r c = search needs
-
-step-requires : tie.Need-step-requires
-step-requires c κs = search needs
-
-is-refused-requires : tie.Need-is-refused-requires
-is-refused-requires c κs = search needs
-
-same-length : tie.Need-same-length
-same-length c = search needs
-
 returns : tie.Need-returns
 returns c =
     let e = c .before .before .before .before .before .before .before .before .args in
     let a = c .before .before .before .before .step in
     lent-refused (e .s) (now (e .pool)) (e .task) (e .r) _ (leaving (a .result .state) _ (a .result .outcome)) (holds (c .before .before .before .before .before .before)) (a .ensures) (sym (c .before .is-refused .ensures) ∙ c .if2 .taken)
 
-mul-record : tie.Need-mul-record
-mul-record c = search needs
-
 element-copy-out-record : tie.Need-element-copy-out-record
 element-copy-out-record c =
     let e = c .before .before .before .before .before .before .before .before .before .args in
     let a = c .before .before .before .before .before .step in
     below-32 _ (now (e .pool)) (e .task) (leaving (a .result .state) _ (a .result .outcome)) (a .ensures) (sym (c .before .before .is-refused .ensures) ∙ c .before .if2 .left)
-
-same-length-2 : tie.Need-same-length-2
-same-length-2 c = search needs
 
 returns-2 : tie.Need-returns-2
 returns-2 c =
@@ -58,13 +37,13 @@ pub lent-turn-spec : {M : Type 1} → statement M
 lent-turn-spec =
     tie.close
     (tie.spec
-    mul-r
-    element-set-from-r
-    step-requires
-    is-refused-requires
-    same-length
+    (λ c. search needs)
+    (λ c. search needs)
+    (λ c κs. search needs)
+    (λ c κs. search needs)
+    (λ c. search needs)
     returns
-    mul-record
+    (λ c. search needs)
     element-copy-out-record
-    same-length-2
+    (λ c. search needs)
     returns-2)

@@ -8,9 +8,6 @@ use borrow.Author.Needs.{needs}
 use Rattle.cells.proofs.look.Statement.{statement}
 use Rattle.cells.proofs.look.Tie as tie
 
-is-fit-requires : tie.Need-is-fit-requires
-is-fit-requires c κs = search needs
-
 returns : tie.Need-returns
 unfolding looked
 returns c = rw (sym (c .before .is-fit .ensures) ∙ not-true _ (c .if1 .taken))
@@ -18,9 +15,6 @@ returns c = rw (sym (c .before .is-fit .ensures) ∙ not-true _ (c .if1 .taken))
 returns-2 : tie.Need-returns-2
 unfolding looked
 returns-2 c = rw (sym (c .before .before .is-fit .ensures) ∙ not-false _ (c .before .if1 .left), le-ltb _ _ (c .if2 .taken))
-
-mul-shown-value : tie.Need-mul-shown-value
-mul-shown-value c = search needs
 
 element-copy-out-shown-value : tie.Need-element-copy-out-shown-value
 element-copy-out-shown-value c = let e = c .before .before .before .before .args in current-below (e .t1) (now (e .pool)) (sym (c .before .before .is-fit .ensures) ∙ not-false _ (c .before .if1 .left)) (e .cell) (c .if2 .left) .0
@@ -36,10 +30,10 @@ pub look-spec : {M : Type 1} → statement M
 look-spec =
     tie.close
     (tie.spec
-    is-fit-requires
+    (λ c κs. search needs)
     returns
     returns-2
-    mul-shown-value
+    (λ c. search needs)
     element-copy-out-shown-value
     shown-value-requires
     returns-3)

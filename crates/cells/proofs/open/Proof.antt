@@ -18,18 +18,12 @@ told c =
     let e = c .before .before .before .before .args in
     is-allowed (openQuestions (length (now (e .pool))) (e .tasks) (e .cells) (e .blocks) (now (e .values))) _ (c .before .open-refusal .ensures) (c .if1 .left) refl
 
-open-refusal-requires : tie.Need-open-refusal-requires
-open-refusal-requires c κs = search needs
-
 returns : tie.Need-returns
 unfolding opened
 returns c =
     let e = c .before .before .before .before .args in
     is-refused (openQuestions (length (now (e .pool))) (e .tasks) (e .cells) (e .blocks) (now (e .values))) _ (c .before .open-refusal .ensures) (c .if1 .taken) (e .s) (now (e .pool))
     (leaving (openState (e .tasks) (e .cells) (e .blocks)) (openPool (now (e .pool)) (now (e .values))) Acted)
-
-clear-requires : tie.Need-clear-requires
-clear-requires c κs = search needs
 
 fill-blocks-requires : tie.Need-fill-blocks-requires
 fill-blocks-requires c κs =
@@ -41,9 +35,6 @@ fill-blocks-requires c κs =
 open-state-requires : tie.Need-open-state-requires
 open-state-requires c κs = let e = c .before .before .before .before .before .before .before .before .before .before .before .before .args in opens (now (e .pool)) (now (e .values)) (e .tasks) (e .cells) (e .blocks) (told (c .before .before .before .before .before .before .before .before)) .0
 
-same-length : tie.Need-same-length
-same-length c = search needs
-
 returns-2 : tie.Need-returns-2
 unfolding opened
 returns-2 c = rw (told (c .before .before .before .before .before .before .before .before .before), c .before .before .before .fill-blocks .ensures, c .before .before .before .before .before .before .before .clear .ensures, c .open-state .ensures)
@@ -52,10 +43,10 @@ pub open-spec : {M : Type 1} → statement M
 open-spec =
     tie.close
     (tie.spec
-    open-refusal-requires
+    (λ c κs. search needs)
     returns
-    clear-requires
+    (λ c κs. search needs)
     fill-blocks-requires
     open-state-requires
-    same-length
+    (λ c. search needs)
     returns-2)

@@ -5,17 +5,8 @@ use borrow.Author.Needs.{needs}
 use Rattle.cells.proofs.shown_value.Statement.{statement}
 use Rattle.cells.proofs.shown_value.Tie as tie
 
-load-requires : tie.Need-load-requires
-load-requires c κs = search needs
-
-load-requires-2 : tie.Need-load-requires-2
-load-requires-2 c κs = search needs
-
 returns : tie.Need-returns
 returns c = rw (← c .before .load2 .ensures, c .if1 .taken) (c .before .before .load .ensures)
-
-load-requires-3 : tie.Need-load-requires-3
-load-requires-3 c κs = search needs
 
 returns-2 : tie.Need-returns-2
 returns-2 c = rw (ne-eqb _ _ (λ e. c .before .before .if1 .left (c .before .before .before .load2 .ensures ∙ e)), ← c .before .load3 .ensures, eq-eqb _ _ (c .if2 .taken)) (c .before .before .before .before .load .ensures)
@@ -25,4 +16,4 @@ returns-3 c = rw (ne-eqb _ _ (λ e. c .before .before .if1 .left (c .before .bef
 
 pub shown-value-spec : {M : Type 1} → statement M
 shown-value-spec =
-    tie.close (tie.spec load-requires load-requires-2 returns load-requires-3 returns-2 returns-3)
+    tie.close (tie.spec (λ c κs. search needs) (λ c κs. search needs) returns (λ c κs. search needs) returns-2 returns-3)

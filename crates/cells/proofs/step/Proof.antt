@@ -49,23 +49,8 @@ free c =
     let s = c .before .before .before .before .before .before .before .before .args .t1 in
     ⊎-elim (λ w. inl (ap foundOf (w .2) ∙ w .1 .ensures ∙ finds s (can-search s (acts (c .before .before) .searches)))) (λ w. inr (w .0 .left, ap foundOf (w .1))) (c .if3 .came)
 
-is-fit-requires : tie.Need-is-fit-requires
-is-fit-requires c κs = search needs
-
-mul-r : tie.Need-mul-r
-mul-r c = search needs
-
 element-copy-out-r : tie.Need-element-copy-out-r
 element-copy-out-r c = let e = c .before .before .before .before .args in task-below (e .t1) (now (e .pool)) (e .task) _ (c .before .is-fit .ensures) (c .if1 .taken)
-
-idle-requires : tie.Need-idle-requires
-idle-requires c κs = search needs
-
-step-refusal-requires : tie.Need-step-refusal-requires
-step-refusal-requires c κs = search needs
-
-same-length : tie.Need-same-length
-same-length c = search needs
 
 returns : tie.Need-returns
 unfolding stepped
@@ -73,23 +58,11 @@ returns c =
     let e = c .before .before .before .before .before .before .args in
     is-refused (asked (e .t1) (now (e .pool)) (e .task)) _ (number (c .before)) (c .if2 .taken) (e .t1) (now (e .pool)) (ran (e .t1) (now (e .pool)) (e .task) (recordAt (e .t1 .records) (e .task)))
 
-unused-block-requires : tie.Need-unused-block-requires
-unused-block-requires c κs = search needs
-
-cast-k : tie.Need-cast-k
-cast-k c = search needs
-
-mul-take-turn : tie.Need-mul-take-turn
-mul-take-turn c = search needs
-
 element-copy-out-take-turn : tie.Need-element-copy-out-take-turn
 element-copy-out-take-turn c = acts (c .before .before .before .before) .cell
 
 take-turn-requires : tie.Need-take-turn-requires
 take-turn-requires c κs = let a = acts (c .before .before .before .before .before) in (a .ready, a .there _ (free (c .before .before .before)))
-
-mul-s : tie.Need-mul-s
-mul-s c = search needs
 
 element-write-s : tie.Need-element-write-s
 element-write-s c = acts (c .before .before .before .before .before .before .before .before .before) .cell
@@ -99,9 +72,6 @@ mul-q c = omega (arith, acts (c .before .before .before .before .before .before 
 
 element-set-from-q : tie.Need-element-set-from-q
 element-set-from-q c = acts (c .before .before .before .before .before .before .before .before .before) .task
-
-same-length-2 : tie.Need-same-length-2
-same-length-2 c = search needs
 
 returns-2 : tie.Need-returns-2
 returns-2 c =
@@ -114,21 +84,21 @@ pub step-spec : {M : Type 1} → statement M
 step-spec =
     tie.close
     (tie.spec
-    is-fit-requires
-    mul-r
+    (λ c κs. search needs)
+    (λ c. search needs)
     element-copy-out-r
-    idle-requires
-    step-refusal-requires
-    same-length
+    (λ c κs. search needs)
+    (λ c κs. search needs)
+    (λ c. search needs)
     returns
-    unused-block-requires
-    cast-k
-    mul-take-turn
+    (λ c κs. search needs)
+    (λ c. search needs)
+    (λ c. search needs)
     element-copy-out-take-turn
     take-turn-requires
-    mul-s
+    (λ c. search needs)
     element-write-s
     mul-q
     element-set-from-q
-    same-length-2
+    (λ c. search needs)
     returns-2)

@@ -29,15 +29,6 @@ abbrev μ-loop : tie.MeasureT-loop
 sizes-ok : (c : tie.Else1 Inv-loop μ-loop) → let a = c .before .before .before .before .before .args in sizesOk (a .t1) (now (a .pool)) ≡ true
 sizes-ok c = rw (← c .before .before .before .tasks-ok .ensures, ← c .before .before .cells-ok .ensures, ← c .before .blocks-ok .ensures) (not-false _ (c .if1 .left))
 
-tasks-ok-requires : tie.Need-tasks-ok-requires Inv-loop μ-loop
-tasks-ok-requires c κs = search needs
-
-cells-ok-requires : tie.Need-cells-ok-requires Inv-loop μ-loop
-cells-ok-requires c κs = search needs
-
-blocks-ok-requires : tie.Need-blocks-ok-requires Inv-loop μ-loop
-blocks-ok-requires c κs = search needs
-
 returns : tie.Need-returns Inv-loop μ-loop
 returns c =
     let s = c .before .before .before .before .before .args .t1 in
@@ -57,9 +48,6 @@ returns-2 c =
     let d : cellsFit s && ltb (s .last) (s .blocks) ≡ false = rw (← c .before .cells-fit .ensures) (not-true _ (c .if2 .taken)) in
     sym (grouped s p ∙ rw (e, d))
 
-cast-n : tie.Need-cast-n Inv-loop μ-loop
-cast-n c = omega arith
-
 loop-holds : tie.Need-loop-holds Inv-loop μ-loop
 unfolding cellsFit recordsFit
 loop-holds c =
@@ -69,26 +57,11 @@ loop-holds c =
     let d : cellsFit s && ltb (s .last) (s .blocks) ≡ true = rw (← c .before .cells-fit .ensures) (not-false _ (c .if2 .left)) in
     (search needs, sizes-below s p e .0, rw sub-zero (sym (grouped s p ∙ rw (e, d))))
 
-mul-r : tie.Need-mul-r Inv-loop μ-loop
-mul-r c = omega arith
-
-element-copy-out-r : tie.Need-element-copy-out-r Inv-loop μ-loop
-element-copy-out-r c = omega arith
-
-record-fit-requires : tie.Need-record-fit-requires Inv-loop μ-loop
-record-fit-requires c κs = search needs
-
 returns-3 : tie.Need-returns-3 Inv-loop μ-loop
 returns-3 c =
     let l = c .before .before .before .before .loop in
     let s = c .before .before .before .before .before .before .before .before .before .before .before .before .before .before .args .t1 in
     all-no (test s) (l .t) (s .tasks) (l .inv .2) (c .before .before .before .loop-test .taken) (sym (c .before .record-fit .ensures) ∙ not-true _ (c .if3 .taken))
-
-add-t : tie.Need-add-t Inv-loop μ-loop
-add-t c = omega arith
-
-loop-less : tie.Need-loop-less Inv-loop μ-loop
-loop-less c = omega arith
 
 loop-again : tie.Need-loop-again Inv-loop μ-loop
 loop-again c =
@@ -105,19 +78,19 @@ is-fit-spec =
     (tie.spec
     Inv-loop
     μ-loop
-    tasks-ok-requires
-    cells-ok-requires
-    blocks-ok-requires
+    (λ c κs. search needs)
+    (λ c κs. search needs)
+    (λ c κs. search needs)
     returns
     cells-fit-requires
     returns-2
-    cast-n
+    (λ c. omega arith)
     loop-holds
-    mul-r
-    element-copy-out-r
-    record-fit-requires
+    (λ c. omega arith)
+    (λ c. omega arith)
+    (λ c κs. search needs)
     returns-3
-    add-t
-    loop-less
+    (λ c. omega arith)
+    (λ c. omega arith)
     loop-again
     returns-4)

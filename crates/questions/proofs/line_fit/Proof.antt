@@ -7,21 +7,6 @@ use native.Mathlib.Omega.{arith}
 use Rattle.questions.proofs.line_fit.Statement.{statement}
 use Rattle.questions.proofs.line_fit.Tie as tie
 
-wanted-fit-requires : tie.Need-wanted-fit-requires
-wanted-fit-requires c κs = search needs
-
-is-read-requires : tie.Need-is-read-requires
-is-read-requires c κs = search needs
-
-is-swap-requires : tie.Need-is-swap-requires
-is-swap-requires c κs = search needs
-
-is-swap-requires-2 : tie.Need-is-swap-requires-2
-is-swap-requires-2 c κs = search needs
-
-is-swap-requires-3 : tie.Need-is-swap-requires-3
-is-swap-requires-3 c κs = search needs
-
 returns : tie.Need-returns
 returns c = let r = c .before .before .before .before .args .r in c .wanted-fit .ensures ∙ sym (in-deciding (r .line) (r .wanted) (reads r) (swaps r) (omega arith) (omega arith))
 
@@ -59,11 +44,11 @@ pub line-fit-spec : {M : Type 1} → statement M
 line-fit-spec =
     tie.close
     (tie.spec
-    wanted-fit-requires
-    is-read-requires
-    is-swap-requires
-    is-swap-requires-2
-    is-swap-requires-3
+    (λ c κs. search needs)
+    (λ c κs. search needs)
+    (λ c κs. search needs)
+    (λ c κs. search needs)
+    (λ c κs. search needs)
     returns
     returns-2
     returns-3

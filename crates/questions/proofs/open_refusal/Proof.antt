@@ -6,22 +6,13 @@ use borrow.Author.Needs.{needs}
 use Rattle.questions.proofs.open_refusal.Statement.{statement}
 use Rattle.questions.proofs.open_refusal.Tie as tie
 
-tasks-ok-requires : tie.Need-tasks-ok-requires
-tasks-ok-requires c κs = search needs
-
 returns : tie.Need-returns
 unfolding openQuestions
 returns c = rw (sym (c .before .tasks-ok .ensures) ∙ not-true _ (c .if1 .taken))
 
-cells-ok-requires : tie.Need-cells-ok-requires
-cells-ok-requires c κs = search needs
-
 returns-2 : tie.Need-returns-2
 unfolding openQuestions
 returns-2 c = rw (sym (c .before .before .before .tasks-ok .ensures) ∙ not-false _ (c .before .before .if1 .left), sym (c .before .cells-ok .ensures) ∙ not-true _ (c .if2 .taken))
-
-blocks-ok-requires : tie.Need-blocks-ok-requires
-blocks-ok-requires c κs = search needs
 
 returns-3 : tie.Need-returns-3
 unfolding openQuestions
@@ -30,9 +21,6 @@ returns-3 c = rw (sym (c .before .before .before .before .before .tasks-ok .ensu
 returns-4 : tie.Need-returns-4
 unfolding openQuestions
 returns-4 c = rw (sym (c .before .before .before .before .before .before .tasks-ok .ensures) ∙ not-false _ (c .before .before .before .before .before .if1 .left), sym (c .before .before .before .before .cells-ok .ensures) ∙ not-false _ (c .before .before .before .if2 .left), sym (c .before .before .blocks-ok .ensures) ∙ not-false _ (c .before .if3 .left), ne-eqb _ _ (c .if4 .taken))
-
-has-none-requires : tie.Need-has-none-requires
-has-none-requires c κs = search needs
 
 returns-5 : tie.Need-returns-5
 unfolding openQuestions
@@ -46,13 +34,13 @@ pub open-refusal-spec : {M : Type 1} → statement M
 open-refusal-spec =
     tie.close
     (tie.spec
-    tasks-ok-requires
+    (λ c κs. search needs)
     returns
-    cells-ok-requires
+    (λ c κs. search needs)
     returns-2
-    blocks-ok-requires
+    (λ c κs. search needs)
     returns-3
     returns-4
-    has-none-requires
+    (λ c κs. search needs)
     returns-5
     returns-6)

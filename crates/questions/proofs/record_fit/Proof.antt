@@ -15,22 +15,13 @@ returns-2 : tie.Need-returns-2
 unfolding recordFit
 returns-2 c = rw (ne-eqb _ _ (c .before .before .if1 .left), le-ltb _ _ (c .if2 .taken))
 
-line-fit-requires : tie.Need-line-fit-requires
-line-fit-requires c κs = search needs
-
 returns-3 : tie.Need-returns-3
 unfolding recordFit
 returns-3 c = rw (ne-eqb _ _ (c .before .before .before .before .if1 .left), lt-ltb _ _ (c .before .before .if2 .left), sym (c .before .line-fit .ensures) ∙ not-true _ (c .if3 .taken))
 
-blocks-fit-requires : tie.Need-blocks-fit-requires
-blocks-fit-requires c κs = search needs
-
 returns-4 : tie.Need-returns-4
 unfolding recordFit
 returns-4 c = rw (ne-eqb _ _ (c .before .before .before .before .before .before .if1 .left), lt-ltb _ _ (c .before .before .before .before .if2 .left), sym (c .before .before .before .line-fit .ensures) ∙ not-false _ (c .before .before .if3 .left), sym (c .before .blocks-fit .ensures) ∙ not-true _ (c .if4 .taken))
-
-values-fit-requires : tie.Need-values-fit-requires
-values-fit-requires c κs = search needs
 
 returns-5 : tie.Need-returns-5
 unfolding recordFit
@@ -42,9 +33,9 @@ record-fit-spec =
     (tie.spec
     returns
     returns-2
-    line-fit-requires
+    (λ c κs. search needs)
     returns-3
-    blocks-fit-requires
+    (λ c κs. search needs)
     returns-4
-    values-fit-requires
+    (λ c κs. search needs)
     returns-5)

@@ -5,12 +5,6 @@ use borrow.Author.Needs.{needs}
 use Rattle.questions.proofs.wanted_fit.Statement.{statement}
 use Rattle.questions.proofs.wanted_fit.Tie as tie
 
-is-read-requires : tie.Need-is-read-requires
-is-read-requires c κs = search needs
-
-is-swap-requires : tie.Need-is-swap-requires
-is-swap-requires c κs = search needs
-
 returns : tie.Need-returns
 returns c = rw (c .before .match .keys1) (c .is-read .ensures)
 
@@ -24,4 +18,4 @@ returns-3 c =
 
 pub wanted-fit-spec : {M : Type 1} → statement M
 wanted-fit-spec =
-    tie.close (tie.spec is-read-requires is-swap-requires returns returns-2 returns-3)
+    tie.close (tie.spec (λ c κs. search needs) (λ c κs. search needs) returns returns-2 returns-3)

@@ -7,15 +7,6 @@ use Rattle.session_reader.proofs.read_session.Tie as tie
 read-requires : tie.Need-read-requires
 read-requires c κs = sizes-told _ _ _ (c .before .before .before .if1 .taken)
 
-same-length : tie.Need-same-length
-same-length c = search needs
-
-same-length-2 : tie.Need-same-length-2
-same-length-2 c = search needs
-
-same-length-3 : tie.Need-same-length-3
-same-length-3 c = search needs
-
 returns : tie.Need-returns
 unfolding judged
 returns c = (rw (c .before .before .before .before .before .before .before .before .before .before .if1 .taken) (c .before .before .before .before .before .before .read .ensures .0), c .before .before .before .before .before .before .read .ensures .1)
@@ -29,8 +20,8 @@ read-session-spec =
     tie.close
     (tie.spec
     read-requires
-    same-length
-    same-length-2
-    same-length-3
+    (λ c. search needs)
+    (λ c. search needs)
+    (λ c. search needs)
     returns
     returns-2)

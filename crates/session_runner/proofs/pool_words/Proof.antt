@@ -3,9 +3,6 @@ use borrow.Author.Needs.{needs}
 use Rattle.session_runner.proofs.pool_words.Statement.{statement}
 use Rattle.session_runner.proofs.pool_words.Tie as tie
 
-mul-result : tie.Need-mul-result
-mul-result c = search needs
-
 returns : tie.Need-returns
 returns c = (rw (le-leb _ _ (c .if1 .taken)), search needs)
 
@@ -13,4 +10,4 @@ returns-2 : tie.Need-returns-2
 returns-2 c = (rw (lt-leb _ _ (c .if1 .left)), search needs)
 
 pub pool-words-spec : {M : Type 1} → statement M
-pool-words-spec = tie.close (tie.spec mul-result returns returns-2)
+pool-words-spec = tie.close (tie.spec (λ c. search needs) returns returns-2)

@@ -5,15 +5,6 @@ use borrow.Author.Needs.{needs}
 use Rattle.session_runner.proofs.print.Statement.{statement}
 use Rattle.session_runner.proofs.print.Tie as tie
 
-enum-known-found : tie.Need-enum-known-found
-enum-known-found c = search needs
-
-put-bad-requires : tie.Need-put-bad-requires
-put-bad-requires c κs = search needs
-
-enum-known-found-2 : tie.Need-enum-known-found-2
-enum-known-found-2 c = search needs
-
 slice-aggregate-run : tie.Need-slice-aggregate-run
 slice-aggregate-run c = let h = rw (c .before .before .before .found2 .given .1) at (c .before .before .before .before .before .before .before .before .before .pre .0) in sym (length-take-le _ _ (h .some))
 
@@ -23,14 +14,8 @@ slice-aggregate-run-2 c = let h = rw (c .before .before .before .before .found2 
 run-requires : tie.Need-run-requires
 run-requires c κs = let h = rw (c .before .before .before .before .found2 .given .1) at (c .before .before .before .before .before .before .before .before .before .before .pre .0) in (taken (c .before .before .before .before .before .before .before .before .before .before .args .actions .now) (h .many) (c .before .before .before .before .before .before .before .before .before .before .pre .1 .0), (h .named, search needs))
 
-same-length : tie.Need-same-length
-same-length c = search needs
-
 returns : tie.Need-returns
 returns c = rw (c .before .before .before .before .before .found .given .1) (c .before .before .put-bad .ensures .0)
-
-same-length-2 : tie.Need-same-length-2
-same-length-2 c = search needs
 
 returns-2 : tie.Need-returns-2
 returns-2 c = rw (c .before .before .before .before .before .before .before .found2 .given .1) (c .before .before .run .ensures)
@@ -39,13 +24,13 @@ pub print-spec : {M : Type 1} → statement M
 print-spec =
     tie.close
     (tie.spec
-    enum-known-found
-    put-bad-requires
-    enum-known-found-2
+    (λ c. search needs)
+    (λ c κs. search needs)
+    (λ c. search needs)
     slice-aggregate-run
     slice-aggregate-run-2
     run-requires
-    same-length
+    (λ c. search needs)
     returns
-    same-length-2
+    (λ c. search needs)
     returns-2)

@@ -5,15 +5,9 @@ use borrow.Author.Tests.{ne-eqb}
 use Rattle.session_shape.proofs.deeper.Statement.{statement}
 use Rattle.session_shape.proofs.deeper.Tie as tie
 
-add-result : tie.Need-add-result
-add-result c = search needs
-
 returns : tie.Need-returns
 unfolding deeper
 returns c = rw (c .if1 .taken)
-
-sub-result : tie.Need-sub-result
-sub-result c = search needs
 
 returns-2 : tie.Need-returns-2
 unfolding deeper
@@ -28,4 +22,4 @@ unfolding deeper
 returns-4 c = rw (ne-eqb _ _ (c .before .if1 .left), ne-eqb _ _ (c .if2 .left))
 
 pub deeper-spec : {M : Type 1} → statement M
-deeper-spec = tie.close (tie.spec add-result returns sub-result returns-2 returns-3 returns-4)
+deeper-spec = tie.close (tie.spec (λ c. search needs) returns (λ c. search needs) returns-2 returns-3 returns-4)

@@ -15,26 +15,8 @@ Inv-loop s d₀ p₀ i₀ d p i = (i ≤ length s) × (d ≤ 8) × (shapedAfter 
 abbrev μ-loop : tie.MeasureT-loop
 μ-loop s d₀ p₀ i₀ d p i = length s - i
 
-loop-holds : tie.Need-loop-holds Inv-loop μ-loop
-loop-holds c = search needs
-
-shared-slice-read-b : tie.Need-shared-slice-read-b Inv-loop μ-loop
-shared-slice-read-b c = search needs
-
-fits-requires : tie.Need-fits-requires Inv-loop μ-loop
-fits-requires c κs = search needs
-
 returns : tie.Need-returns Inv-loop μ-loop
 returns c = let l = c .before .before .before .before .loop in let s = c .before .before .before .before .before .before .args .s .now in sym (shaped-more s l.d l.p l.i (omega arith) ∙ rw (← (c .before .fits2 .ensures), not-true (c .before .fits2 .result) (c .if1 .taken))) ∙ l.inv .2
-
-deeper-requires : tie.Need-deeper-requires Inv-loop μ-loop
-deeper-requires c κs = search needs
-
-add-i : tie.Need-add-i Inv-loop μ-loop
-add-i c = search needs
-
-loop-less : tie.Need-loop-less Inv-loop μ-loop
-loop-less c = search needs
 
 loop-again : tie.Need-loop-again Inv-loop μ-loop
 loop-again c = let l = c .before .before .before .before .before .loop in let s = c .before .before .before .before .before .before .before .args .s .now in (search needs, rw (c .deeper .ensures) (still-8 l.d l.p (getD s l.i 0) (l .inv .1) (sym (c .before .before .fits2 .ensures) ∙ not-false (c .before .before .fits2 .result) (c .before .if1 .left))), rw (c .deeper .ensures) (sym (shaped-more s l.d l.p l.i (omega arith) ∙ rw (← (c .before .before .fits2 .ensures), not-false (c .before .before .fits2 .result) (c .before .if1 .left))) ∙ l.inv .2))
@@ -48,12 +30,12 @@ shaped-spec =
     (tie.spec
     Inv-loop
     μ-loop
-    loop-holds
-    shared-slice-read-b
-    fits-requires
+    (λ c. search needs)
+    (λ c. search needs)
+    (λ c κs. search needs)
     returns
-    deeper-requires
-    add-i
-    loop-less
+    (λ c κs. search needs)
+    (λ c. search needs)
+    (λ c. search needs)
     loop-again
     returns-2)

@@ -17,12 +17,6 @@ abbrev μ-loop : tie.MeasureT-loop
 returns : tie.Need-returns Inv-loop μ-loop
 returns c = reading.number-end _ _ (c .if1 .taken)
 
-shared-slice-read-first : tie.Need-shared-slice-read-first Inv-loop μ-loop
-shared-slice-read-first c = search needs
-
-add-t11 : tie.Need-add-t11 Inv-loop μ-loop
-add-t11 c = search needs
-
 returns-2 : tie.Need-returns-2 Inv-loop μ-loop
 returns-2 c = let a = c .before .before .before .before .args in record { finds = reading.number-zero a.s.now a.at (omega arith) (c .if2 .taken); past = omega arith; within = omega arith }
 
@@ -32,53 +26,20 @@ returns-3 c = let a = c .before .before .before .before .before .args in reading
 returns-4 : tie.Need-returns-4 Inv-loop μ-loop
 returns-4 c = let a = c .before .before .before .before .before .before .args in reading.number-other a.s.now a.at (omega arith) (c .before .before .if2 .left) (reading.high _ (c .if4 .taken))
 
-wide-requires : tie.Need-wide-requires Inv-loop μ-loop
-wide-requires c κs = search needs
-
-add-i : tie.Need-add-i Inv-loop μ-loop
-add-i c = search needs
-
 loop-holds : tie.Need-loop-holds Inv-loop μ-loop
 loop-holds c = let a = c .before .before .before .before .before .before .before .args in (search needs, search needs, search needs, rw (c .wide .ensures) (sym (reading.number-digit a.s.now a.at (omega arith) (c .before .before .before .if2 .left) (reading.digit (getD a.s.now a.at 0) (omega arith) (omega arith)))))
-
-shared-slice-read-b : tie.Need-shared-slice-read-b Inv-loop μ-loop
-shared-slice-read-b c = search needs
-
-cast-t16 : tie.Need-cast-t16 Inv-loop μ-loop
-cast-t16 c = search needs
 
 returns-5 : tie.Need-returns-5 Inv-loop μ-loop
 returns-5 c = let l = c .before .before .before .loop in record { finds = sym (l.inv .3) ∙ reading.digits-other (c .before .before .before .before .before .before .before .before .before .before .before .args .s .now) l.i (omega arith) l.v (reading.low _ (c .if5 .taken)); past = omega arith; within = omega arith }
 
-cast-t17 : tie.Need-cast-t17 Inv-loop μ-loop
-cast-t17 c = search needs
-
 returns-6 : tie.Need-returns-6 Inv-loop μ-loop
 returns-6 c = let l = c .before .before .before .before .loop in record { finds = sym (l.inv .3) ∙ reading.digits-other (c .before .before .before .before .before .before .before .before .before .before .before .before .args .s .now) l.i (omega arith) l.v (reading.high _ (c .if6 .taken)); past = omega arith; within = omega arith }
-
-mul-v : tie.Need-mul-v Inv-loop μ-loop
-mul-v c = search needs
-
-wide-requires-2 : tie.Need-wide-requires-2 Inv-loop μ-loop
-wide-requires-2 c κs = search needs
-
-add-v : tie.Need-add-v Inv-loop μ-loop
-add-v c = search needs
 
 returns-7 : tie.Need-returns-7 Inv-loop μ-loop
 returns-7 c = let l = c .before .before .before .before .before .before .loop in let s = c .before .before .before .before .before .before .before .before .before .before .before .before .before .before .args .s .now in sym (l.inv .3) ∙ reading.digits-over s l.i (omega arith) l.v (reading.digit (getD s l.i 0) (omega arith) (omega arith)) (omega (arith, c .before .wide2 .ensures))
 
-add-i-2 : tie.Need-add-i-2 Inv-loop μ-loop
-add-i-2 c = search needs
-
-loop-less : tie.Need-loop-less Inv-loop μ-loop
-loop-less c = search needs
-
 loop-again : tie.Need-loop-again Inv-loop μ-loop
 loop-again c = let l = c .before .before .before .before .before .before .loop in let s = c .before .before .before .before .before .before .before .before .before .before .before .before .before .before .args .s .now in (search needs, search needs, search needs, rw (c .before .wide2 .ensures) (sym (reading.digits-more s l.i (omega arith) l.v (reading.digit (getD s l.i 0) (omega arith) (omega arith)) (omega (arith, c .before .wide2 .ensures)))) ∙ l.inv .3)
-
-cast-t20 : tie.Need-cast-t20 Inv-loop μ-loop
-cast-t20 c = search needs
 
 returns-8 : tie.Need-returns-8 Inv-loop μ-loop
 returns-8 c = let l = c .before .loop in record { finds = sym (l.inv .3) ∙ reading.digits-end _ _ _ (c .loop-test .left); past = omega arith; within = omega arith }
@@ -90,25 +51,25 @@ number-spec =
     Inv-loop
     μ-loop
     returns
-    shared-slice-read-first
-    add-t11
+    (λ c. search needs)
+    (λ c. search needs)
     returns-2
     returns-3
     returns-4
-    wide-requires
-    add-i
+    (λ c κs. search needs)
+    (λ c. search needs)
     loop-holds
-    shared-slice-read-b
-    cast-t16
+    (λ c. search needs)
+    (λ c. search needs)
     returns-5
-    cast-t17
+    (λ c. search needs)
     returns-6
-    mul-v
-    wide-requires-2
-    add-v
+    (λ c. search needs)
+    (λ c κs. search needs)
+    (λ c. search needs)
     returns-7
-    add-i-2
-    loop-less
+    (λ c. search needs)
+    (λ c. search needs)
     loop-again
-    cast-t20
+    (λ c. search needs)
     returns-8)

@@ -14,9 +14,6 @@ returns c = λ F G A k l e x. (refl, again-none x (c .before .before .args .c) (
 returns-2 : tie.Need-returns-2
 returns-2 c = λ F G A k l e x. (refl, again-over x (c .before .before .before .args .c) (c .if2 .taken) (c .before .if1 .left), search needs)
 
-sub-if3 : tie.Need-sub-if3
-sub-if3 c = search needs
-
 mul-if3 : tie.Need-mul-if3
 mul-if3 c = let a = c .before .before .before .args in omega (arith, mul-le-mul-left {m = a.m - a.n} {n = 65535} a.c (omega arith))
 
@@ -25,12 +22,6 @@ add-if3 c = let a = c .before .before .before .args in omega (arith, mul-le-mul-
 
 returns-3 : tie.Need-returns-3
 returns-3 c = λ F G A k l e x. (refl, again-many x (c .before .before .before .before .args .c) (c .before .if2 .left) (rw e (c .if3 .taken)), search needs)
-
-repeat-requires : tie.Need-repeat-requires
-repeat-requires c κs = search needs
-
-same-length : tie.Need-same-length
-same-length c = search needs
 
 returns-4 : tie.Need-returns-4
 returns-4 c = λ F G A k l e x. (refl, again-fits x (c .before .before .before .before .before .before .before .before .args .c) (c .before .before .before .before .before .if2 .left) (c .before .before .repeat .ensures) (rw e (c .before .before .before .before .if3 .left)), search needs)
@@ -41,10 +32,10 @@ again-spec =
     (tie.spec
     returns
     returns-2
-    sub-if3
+    (λ c. search needs)
     mul-if3
     add-if3
     returns-3
-    repeat-requires
-    same-length
+    (λ c κs. search needs)
+    (λ c. search needs)
     returns-4)

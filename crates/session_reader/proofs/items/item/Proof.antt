@@ -6,24 +6,12 @@ use Rattle.text.specs.Readers.{number}
 use Rattle.session_reader.proofs.items.item.Statement.{statement}
 use Rattle.session_reader.proofs.items.item.Tie as tie
 
-space-requires : tie.Need-space-requires
-space-requires c κs = search needs
-
-enum-known-gap : tie.Need-enum-known-gap
-enum-known-gap c = search needs
-
-enum-told : tie.Need-enum-told
-enum-told c = search needs
-
 returns : tie.Need-returns
 returns c = let a = c .before .before .before .before .args in rw (place-no a.s.now a.at space 1 (c .enum-told .given .1) (c .before .before .space .ensures))
-
-number-requires : tie.Need-number-requires
-number-requires c κs = search needs
 
 returns-2 : tie.Need-returns-2
 returns-2 c = let a = c .before .before .before .before .before .before .args in number-after a.s.now a.at (place-at a.s.now a.at space 1 (c .before .before .gap .given .1) (c .before .before .before .before .space .ensures)) (c .number .result) (c .number .ensures)
 
 pub item-spec : {M : Type 1} → statement M
 item-spec =
-    tie.close (tie.spec space-requires enum-known-gap enum-told returns number-requires returns-2)
+    tie.close (tie.spec (λ c κs. search needs) (λ c. search needs) (λ c. search needs) returns (λ c κs. search needs) returns-2)

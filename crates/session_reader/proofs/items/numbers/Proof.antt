@@ -20,38 +20,11 @@ abbrev μ-loop : tie.MeasureT-loop
 loop-holds : tie.Need-loop-holds Inv-loop μ-loop
 loop-holds c = (search needs, search needs, search needs, search needs, counted.none-read _ _)
 
-item-requires : tie.Need-item-requires Inv-loop μ-loop
-item-requires c κs = search needs
-
-enum-known-read : tie.Need-enum-known-read Inv-loop μ-loop
-enum-known-read c = search needs
-
-enum-told : tie.Need-enum-told Inv-loop μ-loop
-enum-told c = search needs
-
-same-length : tie.Need-same-length Inv-loop μ-loop
-same-length c = search needs
-
 returns : tie.Need-returns Inv-loop μ-loop
 returns c = let l = c .before .before .before .before .loop in let a = c .before .before .before .before .before .before .before .args in sym (l.inv .4) ∙ counted.no-number a.s.now (take l.n l.out) a.k l.n l.i (c .before .before .before .loop-test .taken) (number-no a.s.now l.i item 2 (c .enum-told .given .1) (c .before .before .item .ensures))
 
-mul-out : tie.Need-mul-out Inv-loop μ-loop
-mul-out c = search needs
-
-slice-write-out : tie.Need-slice-write-out Inv-loop μ-loop
-slice-write-out c = search needs
-
-add-n : tie.Need-add-n Inv-loop μ-loop
-add-n c = search needs
-
-loop-less : tie.Need-loop-less Inv-loop μ-loop
-loop-less c = search needs
-
 loop-again : tie.Need-loop-again Inv-loop μ-loop
 loop-again c = let l = c .before .before .before .before .before .loop in let a = c .before .before .before .before .before .before .before .before .args in let x = number-at a.s.now l.i item 2 (c .before .read .given .1) (c .before .before .before .item .ensures) in (omega arith, x .within, omega (arith, x .past), search needs, rw (one l.out l.n _ (omega arith) .words) (sym (counted.one-more a.s.now (take l.n l.out) a.k l.n l.i (c .before .before .before .before .loop-test .taken) x) ∙ l.inv .4))
-
-same-length-2 : tie.Need-same-length-2 Inv-loop μ-loop
-same-length-2 c = search needs
 
 returns-2 : tie.Need-returns-2 Inv-loop μ-loop
 returns-2 c = let l = c .before .loop in let a = c .before .before .before .before .args in let e : a.k ≡ l.n = omega arith in record { finds = sym (l.inv .4) ∙ counted.all-read (take l.n l.out) a.k l.n _ e ∙ ap (λ j. some (take j l.out, drop l.i a.s.now)) (sym e); past = omega arith; within = omega arith }
@@ -63,15 +36,15 @@ numbers-spec =
     Inv-loop
     μ-loop
     loop-holds
-    item-requires
-    enum-known-read
-    enum-told
-    same-length
+    (λ c κs. search needs)
+    (λ c. search needs)
+    (λ c. search needs)
+    (λ c. search needs)
     returns
-    mul-out
-    slice-write-out
-    add-n
-    loop-less
+    (λ c. search needs)
+    (λ c. search needs)
+    (λ c. search needs)
+    (λ c. search needs)
     loop-again
-    same-length-2
+    (λ c. search needs)
     returns-2)

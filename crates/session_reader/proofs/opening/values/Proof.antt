@@ -18,26 +18,8 @@ Inv-loop s at out₀ v a n₀ i₀ out n i = (at + 1 ≤ a) × (2 * n ≤ i) × 
 abbrev μ-loop : tie.MeasureT-loop
 μ-loop s at out₀ v a n₀ i₀ out n i = length s - i
 
-close-requires : tie.Need-close-requires Inv-loop μ-loop
-close-requires c κs = search needs
-
-enum-known-shut : tie.Need-enum-known-shut Inv-loop μ-loop
-enum-known-shut c = search needs
-
 returns : tie.Need-returns Inv-loop μ-loop
 returns c = let a = c .before .before .before .before .before .before .args in let x = place-at a.s.now a.at specs.close 1 (c .before .shut .given .1) (c .before .before .before .close .ensures) in (record { finds = values-none a.s.now a.at x; past = x .past; within = x .within }, omega arith)
-
-enum-told : tie.Need-enum-told Inv-loop μ-loop
-enum-told c = search needs
-
-number-requires : tie.Need-number-requires Inv-loop μ-loop
-number-requires c κs = search needs
-
-enum-known-first : tie.Need-enum-known-first Inv-loop μ-loop
-enum-known-first c = search needs
-
-enum-told-2 : tie.Need-enum-told-2 Inv-loop μ-loop
-enum-told-2 c = search needs
 
 returns-2 : tie.Need-returns-2 Inv-loop μ-loop
 returns-2 c = let a = c .before .before .before .before .before .before .before .before .args in (values-wrong a.s.now a.at (place-no a.s.now a.at specs.close 1 (c .before .before .before .enum-told .given .1) (c .before .before .before .before .before .close .ensures)) (number-no a.s.now a.at number 1 (c .enum-told2 .given .1) (c .before .before .number .ensures)), tt)
@@ -51,26 +33,14 @@ loop-holds c = let a = c .before .before .before .before .before .before .before
 close-requires-2 : tie.Need-close-requires-2 Inv-loop μ-loop
 close-requires-2 c κs = c .loop .inv .3 .within
 
-enum-known-end : tie.Need-enum-known-end Inv-loop μ-loop
-enum-known-end c = search needs
-
 same-length : tie.Need-same-length Inv-loop μ-loop
 same-length c = c .before .before .before .before .loop .inv .2 ∙ simp length-set
 
 returns-3 : tie.Need-returns-3 Inv-loop μ-loop
 returns-3 c = let l = c .before .before .before .before .loop in let a = c .before .before .before .before .before .before .before .before .before .before .before .before .before .before .args in let same : length l.out ≡ length a.out.now = l.inv .2 ∙ simp length-set in let x = place-at a.s.now l.i specs.close 1 (c .before .end .given .1) (c .before .before .before .close2 .ensures) in (record { finds = turn-end specs.snoc specs.item specs.close (l.inv .3) (x .finds); past = omega (arith, x .past, l.inv .3 .from, l.inv .0); within = x .within }, omega (arith, l.inv .1, l.inv .3 .within, same))
 
-enum-told-3 : tie.Need-enum-told-3 Inv-loop μ-loop
-enum-told-3 c = search needs
-
 item-requires : tie.Need-item-requires Inv-loop μ-loop
 item-requires c κs = c .before .before .before .loop .inv .3 .within
-
-enum-known-read : tie.Need-enum-known-read Inv-loop μ-loop
-enum-known-read c = search needs
-
-enum-told-4 : tie.Need-enum-told-4 Inv-loop μ-loop
-enum-told-4 c = search needs
 
 same-length-2 : tie.Need-same-length-2 Inv-loop μ-loop
 same-length-2 c = c .before .before .before .before .before .before .loop .inv .2 ∙ simp length-set
@@ -78,14 +48,8 @@ same-length-2 c = c .before .before .before .before .before .before .loop .inv .
 returns-4 : tie.Need-returns-4 Inv-loop μ-loop
 returns-4 c = let l = c .before .before .before .before .before .before .loop in let a = c .before .before .before .before .before .before .before .before .before .before .before .before .before .before .before .before .args in (turn-stop specs.snoc specs.item specs.close (l.inv .3) (place-no a.s.now l.i specs.close 1 (c .before .before .before .enum-told3 .given .1) (c .before .before .before .before .before .close2 .ensures)) (number-no a.s.now l.i specs.item 2 (c .enum-told4 .given .1) (c .before .before .item .ensures)), tt)
 
-mul-out : tie.Need-mul-out Inv-loop μ-loop
-mul-out c = search needs
-
 slice-write-out-2 : tie.Need-slice-write-out-2 Inv-loop μ-loop
 slice-write-out-2 c = let l = c .before .before .before .before .before .before .before .loop in let a = c .before .before .before .before .before .before .before .before .before .before .before .before .before .before .before .before .before .args in let x = number-at a.s.now l.i specs.item 2 (c .before .read .given .1) (c .before .before .before .item .ensures) in let same : length l.out ≡ length a.out.now = l.inv .2 ∙ simp length-set in omega (arith, x .past, x .within)
-
-add-n : tie.Need-add-n Inv-loop μ-loop
-add-n c = search needs
 
 loop-less : tie.Need-loop-less Inv-loop μ-loop
 loop-less c = let l = c .before .before .before .before .before .before .before .loop in let a = c .before .before .before .before .before .before .before .before .before .before .before .before .before .before .before .before .before .args in let x = number-at a.s.now l.i specs.item 2 (c .before .read .given .1) (c .before .before .before .item .ensures) in omega (arith, x .past, x .within)
@@ -99,28 +63,28 @@ values-spec =
     (tie.spec
     Inv-loop
     μ-loop
-    close-requires
-    enum-known-shut
+    (λ c κs. search needs)
+    (λ c. search needs)
     returns
-    enum-told
-    number-requires
-    enum-known-first
-    enum-told-2
+    (λ c. search needs)
+    (λ c κs. search needs)
+    (λ c. search needs)
+    (λ c. search needs)
     returns-2
     slice-write-out
     loop-holds
     close-requires-2
-    enum-known-end
+    (λ c. search needs)
     same-length
     returns-3
-    enum-told-3
+    (λ c. search needs)
     item-requires
-    enum-known-read
-    enum-told-4
+    (λ c. search needs)
+    (λ c. search needs)
     same-length-2
     returns-4
-    mul-out
+    (λ c. search needs)
     slice-write-out-2
-    add-n
+    (λ c. search needs)
     loop-less
     loop-again)

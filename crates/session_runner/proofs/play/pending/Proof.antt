@@ -18,21 +18,6 @@ abbrev μ-loop : tie.MeasureT-loop
 loop-holds : tie.Need-loop-holds Inv-loop μ-loop
 loop-holds c = (rw (zero-add, sub-zero), search needs, search needs)
 
-mul-r : tie.Need-mul-r Inv-loop μ-loop
-mul-r c = search needs
-
-element-copy-out-r : tie.Need-element-copy-out-r Inv-loop μ-loop
-element-copy-out-r c = search needs
-
-add-busy : tie.Need-add-busy Inv-loop μ-loop
-add-busy c = search needs
-
-add-t : tie.Need-add-t Inv-loop μ-loop
-add-t c = search needs
-
-loop-less : tie.Need-loop-less Inv-loop μ-loop
-loop-less c = search needs
-
 loop-again : tie.Need-loop-again Inv-loop μ-loop
 loop-again c = let l = c .before .before .before .before .loop in let a = c .before .before .before .before .before .args in let h : l .t < a.n = omega arith in ⊎-elim (λ w. (omega (arith, l .inv .0, w .1, task-busy a.t1 l.t a.n h (w .0 .taken)), search needs, omega (arith, l .inv .2, w .1))) (λ w. (omega (arith, l .inv .0, w .1, task-idle a.t1 l.t a.n h (w .0 .left)), search needs, omega (arith, l .inv .2, w .1))) (c .if1 .came)
 
@@ -46,10 +31,10 @@ pending-spec =
     Inv-loop
     μ-loop
     loop-holds
-    mul-r
-    element-copy-out-r
-    add-busy
-    add-t
-    loop-less
+    (λ c. search needs)
+    (λ c. search needs)
+    (λ c. search needs)
+    (λ c. search needs)
+    (λ c. search needs)
     loop-again
     returns)

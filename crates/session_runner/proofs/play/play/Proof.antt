@@ -34,32 +34,14 @@ free c = ⊎-elim (λ w. inl (ap foundOf (w .2) ∙ w .1 .ensures ∙ finds-unus
 loop-holds : tie.Need-loop-holds Inv-loop μ-loop
 loop-holds c = (toward-start _ _ _, search needs, search needs, search needs, search needs, search needs, c .before .before .before .before .pre .0)
 
-mul-action-at : tie.Need-mul-action-at Inv-loop μ-loop
-mul-action-at c = search needs
-
-shared-slice-read-action-at : tie.Need-shared-slice-read-action-at Inv-loop μ-loop
-shared-slice-read-action-at c = search needs
-
 action-at-requires : tie.Need-action-at-requires Inv-loop μ-loop
 action-at-requires c κs = let l = c .before .before .loop in c .before .before .before .before .before .before .before .pre .1 .1 .0 l.i (omega arith)
-
-task-of-requires : tie.Need-task-of-requires Inv-loop μ-loop
-task-of-requires c κs = search needs
-
-slot-requires : tie.Need-slot-requires Inv-loop μ-loop
-slot-requires c κs = search needs
 
 mul-r : tie.Need-mul-r Inv-loop μ-loop
 mul-r c = omega (arith, task-below (c .before .before .before .before .before .loop .inv .6) _ (c .slot .ensures))
 
 element-copy-out-r : tie.Need-element-copy-out-r Inv-loop μ-loop
 element-copy-out-r c = task-below (c .before .before .before .before .before .loop .inv .6) _ (c .slot .ensures)
-
-slot-requires-2 : tie.Need-slot-requires-2 Inv-loop μ-loop
-slot-requires-2 c κs = search needs
-
-unused-block-requires : tie.Need-unused-block-requires Inv-loop μ-loop
-unused-block-requires c κs = search needs
 
 mul-act : tie.Need-mul-act Inv-loop μ-loop
 mul-act c = omega (arith, cell-below (c .before .before .before .before .before .before .before .before .before .before .loop .inv .6) _ (c .before .before .before .slot2 .ensures))
@@ -111,12 +93,6 @@ loop-again c =
 finish-requires : tie.Need-finish-requires Inv-loop μ-loop
 finish-requires c κs = let l = c .before .before .before .loop in (reached-small (l .inv .6), (omega (arith, l .inv .0 .same, l .inv .2, l .inv .1, c .before .before .before .before .before .before .before .before .pre .1 .0, c .before .before .before .before .before .before .before .before .pre .1 .1 .1), omega (arith, l .inv .4, l .inv .1, c .before .before .before .before .before .before .before .before .pre .1 .0)))
 
-same-length : tie.Need-same-length Inv-loop μ-loop
-same-length c = search needs
-
-same-length-2 : tie.Need-same-length-2 Inv-loop μ-loop
-same-length-2 c = search needs
-
 returns : tie.Need-returns Inv-loop μ-loop
 returns c = let l = c .before .before .before .before .before .before .loop in let a = c .before .before .before .before .before .before .before .before .before .before .before .args in toward-last (l .inv .0) (rw (no-action a.tasks a.cells (actAt a.forms.now) a.kept.now l.i (totalsOf l.z) l.s l.pool (omega arith)) (c .before .before .finish .ensures))
 
@@ -127,15 +103,15 @@ play-spec =
     Inv-loop
     μ-loop
     loop-holds
-    mul-action-at
-    shared-slice-read-action-at
+    (λ c. search needs)
+    (λ c. search needs)
     action-at-requires
-    task-of-requires
-    slot-requires
+    (λ c κs. search needs)
+    (λ c κs. search needs)
     mul-r
     element-copy-out-r
-    slot-requires-2
-    unused-block-requires
+    (λ c κs. search needs)
+    (λ c κs. search needs)
     mul-act
     element-copy-out-act
     act-requires
@@ -150,6 +126,6 @@ play-spec =
     loop-less
     loop-again
     finish-requires
-    same-length
-    same-length-2
+    (λ c. search needs)
+    (λ c. search needs)
     returns)

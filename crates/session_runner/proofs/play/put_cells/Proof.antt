@@ -17,23 +17,11 @@ abbrev μ-loop : tie.MeasureT-loop
 loop-holds : tie.Need-loop-holds Inv-loop μ-loop
 loop-holds c = let a = c .before .before .args in (rw (sub-zero) (toward-start a.out.now a.at (cellLines a.s a.pool.now 0 a.cells)), search needs, search needs)
 
-look-requires : tie.Need-look-requires Inv-loop μ-loop
-look-requires c κs = search needs
-
 put-look-requires : tie.Need-put-look-requires Inv-loop μ-loop
 put-look-requires c κs = let l = c .before .before .before .loop in omega (arith, l .inv .2, l .inv .0 .same)
 
-add-k : tie.Need-add-k Inv-loop μ-loop
-add-k c = search needs
-
-loop-less : tie.Need-loop-less Inv-loop μ-loop
-loop-less c = search needs
-
 loop-again : tie.Need-loop-again Inv-loop μ-loop
 loop-again c = let l = c .before .before .before .before .before .before .loop in let a = c .before .before .before .before .before .before .before .before .before .args in let p = c .before .before .put-look in let h : l .k < a.cells = omega arith in (toward-more (l .inv .0) (rw (c .before .before .before .before .look .ensures) at (p .ensures .0)) (search needs) (cell-at a.s a.pool.now l.k a.cells h), search needs, omega (arith, l .inv .2, p .ensures .1))
-
-same-length : tie.Need-same-length Inv-loop μ-loop
-same-length c = search needs
 
 returns : tie.Need-returns Inv-loop μ-loop
 returns c = let l = c .before .loop in let a = c .before .before .before .before .args in (toward-end (l .inv .0) (cell-end a.s a.pool.now l.k a.cells (omega arith)), omega (arith, l .inv .1, l .inv .2))
@@ -45,10 +33,10 @@ put-cells-spec =
     Inv-loop
     μ-loop
     loop-holds
-    look-requires
+    (λ c κs. search needs)
     put-look-requires
-    add-k
-    loop-less
+    (λ c. search needs)
+    (λ c. search needs)
     loop-again
-    same-length
+    (λ c. search needs)
     returns)

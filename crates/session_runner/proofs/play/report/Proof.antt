@@ -5,24 +5,6 @@ use borrow.Author.Needs.{needs}
 use Rattle.session_runner.proofs.play.report.Statement.{statement}
 use Rattle.session_runner.proofs.play.report.Tie as tie
 
-enum-known-outcome : tie.Need-enum-known-outcome
-enum-known-outcome c = search needs
-
-put-no-requires : tie.Need-put-no-requires
-put-no-requires c κs = search needs
-
-enum-told : tie.Need-enum-told
-enum-told c = search needs
-
-enum-known-outcome-2 : tie.Need-enum-known-outcome-2
-enum-known-outcome-2 c = search needs
-
-put-done-requires : tie.Need-put-done-requires
-put-done-requires c κs = search needs
-
-same-length : tie.Need-same-length
-same-length c = search needs
-
 returns : tie.Need-returns
 unfolding reported
 returns c = rw (c .before .before .before .before .before .outcome .given .1) (c .before .before .put-no .ensures .0, λ _. c .before .before .put-no .ensures .1)
@@ -30,9 +12,6 @@ returns c = rw (c .before .before .before .before .before .outcome .given .1) (c
 returns-2 : tie.Need-returns-2
 unfolding reported
 returns-2 c = (rw (c .enum-told .given .1) (nothing _ _), λ _. omega arith)
-
-same-length-2 : tie.Need-same-length-2
-same-length-2 c = search needs
 
 returns-3 : tie.Need-returns-3
 unfolding reported
@@ -42,13 +21,13 @@ pub report-spec : {M : Type 1} → statement M
 report-spec =
     tie.close
     (tie.spec
-    enum-known-outcome
-    put-no-requires
-    enum-told
-    enum-known-outcome-2
-    put-done-requires
-    same-length
+    (λ c. search needs)
+    (λ c κs. search needs)
+    (λ c. search needs)
+    (λ c. search needs)
+    (λ c κs. search needs)
+    (λ c. search needs)
     returns
     returns-2
-    same-length-2
+    (λ c. search needs)
     returns-3)

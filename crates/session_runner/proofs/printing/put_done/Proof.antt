@@ -6,29 +6,11 @@ use borrow.Author.Needs.{needs}
 use Rattle.session_runner.proofs.printing.put_done.Statement.{statement}
 use Rattle.session_runner.proofs.printing.put_done.Tie as tie
 
-put-done-start-requires : tie.Need-put-done-start-requires
-put-done-start-requires c κs = search needs
-
-wide-requires : tie.Need-wide-requires
-wide-requires c κs = search needs
-
-wide-requires-2 : tie.Need-wide-requires-2
-wide-requires-2 c κs = search needs
-
-slice-aggregate-put-numbers : tie.Need-slice-aggregate-put-numbers
-slice-aggregate-put-numbers c = search needs
-
 put-numbers-requires : tie.Need-put-numbers-requires
 put-numbers-requires c κs = let h = numbers-2 (c .before .before .wide .result) (c .before .wide2 .result) (c .before .before .wide .ensures .1) (c .before .wide2 .ensures .1) in omega (arith, h)
 
-slice-aggregate-put : tie.Need-slice-aggregate-put
-slice-aggregate-put c = search needs
-
 put-requires : tie.Need-put-requires
 put-requires c κs = let h = numbers-2 (c .before .before .before .before .before .before .before .wide .result) (c .before .before .before .before .before .before .wide2 .result) (c .before .before .before .before .before .before .before .wide .ensures .1) (c .before .before .before .before .before .before .wide2 .ensures .1) in omega (arith, h, c .before .before .before .before .put-numbers .ensures .next)
-
-same-length : tie.Need-same-length
-same-length c = search needs
 
 returns : tie.Need-returns
 unfolding doneStart
@@ -47,12 +29,12 @@ pub put-done-spec : {M : Type 1} → statement M
 put-done-spec =
     tie.close
     (tie.spec
-    put-done-start-requires
-    wide-requires
-    wide-requires-2
-    slice-aggregate-put-numbers
+    (λ c κs. search needs)
+    (λ c κs. search needs)
+    (λ c κs. search needs)
+    (λ c. search needs)
     put-numbers-requires
-    slice-aggregate-put
+    (λ c. search needs)
     put-requires
-    same-length
+    (λ c. search needs)
     returns)

@@ -4,26 +4,8 @@ use borrow.Author.Needs.{needs}
 use Rattle.session_runner.proofs.printing.put_kind.Statement.{statement}
 use Rattle.session_runner.proofs.printing.put_kind.Tie as tie
 
-slice-aggregate-put : tie.Need-slice-aggregate-put
-slice-aggregate-put c = search needs
-
-put-requires : tie.Need-put-requires
-put-requires c κs = search needs
-
-same-length : tie.Need-same-length
-same-length c = search needs
-
 returns : tie.Need-returns
 returns c = let p = c .before .before .put in (rw (eq-eqb _ _ (c .before .before .before .before .before .if1 .taken)) (p .ensures), omega (arith, p .ensures .next))
-
-slice-aggregate-put-2 : tie.Need-slice-aggregate-put-2
-slice-aggregate-put-2 c = search needs
-
-put-requires-2 : tie.Need-put-requires-2
-put-requires-2 c κs = search needs
-
-same-length-2 : tie.Need-same-length-2
-same-length-2 c = search needs
 
 returns-2 : tie.Need-returns-2
 returns-2 c = let p = c .before .before .put2 in (rw (ne-eqb _ _ (c .before .before .before .before .before .if1 .left)) (p .ensures), omega (arith, p .ensures .next))
@@ -32,11 +14,11 @@ pub put-kind-spec : {M : Type 1} → statement M
 put-kind-spec =
     tie.close
     (tie.spec
-    slice-aggregate-put
-    put-requires
-    same-length
+    (λ c. search needs)
+    (λ c κs. search needs)
+    (λ c. search needs)
     returns
-    slice-aggregate-put-2
-    put-requires-2
-    same-length-2
+    (λ c. search needs)
+    (λ c κs. search needs)
+    (λ c. search needs)
     returns-2)

@@ -11,14 +11,8 @@ put-requires c κs = let a = c .before .before .before .before .args in omega (a
 put-numbers-requires : tie.Need-put-numbers-requires
 put-numbers-requires c κs = let a = c .before .before .before .before .before .before .before .before .args in omega (arith, c .before .before .before .before .before .before .before .before .pre, line-length a.start.now a.l.now, c .before .before .before .put .ensures .next)
 
-slice-aggregate-put : tie.Need-slice-aggregate-put
-slice-aggregate-put c = search needs
-
 put-requires-2 : tie.Need-put-requires-2
 put-requires-2 c κs = let a = c .before .before .before .before .before .before .before .before .before .before .before .before .before .args in omega (arith, c .before .before .before .before .before .before .before .before .before .before .before .before .before .pre, line-length a.start.now a.l.now, c .before .before .before .before .before .before .before .before .put .ensures .next, c .before .before .before .before .put-numbers .ensures .next)
-
-same-length : tie.Need-same-length
-same-length c = search needs
 
 returns : tie.Need-returns
 returns c = then (then (c .before .before .before .before .before .before .before .before .before .before .before .put .ensures) (c .before .before .before .before .before .before .before .put-numbers .ensures)) (c .before .before .put2 .ensures)
@@ -29,7 +23,7 @@ put-line-spec =
     (tie.spec
     put-requires
     put-numbers-requires
-    slice-aggregate-put
+    (λ c. search needs)
     put-requires-2
-    same-length
+    (λ c. search needs)
     returns)

@@ -18,32 +18,14 @@ abbrev μ-loop : tie.MeasureT-loop
 loop-holds : tie.Need-loop-holds Inv-loop μ-loop
 loop-holds c = (toward-start _ _ _, search needs, search needs)
 
-slice-aggregate-put : tie.Need-slice-aggregate-put Inv-loop μ-loop
-slice-aggregate-put c = search needs
-
 put-requires : tie.Need-put-requires Inv-loop μ-loop
 put-requires c κs = let l = c .before .before .before .loop in let a = c .before .before .before .before .before .before .args in let e = numbers-room a.l.now l.i (omega arith) in omega (arith, l.inv .2, e)
-
-mul-put-number : tie.Need-mul-put-number Inv-loop μ-loop
-mul-put-number c = search needs
-
-shared-slice-read-put-number : tie.Need-shared-slice-read-put-number Inv-loop μ-loop
-shared-slice-read-put-number c = search needs
 
 put-number-requires : tie.Need-put-number-requires Inv-loop μ-loop
 put-number-requires c κs = let l = c .before .before .before .before .before .before .before .before .loop in let a = c .before .before .before .before .before .before .before .before .before .before .before .args in let e = numbers-room a.l.now l.i (omega arith) in omega (arith, l.inv .2, e, c .before .before .before .before .put .ensures .next)
 
-add-i : tie.Need-add-i Inv-loop μ-loop
-add-i c = search needs
-
-loop-less : tie.Need-loop-less Inv-loop μ-loop
-loop-less c = search needs
-
 loop-again : tie.Need-loop-again Inv-loop μ-loop
 loop-again c = let l = c .before .before .before .before .before .before .before .before .before .before .before .loop in let a = c .before .before .before .before .before .before .before .before .before .before .before .before .before .before .args in let p = c .before .before .before .before .before .before .before .put .ensures in let q = c .before .before .put-number .ensures in let h : l.i < length a.l.now = omega arith in (toward-more (l.inv .0) (then p q) (search needs) (numbers-at a.l.now l.i h), search needs, omega (arith, l.inv .2, numbers-room a.l.now l.i h, p .next, q .next))
-
-same-length : tie.Need-same-length Inv-loop μ-loop
-same-length c = search needs
 
 returns : tie.Need-returns Inv-loop μ-loop
 returns c = let l = c .before .loop in let a = c .before .before .before .before .args in toward-end (l.inv .0) (numbers-end a.l.now l.i (omega arith))
@@ -55,13 +37,13 @@ put-numbers-spec =
     Inv-loop
     μ-loop
     loop-holds
-    slice-aggregate-put
+    (λ c. search needs)
     put-requires
-    mul-put-number
-    shared-slice-read-put-number
+    (λ c. search needs)
+    (λ c. search needs)
     put-number-requires
-    add-i
-    loop-less
+    (λ c. search needs)
+    (λ c. search needs)
     loop-again
-    same-length
+    (λ c. search needs)
     returns)

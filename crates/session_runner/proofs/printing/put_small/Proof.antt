@@ -4,17 +4,11 @@ use borrow.Author.Needs.{needs}
 use Rattle.session_runner.proofs.printing.put_small.Statement.{statement}
 use Rattle.session_runner.proofs.printing.put_small.Tie as tie
 
-wide-requires : tie.Need-wide-requires
-wide-requires c κs = search needs
-
 put-number-requires : tie.Need-put-number-requires
 put-number-requires c κs = let h = decimal-32 _ (c .wide .ensures .1) in omega (arith, h)
-
-same-length : tie.Need-same-length
-same-length c = search needs
 
 returns : tie.Need-returns
 returns c = let p = c .before .before .put-number in let w = c .before .before .before .wide in let h = decimal-32 _ (w .ensures .1) in (rw (← (w .ensures .0)) (p .ensures), omega (arith, h, p .ensures .next))
 
 pub put-small-spec : {M : Type 1} → statement M
-put-small-spec = tie.close (tie.spec wide-requires put-number-requires same-length returns)
+put-small-spec = tie.close (tie.spec (λ c κs. search needs) put-number-requires (λ c. search needs) returns)

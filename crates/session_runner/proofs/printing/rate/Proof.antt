@@ -6,14 +6,8 @@ use Rattle.session_runner.proofs.printing.rate.Tie as tie
 returns : tie.Need-returns
 returns c = rw (eq-eqb _ _ (c .if1 .taken))
 
-mul-result : tie.Need-mul-result
-mul-result c = search needs
-
-div-result : tie.Need-div-result
-div-result c = search needs
-
 returns-2 : tie.Need-returns-2
 returns-2 c = rw (ne-eqb _ _ (c .if1 .left))
 
 pub rate-spec : {M : Type 1} → statement M
-rate-spec = tie.close (tie.spec returns mul-result div-result returns-2)
+rate-spec = tie.close (tie.spec returns (λ c. search needs) (λ c. search needs) returns-2)

@@ -5,12 +5,6 @@ use borrow.Author.Needs.{needs}
 use Rattle.session_runner.proofs.turns.begin.Statement.{statement}
 use Rattle.session_runner.proofs.turns.begin.Tie as tie
 
-begin-refusal-requires : tie.Need-begin-refusal-requires
-begin-refusal-requires c κs = search needs
-
-refused-requires : tie.Need-refused-requires
-refused-requires c κs = search needs
-
 returns : tie.Need-returns
 returns c p =
     let a = c .before .before .before .args in
@@ -22,4 +16,4 @@ returns-2 c p =
     turn-allowed (swapQuestions a.tasks a.cells a.r a.task (a .q .cell) (a .q .expected) (a .q .new)) _ (c .before .begin-refusal .ensures) p a.r a.current a.last _ (c .if1 .left) refl
 
 pub begin-spec : {M : Type 1} → statement M
-begin-spec = tie.close (tie.spec begin-refusal-requires refused-requires returns returns-2)
+begin-spec = tie.close (tie.spec (λ c κs. search needs) (λ c κs. search needs) returns returns-2)

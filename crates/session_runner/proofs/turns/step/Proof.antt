@@ -6,12 +6,6 @@ use borrow.Author.Needs.{needs}
 use Rattle.session_runner.proofs.turns.step.Statement.{statement}
 use Rattle.session_runner.proofs.turns.step.Tie as tie
 
-step-refusal-requires : tie.Need-step-refusal-requires
-step-refusal-requires c κs = search needs
-
-refused-requires : tie.Need-refused-requires
-refused-requires c κs = search needs
-
 returns : tie.Need-returns
 returns c =
     let a = c .before .before .before .before .args in
@@ -22,9 +16,6 @@ take-turn-requires c κs =
     let a = c .before .before .before .before .args in
     c .before .before .before .before .pre (unrefused (stepQuestions a.tasks a.r a.task) refl (sym (c .before .before .step-refusal .ensures) ∙ c .before .if1 .left))
 
-same-length : tie.Need-same-length
-same-length c = search needs
-
 returns-2 : tie.Need-returns-2
 returns-2 c =
     let a = c .before .before .before .before .before .before .before .args in
@@ -34,9 +25,9 @@ pub step-spec : {M : Type 1} → statement M
 step-spec =
     tie.close
     (tie.spec
-    step-refusal-requires
-    refused-requires
+    (λ c κs. search needs)
+    (λ c κs. search needs)
     returns
     take-turn-requires
-    same-length
+    (λ c. search needs)
     returns-2)
