@@ -30,11 +30,12 @@ pub struct Turn {
 
 // What an access leaves besides the pool, and the value that it answers.
 struct Touch {
-    pub current: u32,
-    pub last: u32,
-    pub value: u32,
+    current: u32,
+    last: u32,
+    value: u32,
 }
 
+// No entry, but a step for callers that have proved what it needs: the entry `step`, and the session runner.
 pub fn take_turn(
     pool: &mut [u32],
     task: u32,
