@@ -5,7 +5,7 @@ use cells::Reply;
 use libc::STDOUT_FILENO;
 use lines::Answer;
 use lines::Finished;
-use lines::Record;
+use lines::records;
 use questions::State;
 use std::num::wrapping_add_u32;
 
@@ -23,19 +23,7 @@ fn next_seed(seed: u32) -> u32 {
 }
 
 fn blank() -> State {
-    let r = Record {
-        line: 0,
-        wanted: 0,
-        kind: 0,
-        cell: 0,
-        expected: 0,
-        new: 0,
-        held: 0,
-        taken: 0,
-        loaded: 0,
-        steps: 0,
-        hard: 0,
-    };
+    let r = records::idle();
     State {
         tasks: 0,
         cells: 0,

@@ -62,7 +62,8 @@ fn block_after(blocks: u32, b: u32) -> u32
     if b + 1 == blocks { 0 } else { b + 1 }
 }
 
-// Any state may be searched; one with more tasks or cells than there are places for has none to hand out.
+// Any state may be searched; one with more tasks or cells than there are places for, or no block to start from, has none
+// to hand out.
 pub fn unused_block(s: State) -> Found
     ensures { λ r. ⌜ foundOf r ≡ found s ⌝ }
 {

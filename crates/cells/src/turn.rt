@@ -20,7 +20,7 @@ use lines::following::next_of;
 use lines::records::NO_VALUE;
 use lines::records::idle;
 
-// What a turn leaves besides the pool. The task's cell has the current block.
+// What a turn leaves besides the pool; `current` is the block that the task's cell then names.
 pub struct Turn {
     pub record: Record,
     pub current: u32,

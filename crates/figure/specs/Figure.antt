@@ -1,4 +1,4 @@
--- Figure 2 with a new block each time. The cells share nothing: each numbers its own blocks. The lines are those of `cells`.
+-- Figure 2 with a new block each time. The cells share nothing: each numbers its own blocks. The lines are those of `lines`.
 use mathlib.Core.Path.{_≡_}
 use mathlib.Core.Bool.{cond}
 use mathlib.Core.Option.{Option, none, some}

@@ -7,6 +7,7 @@ use cells::Reply;
 use lines::Answer;
 use lines::Finished;
 use lines::Record;
+use lines::records;
 use questions::State;
 
 // A reply, and the record that was lent.
@@ -25,19 +26,7 @@ fn lend(s: State, pool: &mut [u32], task: u32, r: Record) -> Kept
 }
 
 fn unopened() -> State {
-    let r = Record {
-        line: 0,
-        wanted: 0,
-        kind: 0,
-        cell: 0,
-        expected: 0,
-        new: 0,
-        held: 0,
-        taken: 0,
-        loaded: 0,
-        steps: 0,
-        hard: 0,
-    };
+    let r = records::idle();
     State {
         tasks: 0,
         cells: 0,

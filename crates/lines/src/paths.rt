@@ -23,7 +23,7 @@ const PATHS: [[u32; 4]; 13] = [
 ];
 
 // One count of one path.
-pub fn count_of(path: usize, which: usize) -> u32
+fn count_of(path: usize, which: usize) -> u32
     requires { ⌜ (path < 13) × (which < 4) ⌝ }
     ensures { λ r. ⌜ r ≡ getD (getD table path []) which 0 ⌝ }
 {

@@ -130,7 +130,7 @@ fn values_fit(r: Record) -> bool
 }
 
 // Idle records are many: they leave first.
-pub fn record_fit(r: Record, cells: u32, blocks: u32) -> bool
+fn record_fit(r: Record, cells: u32, blocks: u32) -> bool
     ensures { λ b. ⌜ b ≡ recordFit r cells blocks ⌝ }
 {
     if r.line == 0 {

@@ -1,4 +1,4 @@
--- The session file, after the scope's "Session file" and "Sessions in brackets": refusals 12 to 15, or a session.
+-- The session file, after document 01's "Session file" and "Sessions in brackets": refusals 12 to 15, or a session.
 use mathlib.Core.Bool.{Bool, true, false, cond}
 use mathlib.Core.List.{List, [], _∷_, _++_}
 use mathlib.Core.Option.{Option, none, some}

@@ -5,7 +5,7 @@ mod printing;
 mod turns;
 
 use cells::Outcome;
-use lines::Record;
+use lines::records::idle;
 use questions::State;
 use session_reader::Reading;
 ghost use mathlib.Core.Path.{_≡_};
@@ -38,26 +38,14 @@ pub fn text_space() -> [u8; ROOM]
 fn blank() -> State
     ensures { λ s. ⌜ s ≡ «blankOf» ⌝ }
 {
-    let idle = Record {
-        line: 0,
-        wanted: 0,
-        kind: 0,
-        cell: 0,
-        expected: 0,
-        new: 0,
-        held: 0,
-        taken: 0,
-        loaded: 0,
-        steps: 0,
-        hard: 0,
-    };
+    let r = idle();
     State {
         tasks: 0,
         cells: 0,
         blocks: 0,
         last: 0,
         current: [0; 16],
-        records: [idle; 32],
+        records: [r; 32],
     }
 }
 

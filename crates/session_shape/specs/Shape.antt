@@ -1,4 +1,4 @@
--- Question 13, after the scope's "Session file": brackets, spaces and lines.
+-- Question 13, after document 01's "Session file": brackets, spaces and lines.
 use mathlib.Core.Bool.{Bool, cond, not, _&&_, _||_}
 use mathlib.Core.List.{List, [], _∷_}
 use Prim.Native.Nat.{ℕ, _+_, _-_}

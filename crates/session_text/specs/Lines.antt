@@ -1,4 +1,4 @@
--- The lines that a session prints, after the scope's "Sessions in brackets".
+-- The lines that a session prints, after document 01's "Sessions in brackets".
 use mathlib.Core.Bool.{cond}
 use mathlib.Core.List.{List, [], _∷_, _++_}
 use Prim.Native.Nat.{ℕ, _*_, _/_, _<_}
