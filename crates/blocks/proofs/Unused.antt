@@ -14,7 +14,7 @@ use Rattle.lines.specs.declared.Record.{Record}
 use Rattle.questions.specs.declared.State.{State}
 use Rattle.lines.specs.Record.{isIdle, recordAt}
 use Rattle.questions.specs.Questions.{holds, installs, fit, fitTests}
-use Rattle.blocks.specs.Blocks.{isCurrent, isHeld, used, usesBlock, after, unusedFrom, unused}
+use Rattle.blocks.specs.Blocks.{isCurrent, usedByTask, used, usesBlock, after, unusedFrom, unused}
 use Rattle.questions.proofs.Tests.{nth, blocks-true}
 use Rattle.blocks.proofs.Counting.{count, gap, count-or, count-and, count-none, count-one, count-any, count-less}
 
@@ -44,12 +44,12 @@ module _ (n : ℕ) (r : Record) where
   at-most-one e = let z : count taking n ≡ 0 = rw e (count-none n) in omega (arith, in-parts)
 
 few : (s : State) (t : ℕ) → s .cells + 2 * s .tasks ≤ s .blocks → t < s .tasks → recordAt (s .records) t .line ≡ 29 → count (used s) (s .blocks) < s .blocks
-unfolding used isCurrent isHeld
+unfolding used isCurrent usedByTask
 few s t enough lt e =
     let n = s .blocks in
     let named = count-any (λ k b. eqb (getD (s .current) k 0) b) n 1 0 (s .cells) (λ j. count-one (getD (s .current) j 0) n) in
     let held = count-less (λ t b. usesBlock (recordAt (s .records) t) b) n t 0 (s .tasks) (λ j. at-most-two n (recordAt (s .records) j)) (at-most-one n (recordAt (s .records) t) e) (omega arith) (omega arith) in
-    omega (arith, count-or (isCurrent s) (isHeld s) n)
+    omega (arith, count-or (isCurrent s) (usedByTask s) n)
 
 -- THE SEARCH
 

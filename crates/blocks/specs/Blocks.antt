@@ -20,11 +20,11 @@ isCurrent s b = anyFrom (λ k. eqb (getD (s .current) k 0) b) 0 (s .cells)
 abbrev pub usesBlock : Record → ℕ → Bool
 usesBlock r b = not (isIdle r) && ((holds r && eqb (r .held) b) || (installs r && eqb (r .taken) b))
 
-unfoldable pub isHeld : State → ℕ → Bool
-isHeld s b = anyFrom (λ t. usesBlock (recordAt (s .records) t) b) 0 (s .tasks)
+unfoldable pub usedByTask : State → ℕ → Bool
+usedByTask s b = anyFrom (λ t. usesBlock (recordAt (s .records) t) b) 0 (s .tasks)
 
 unfoldable pub used : State → ℕ → Bool
-used s b = isCurrent s b || isHeld s b
+used s b = isCurrent s b || usedByTask s b
 
 -- the block after b, going round after the last
 abbrev pub after : ℕ → ℕ → ℕ

@@ -10,7 +10,7 @@ use Rattle.cells.specs.declared.Outcome.{Outcome}
 use Rattle.cells.specs.declared.Outcome.the-variants.{Refused, Acted, Ended}
 use Rattle.lines.specs.Record.{noValue, idle}
 use Rattle.questions.specs.Questions.{hasNone, openQuestions, recordFit, cellsFit, recordsFit, fit}
-use Rattle.blocks.specs.Blocks.{isCurrent, isHeld, used, unused}
+use Rattle.blocks.specs.Blocks.{isCurrent, usedByTask, used, unused}
 use Rattle.cells.specs.Open.{After, opened}
 use Rattle.cells.specs.Begin.{readBegun, swapBegun}
 use Rattle.cells.specs.Step.{ran, stepped}
@@ -101,5 +101,5 @@ Hold (c ∷ l) = (outcomes c ≡ c .gives) × Hold l
 
 -- every case gives what document 01 says
 cases-hold : Hold cases
-unfolding opened readBegun swapBegun stepped ran fit recordFit cellsFit recordsFit hasNone openQuestions isCurrent isHeld used unused
+unfolding opened readBegun swapBegun stepped ran fit recordFit cellsFit recordsFit hasNone openQuestions isCurrent usedByTask used unused
 cases-hold = (refl, (refl, (refl, (refl, (refl, (refl, (refl, (refl, (refl, (refl, (refl, (refl, (refl, (refl, tt))))))))))))))

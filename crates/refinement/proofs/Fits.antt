@@ -12,7 +12,7 @@ use Rattle.questions.specs.declared.State.{State}
 use Rattle.lines.specs.Basics.{ands}
 use Rattle.lines.specs.Record.{isIdle, recordAt}
 use Rattle.questions.specs.Questions.{holds, installs, busyTests, recordFit, cellsFit, recordsFit, fit}
-use Rattle.blocks.specs.Blocks.{isCurrent, isHeld, used, usesBlock}
+use Rattle.blocks.specs.Blocks.{isCurrent, usedByTask, used, usesBlock}
 use Rattle.cells.specs.Step.{current}
 use Rattle.questions.proofs.Tests.{both, implied, or-left, or-right, all-from, none-of}
 use Rattle.figure.specs.Figure.{World}
@@ -60,11 +60,11 @@ not-held false false at other e h = absurd h
 module _ {n v : ℕ} {R : Links} {s : State} {p : List ℕ} {w : World} (a : Agree n v R s p w) (u : ℕ) (e : used s u ≡ false) where
   pub not-current : (k : ℕ) → k < v → current s k ≡ u → ⊥
   unfolding used isCurrent
-  not-current k l = eqb-false _ _ (none-of _ 0 (s .cells) (or-left (isCurrent s u) (isHeld s u) e) k (omega arith) (omega (arith, a .sizes .same-cells)))
+  not-current k l = eqb-false _ _ (none-of _ 0 (s .cells) (or-left (isCurrent s u) (usedByTask s u) e) k (omega arith) (omega (arith, a .sizes .same-cells)))
 
   not-used : (t : ℕ) → t < n → usesBlock (recordAt (s .records) t) u ≡ false
-  unfolding used isHeld
-  not-used t l = none-of (λ t. usesBlock (recordAt (s .records) t) u) 0 (s .tasks) (or-right (isCurrent s u) (isHeld s u) e) t (omega arith) (omega (arith, a .sizes .same-tasks))
+  unfolding used usedByTask
+  not-used t l = none-of (λ t. usesBlock (recordAt (s .records) t) u) 0 (s .tasks) (or-right (isCurrent s u) (usedByTask s u) e) t (omega arith) (omega (arith, a .sizes .same-tasks))
 
   -- each task's links are to other blocks
   pub other-blocks : (S : Links) → ((k i b : ℕ) → R k i b → (b ≡ u → ⊥) → S k i b) → (t : ℕ) → t < n → Task S (recordAt (s .records) t) (w .records t)

@@ -8,14 +8,14 @@ use lib.ListN.{length, replicate}
 use Rattle.text.specs.Bytes.{bytes}
 use Rattle.text.specs.Readers.{word, digitsAfter, number}
 use Rattle.session_shape.specs.Shape.{fits, deeper, shapedAfter}
-use Rattle.session_file.specs.Session.{Act, read, swap, step, Verdict, bad, session, short, numbers, manyWithin, values, opening, keyword, head, body, form, line, count, times, actions, formed, played, counted, verdict}
+use Rattle.session_file.specs.Session.{Act, read, swap, step, Verdict, bad, session, short, numbers, manyWithin, values, opening, keyword, head, body, form, line, count, times, actions, formed, asked15, asked14, verdict}
 
 -- P1: its opening and 15 actions
 p1 :
     verdict (bytes "(open 2 1 5 (5))\n(swap 0 0 5 7)\n(again 10 (step 0))\n(read 1 0)\n(again 3 (step 1))\n")
     ≡ session (record { tasks = 2; cells = 1; blocks = 5; values = 5 ∷ [] })
     ((swap 0 0 5 7 ∷ replicate 10 (step 0)) ++ (read 1 0 ∷ replicate 3 (step 1)))
-unfolding word digitsAfter number fits deeper shapedAfter numbers manyWithin values opening keyword head body form line count times actions formed played counted verdict
+unfolding word digitsAfter number fits deeper shapedAfter numbers manyWithin values opening keyword head body form line count times actions formed asked15 asked14 verdict
 p1 = refl
 
 -- each file after a first line that opens 1 task, 1 cell and 3 blocks, with its verdict
@@ -48,12 +48,12 @@ judged :
     ("(again 4294967295 (again 4294967295))\n", plays []) ∷
     []
     )
-unfolding word digitsAfter number fits deeper shapedAfter numbers manyWithin values opening keyword head body form line count times actions formed played counted verdict
+unfolding word digitsAfter number fits deeper shapedAfter numbers manyWithin values opening keyword head body form line count times actions formed asked15 asked14 verdict
 judged = (refl, (refl, (refl, (refl, (refl, (refl, (refl, (refl, (refl, (refl, (refl, (refl, (refl, (refl, (refl, (refl, (refl, (refl, tt))))))))))))))))))
 
 -- an empty file has no open
 none-open : verdict [] ≡ bad 14
-unfolding shapedAfter opening word formed played counted verdict
+unfolding shapedAfter opening word formed asked15 asked14 verdict
 none-open = refl
 
 -- a file of 65,536 bytes is short enough, and one of 65,537 is not, whatever they are

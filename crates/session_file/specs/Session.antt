@@ -185,14 +185,14 @@ formed = do
   l ← lines
   pure (o, l)
 
--- The first no gives its number.
-unfoldable pub played : Bool → Opening → Forms → Verdict
-played true o l = session o (actionsOf l)
-played false o l = bad 15
+-- The first no gives its number: 15, after 14, after 13 and 12.
+unfoldable pub asked15 : Bool → Opening → Forms → Verdict
+asked15 true o l = session o (actionsOf l)
+asked15 false o l = bad 15
 
-unfoldable pub counted : Option ((Opening × Forms) × List ℕ) → Verdict
-counted none = bad 14
-counted (some ((o, l), s)) = played (leb (counts l) 65535) o l
+unfoldable pub asked14 : Option ((Opening × Forms) × List ℕ) → Verdict
+asked14 none = bad 14
+asked14 (some ((o, l), s)) = asked15 (leb (counts l) 65535) o l
 
 unfoldable pub verdict : List ℕ → Verdict
-verdict s = cond (short s) (cond (shaped s) (counted (formed s)) (bad 13)) (bad 12)
+verdict s = cond (short s) (cond (shaped s) (asked14 (formed s)) (bad 13)) (bad 12)

@@ -9,7 +9,7 @@ use lib.Dec.{eqb}
 use lib.ListN.{length, take, drop}
 use Rattle.text.specs.Readers.{Reads}
 use Rattle.session_shape.specs.Shape.{shaped}
-use Rattle.session_file.specs.Session.{Opening, Forms, bad, session, opening, lines, counts, actionsOf, formed, played, counted, verdict}
+use Rattle.session_file.specs.Session.{Opening, Forms, bad, session, opening, lines, counts, actionsOf, formed, asked15, asked14, verdict}
 use Rattle.session_reader.specs.Reading.{judged}
 use Rattle.session_reader.specs.Answers.{OpenedIs}
 use Rattle.session_reader.specs.declared.opening.Opened.{Opened}
@@ -32,26 +32,26 @@ module _ (s : List ℕ) where
     is-13 e = rw (le-leb (length s) 65536 h, e)
 
     module _ (e : shaped s ≡ true) where
-      asked : verdict s ≡ counted (formed s)
+      asked : verdict s ≡ asked14 (formed s)
       unfolding verdict
       asked = rw (le-leb (length s) 65536 h, e)
 
       pub unopened : opening s ≡ none → verdict s ≡ bad 14
-      unfolding counted formed
+      unfolding asked14 formed
       unopened f = rw (asked, f)
 
       module _ {o : Opening} {a : ℕ} (x : Reads opening s 0 0 o a) where
         pub unformed : lines (drop a s) ≡ none → verdict s ≡ bad 14
-        unfolding counted formed
+        unfolding asked14 formed
         unformed f = rw (asked, x .finds, f)
 
         module _ {l : Forms} {b : ℕ} (y : Reads lines s a 0 l b) where
           pub is-15 : 65535 < counts l → verdict s ≡ bad 15
-          unfolding counted formed played
+          unfolding asked14 formed asked15
           is-15 k = rw (asked, x .finds, y .finds, lt-leb (counts l) 65535 k)
 
           pub is-session : counts l ≤ 65535 → verdict s ≡ session o (actionsOf l)
-          unfolding counted formed played
+          unfolding asked14 formed asked15
           is-session k = rw (asked, x .finds, y .finds, le-leb (counts l) 65535 k)
 
 -- with buffers of the right sizes the promise is the verdict

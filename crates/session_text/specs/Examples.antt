@@ -5,7 +5,7 @@ use Prim.Native.String.{String}
 use Rattle.text.specs.Bytes.{bytes, digits}
 use Rattle.text.specs.Readers.{word, digitsAfter, number}
 use Rattle.questions.specs.Questions.{fit, recordFit, cellsFit, recordsFit, hasNone, openQuestions}
-use Rattle.blocks.specs.Blocks.{isCurrent, isHeld, used, unused}
+use Rattle.blocks.specs.Blocks.{isCurrent, usedByTask, used, unused}
 use Rattle.cells.specs.Open.{opened}
 use Rattle.cells.specs.Begin.{readBegun, swapBegun}
 use Rattle.cells.specs.Step.{ran, stepped}
@@ -49,5 +49,5 @@ prints :
     ("(open 2 1 5 (5))\n(read 1 0)\n(step 0)\n(step 1)\n", "(no 1 11)\n(cell 0 5)\n(end 0 1 0 0)\n") ∷
     []
     )
-unfolding digits word digitsAfter number fit recordFit cellsFit recordsFit hasNone openQuestions isCurrent isHeld used unused opened readBegun swapBegun ran stepped looked fits deeper shapedAfter reader.numbers reader.manyWithin reader.values reader.opening reader.keyword reader.head reader.body reader.form reader.line reader.count reader.times reader.actions reader.counted reader.formed reader.verdict numbers doneStart reported cellLines pending closed played started printed reader.played
+unfolding digits word digitsAfter number fit recordFit cellsFit recordsFit hasNone openQuestions isCurrent usedByTask used unused opened readBegun swapBegun ran stepped looked fits deeper shapedAfter reader.numbers reader.manyWithin reader.values reader.opening reader.keyword reader.head reader.body reader.form reader.line reader.count reader.times reader.actions reader.asked14 reader.formed reader.verdict numbers doneStart reported cellLines pending closed played started printed reader.asked15
 prints = (refl, (refl, (refl, (refl, (refl, (refl, (refl, (refl, (refl, (refl, (refl, (refl, (refl, (refl, (refl, tt)))))))))))))))

@@ -6,7 +6,7 @@ use native.Mathlib.Nat.{sub-zero}
 use Rattle.questions.specs.declared.State.{State}
 use Rattle.lines.specs.Basics.{anyFrom}
 use Rattle.lines.specs.Record.{recordAt}
-use Rattle.blocks.specs.Blocks.{isCurrent, isHeld, used, usesBlock}
+use Rattle.blocks.specs.Blocks.{isCurrent, usedByTask, used, usesBlock}
 use Rattle.questions.proofs.Loops.{any-no, any-yes, any-end}
 use borrow.Author.Needs.{needs}
 use native.Mathlib.Omega.{arith}
@@ -27,7 +27,7 @@ unfolding used isCurrent
 returns c = rw (sym (c .before .is-current .ensures) ∙ c .if1 .taken)
 
 loop-holds : tie.Need-loop-holds Inv-loop μ-loop
-unfolding used isCurrent isHeld
+unfolding used isCurrent usedByTask
 loop-holds c = (search needs, rw (sub-zero, sym (c .before .is-current .ensures) ∙ c .if1 .left))
 
 returns-2 : tie.Need-returns-2 Inv-loop μ-loop

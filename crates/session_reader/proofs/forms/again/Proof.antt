@@ -1,7 +1,6 @@
 use borrow.Author.Needs.{needs}
 use native.Mathlib.Omega.{arith}
 use Rattle.session_reader.proofs.Standing.{again-none, again-over, again-many, again-fits}
-use lib.ListN.{length}
 use mathlib.Core.Path.{refl}
 use native.Mathlib.Nat.{mul-le-mul-left}
 use Prim.Native.Nat.{_-_}
