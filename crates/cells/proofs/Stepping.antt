@@ -12,7 +12,7 @@ use borrow.Author.Tests.{ltb-true, ne-eqb}
 use Rattle.lines.specs.declared.Record.{Record}
 use Rattle.questions.specs.declared.State.{State}
 use Rattle.lines.specs.Record.{recordAt}
-use Rattle.questions.specs.Questions.{Question, refusal, recordFit, busyTests, recordsFit, fit, fitTests, stepQuestions}
+use Rattle.questions.specs.Questions.{Question, refusal, lineFit, recordFit, busyTests, recordsFit, fit, fitTests, stepQuestions}
 use Rattle.blocks.specs.Blocks.{unused}
 use Rattle.cells.specs.Step.{current, stepped}
 use Rattle.cells.specs.Turn.{turn, There, Ready}
@@ -30,6 +30,7 @@ pub record Acting (s : State) (p : List ℕ) (t : ℕ) (r : Record) : Type 0 whe
   pub task : t < 32
   pub cell : r .cell < 16
   pub named : r .cell < s .cells
+  pub line : lineFit r ≡ true
   pub ready : Ready (length p) t r
   pub there : (f : Option ℕ) → Free s r f → There (length p) f
   pub acts : (f : Option ℕ) → Free s r f → stepped s p t ≡ putBack s t (r .cell) (turn p t r (current s (r .cell)) (s .last) f)
@@ -55,9 +56,12 @@ module _ (s : State) (p : List ℕ) (t : ℕ) where
     unfolding fit recordsFit
     fits = all-at (λ t. recordFit (recordAt (s .records) t) (s .cells) (s .blocks)) 0 (s .tasks) (nth (fitTests s p) (is-yes 0) 5) t (omega arith) (omega (arith, below))
 
-    cell-below : own .cell < s .cells
+    test : (k : ℕ) → getD (busyTests own (s .cells) (s .blocks)) k true ≡ true
     unfolding recordFit
-    cell-below = ltb-true _ _ (nth (busyTests own (s .cells) (s .blocks)) (rw (ne-eqb _ _ busy) at fits) 0)
+    test = nth (busyTests own (s .cells) (s .blocks)) (rw (ne-eqb _ _ busy) at fits)
+
+    cell-below : own .cell < s .cells
+    cell-below = ltb-true _ _ (test 0)
 
     there : (f : Option ℕ) → Free s own f → There (length p) f
     there none h = tt
@@ -82,6 +86,7 @@ module _ (s : State) (p : List ℕ) (t : ℕ) where
           task = omega (arith, below);
           cell = omega (arith, cell-below);
           named = cell-below;
+          line = test 1;
           ready = ready own (s .cells) (s .blocks) (length p) t fits busy (z .words);
           there = there;
           acts = acts;

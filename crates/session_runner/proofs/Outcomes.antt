@@ -1,16 +1,17 @@
 -- The numbers of a finished call are small: its task's, and its record's cell and counts.
 use mathlib.Core.Path.{_≡_, refl, sym, subst}
+use mathlib.Core.Bool.{true, _||_, not}
 use mathlib.Core.Option.{Option, none, some}
 use mathlib.Core.List.{List, _∷_}
 use Prim.Native.Nat.{ℕ, _≤_, _<_}
 use native.Mathlib.Omega.{arith}
+use lib.Dec.{T, leb, leb→le}
 use Rattle.lines.specs.declared.Record.{Record}
 use Rattle.lines.specs.declared.Next.{Next}
 use Rattle.lines.specs.Record.{recordAt, firstRead, firstSwap}
-use Rattle.lines.specs.Lines.{lineOf, accessOf, nextOf, counted}
-use Rattle.lines.proofs.Finishing.{Tells, goes, ends, tells, at-most-one}
+use Rattle.lines.specs.Lines.{Line, nowhere, lineOf, accessAt, accessOf, nextOf, counted, hardware}
 use Rattle.questions.specs.declared.State.{State}
-use Rattle.questions.specs.Questions.{refusal, fit, beginQuestions, swapQuestions, stepQuestions}
+use Rattle.questions.specs.Questions.{refusal, reads, swaps, ofKind, lineFit, fit, beginQuestions, swapQuestions, stepQuestions}
 use Rattle.blocks.specs.Blocks.{unused}
 use Rattle.cells.specs.Open.{After, unless}
 use Rattle.cells.specs.Begin.{started, readBegun, swapBegun}
@@ -18,9 +19,18 @@ use Rattle.cells.specs.Step.{current, ran, stepped}
 use Rattle.cells.specs.Turn.{Touched, performed, ending, turn}
 use Rattle.cells.proofs.TurnLaw.{ran-turn}
 use Rattle.cells.proofs.Stepping.{Acting, own-acting}
+use Rattle.figure.proofs.LineLaws.{imp, every-line, same, Leads, goes, done as ends, leads}
 use Rattle.session_file.specs.Session.{Act, read, swap, step}
 use Rattle.session_text.specs.Lines.{Small}
 use Rattle.session_text.specs.Printed.{taskOf, done}
+
+-- a record that fits has a line
+a-line : (r : Record) → lineFit r ≡ true → T (not (same (lineOf r) nowhere))
+a-line r = imp (lineFit r) (not (same (lineOf r) nowhere)) (every-line (λ l. not (same l nowhere) || not (ofKind l (reads r) (swaps r))) tt (lineOf r))
+
+-- a line is at most one hardware CAS
+at-most-one : (t : ℕ) (r : Record) → hardware (accessOf t r) ≤ 1
+at-most-one t r = leb→le _ _ (every-line (λ l. leb (hardware (accessAt l t r)) 1) tt (lineOf r))
 
 module _ (t : ℕ) where
   asked : (o : Option ℕ) (s : State) (p : List ℕ) (a : After) → (o ≡ none → Small t (a .outcome)) → Small t (unless o s p a .outcome)
@@ -28,16 +38,16 @@ module _ (t : ℕ) where
   asked (some n) s p a h = tt
 
   -- what follows a line of a task whose cell and counts are small
-  ended : (m : Touched) (r : Record) (x : Next) → Tells r x → t < 100 → r .cell < 100 → r .steps < 100 → r .hard < 100 → Small t (ending m x .outcome)
-  ended m r x (goes q) h j k l = tt
-  ended m r x (ends f e) h j k l = (h, omega (arith, e .0), omega (arith, e .1), omega (arith, e .2))
+  ended : (m : Touched) (l : Line) (r : Record) (x : Next) → Leads l r x → t < 100 → r .cell < 100 → r .steps < 100 → r .hard < 100 → Small t (ending m x .outcome)
+  ended m l r x (goes f) h i j k = tt
+  ended m l r x (ends f) h i j k = (h, i, j, k)
 
-  turns : (p : List ℕ) (r : Record) (c l : ℕ) (f : Option ℕ) → t < 100 → r .cell < 100 → r .steps ≤ 16 → r .hard ≤ 3 → Small t (turn p t r c l f .outcome)
+  turns : (p : List ℕ) (r : Record) (c l : ℕ) (f : Option ℕ) → lineFit r ≡ true → t < 100 → r .cell < 100 → r .steps ≤ 16 → r .hard ≤ 3 → Small t (turn p t r c l f .outcome)
   unfolding turn
-  turns p r c l f h j k n =
+  turns p r c l f e h i j k =
       let m = performed p c l f (accessOf t r) in
       let q = counted r (accessOf t r) in
-      ended m q (nextOf t r (m .value)) (tells t q (m .value) (lineOf r)) h j (omega arith) (omega (arith, at-most-one (accessOf t r)))
+      ended m (lineOf r) q (nextOf t r (m .value)) (leads (lineOf r) t q (m .value) refl (a-line r e)) h i (omega arith) (omega (arith, at-most-one t r))
 
   steps : (s : State) (p : List ℕ) → Small t (stepped s p t .outcome)
   unfolding stepped
@@ -45,7 +55,7 @@ module _ (t : ℕ) where
       let r = recordAt (s .records) t in
       asked (refusal ((6, fit s p) ∷ stepQuestions (s .tasks) r t)) s p (ran s p t r) (λ g.
       let a : Acting s p t r = own-acting s p t g in
-      subst (λ (x : After). Small t (x .outcome)) (sym (ran-turn s p t r)) (turns p r (current s (r .cell)) (s .last) (unused s) (omega (arith, a .task)) (omega (arith, a .cell)) (a .ready .steps) (a .ready .hard)))
+      subst (λ (x : After). Small t (x .outcome)) (sym (ran-turn s p t r)) (turns p r (current s (r .cell)) (s .last) (unused s) (a .line) (omega (arith, a .task)) (omega (arith, a .cell)) (a .ready .steps) (a .ready .hard)))
 
 pub small : (s : State) (p : List ℕ) (a : Act) → Small (taskOf a) (done s p a .outcome)
 unfolding readBegun swapBegun
