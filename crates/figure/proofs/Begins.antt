@@ -15,30 +15,30 @@ use Rattle.questions.specs.Questions.{valuesFit}
 use Rattle.lines.specs.Record.{first, firstRead}
 use Rattle.history.specs.History.{Op, read, swap, cellOf}
 use Rattle.history.proofs.Basics.{either, upd-same, upd-off}
-use Rattle.history.proofs.Simulation.{late, Ghost, Knowledge, untold, Grown}
+use Rattle.history.proofs.Simulation.{late, Ghost, unplaced, Grown}
 use Rattle.history.proofs.Simulation as Sim
-use Rattle.figure.specs.Figure.{World, withRecord, opening}
+use Rattle.figure.specs.Figure.{World, withRecord, opening, figure}
+use Rattle.figure.specs.Moments.{Notes, nothingNoted, names, sees}
 use Rattle.figure.proofs.Records.{AllOnPath, OnPath, Accepted, firstOf, not-idle, opening-on-path}
-use Rattle.figure.proofs.Tallies.{tallyOf, doing}
+use Rattle.figure.proofs.Tallies.{tallyOf}
 use Rattle.figure.proofs.Classes.{busy, stored, lies-in}
-use Rattle.figure.proofs.Invariant.{none, View, line, Inv}
+use Rattle.figure.proofs.Invariant.{none, View, Knowledge, line, Inv}
 use Rattle.figure.proofs.Frame.{moved, Mine, quiet}
-use Rattle.figure.proofs.Frame as Frame
 use Rattle.figure.proofs.Looking.{off, idle-task, settled≢late}
-use Rattle.figure.proofs.Views.{on, on-idle, on-changed, on-elsewhere, view, told-changed}
-use Rattle.figure.proofs.Worlds.{Good, doing-on}
+use Rattle.figure.proofs.Views.{on, on-idle, on-changed, on-elsewhere, view, placed-changed}
+use Rattle.figure.proofs.Worlds.{Good, doingIn, clock, known, knows-more, doing-on}
 
 -- THE STEPPER'S FACTS at its first line
 
-module _ (s : View) (κ : Knowledge) (t : ℕ) (new : s .told t ≡ false) (o : s .phase ≢ late t) where
-  told-nowhere : T (s .told t) → ⊥
-  told-nowhere z = rw new at z
+module _ (s : View) (κ : Knowledge) (t : ℕ) (new : s .placed t ≡ false) (o : s .phase ≢ late t) where
+  placed-nowhere : T (s .placed t) → ⊥
+  placed-nowhere z = rw new at z
 
   mine-read : (q : Record) → Mine s κ t l10 q
-  mine-read q = let n = told-nowhere in search off
+  mine-read q = let n = placed-nowhere in search off
 
   mine-swap : (q : Record) → q .expected ≢ q .new → q .expected ≢ none → q .new ≢ none → Mine s κ t l15 q
-  mine-swap q d e v = let n = told-nowhere in search off
+  mine-swap q d e v = let n = placed-nowhere in search off
 
 -- a swap's values are other than none
 values-some : (e n : ℕ) → (not (eqb e noValue) && not (eqb n noValue)) ≡ true → (e ≢ none) × (n ≢ none)
@@ -50,13 +50,11 @@ values-some e n = go (eqb e noValue) (eqb n noValue) refl refl
     go false true ex ey z = absurd (false≢true z)
     go true y ex ey z = absurd (false≢true z)
 
+pub its-cell : (op : Op) → firstOf op .cell ≡ cellOf op
+its-cell (read k) = refl
+its-cell (swap k e n) = refl
+
 module _ (w : World) (g : Ghost) (κ : Knowledge) (G : Good w g κ) (t : ℕ) (op : Op) (a : Accepted w t op) where
-  abbrev w′ : World
-  w′ = withRecord w t (firstOf op)
-
-  abbrev g′ : Ghost
-  g′ = untold g t
-
   pub was-idle : w .records t ≡ idle
   was-idle = go (G .on-path t .1)
     where
@@ -67,66 +65,69 @@ module _ (w : World) (g : Ghost) (κ : Knowledge) (G : Good w g κ) (t : ℕ) (o
   pub idle-to : (j : ℕ) → on (w .records) j t ≡ idle
   idle-to j = on-idle (w .records) j t was-idle
 
-  -- the others know what they knew, and t nothing
-  abbrev others : Knowledge
-  others = record { saw = λ u v. (u ≢ t) × κ .saw u v; early = λ u. (u ≢ t) × κ .early u }
-
   busy-other : (j u : ℕ) → T (busy (line (view w g j) u)) → u ≢ t
   busy-other j u b z = rw (z, idle-to j) at b
-
-  -- the cell as before, with t's swap standing nowhere
-  abbrev before : ℕ → View
-  before j = record { cell = w .cell j; task = on (w .records) j; value = g .cells j; told = g′ .told; phase = g .phase j }
-
-  kept-before : (j : ℕ) → Inv (before j) others
-  kept-before j = told-changed (view w g j) others (g′ .told) (λ u b. upd-off (g .told) t false u (busy-other j u b))
-      (λ u z. lies-in stored busy tt (line (view w g j) u) (G .cells j .tasks u .owner z .has-stored))
-      (Frame.grow (view w g j) κ others (λ u b. ((λ v z. (busy-other j u b, z)), λ z. (busy-other j u b, z))) (G .cells j))
 
   not-late : (j : ℕ) → g .phase j ≢ late t
   not-late j z = rw (idle-to j) at (G .cells j .tasks t .owner z .has-stored)
 
-  pub its-cell : firstOf op .cell ≡ cellOf op
-  its-cell = go op
-    where
-      go : (op : Op) → firstOf op .cell ≡ cellOf op
-      go (read k) = refl
-      go (swap k e n) = refl
+module _ (w : World) (notes : Notes) (g : Ghost) (κ : Sim.Knowledge) (G : Good w g (known notes κ)) (t : ℕ) (op : Op) (a : Accepted w t op) where
+  abbrev w′ : World
+  w′ = withRecord w t (firstOf op)
 
-  begun : Inv (moved (before (cellOf op)) t (firstOf op)) others
+  abbrev g′ : Ghost
+  g′ = unplaced g t
+
+  -- the others know what they knew, and t nothing
+  abbrev others : Sim.Knowledge
+  others = record { saw = λ u n v. (u ≢ t) × κ .saw u n v; early = λ u. (u ≢ t) × κ .early u }
+
+  abbrev κ₁ : Knowledge
+  κ₁ = known notes others
+
+  -- the cell as before, where t's swap has not taken effect
+  abbrev before : ℕ → View
+  before j = record { cell = w .cell j; task = on (w .records) j; value = g .cells j; placed = g′ .placed; phase = g .phase j }
+
+  kept-before : (j : ℕ) → Inv (before j) κ₁
+  kept-before j = placed-changed (view w g j) κ₁ (g′ .placed) (λ u b. upd-off (g .placed) t false u (busy-other w g (known notes κ) G t op a j u b))
+      (λ u z. lies-in stored busy tt (line (view w g j) u) (G .cells j .tasks u .owner z .has-stored))
+      (knows-more (view w g j) notes κ others (λ u b. let ne = busy-other w g (known notes κ) G t op a j u b in ((λ n v z. (ne, z)), λ z. (ne, z))) (G .cells j))
+
+  begun : Inv (moved (before (cellOf op)) t (firstOf op)) κ₁
   begun = go op (a .values)
     where
       s : View
       s = before (cellOf op)
 
-      n : s .told t ≡ false
-      n = upd-same (g .told) t false
+      n : s .placed t ≡ false
+      n = upd-same (g .placed) t false
 
-      by : (k e v : ℕ) (b : Bool) → eqb e v ≡ b → (e ≢ none) × (v ≢ none) → Inv (moved s t (first (cond b 10 15) 2 k e v)) others
-      by k e v true z x = quiet s others t l10 (first 10 2 k e v) refl (kept-before (cellOf op)) (mine-read s others t n (not-late (cellOf op)) (first 10 2 k e v))
-      by k e v false z x = quiet s others t l15 (first 15 2 k e v) refl (kept-before (cellOf op)) (mine-swap s others t n (not-late (cellOf op)) (first 15 2 k e v) (eqb-false _ _ z) (x .0) (x .1))
+      by : (k e v : ℕ) (b : Bool) → eqb e v ≡ b → (e ≢ none) × (v ≢ none) → Inv (moved s t (first (cond b 10 15) 2 k e v)) κ₁
+      by k e v true z x = quiet s κ₁ t l10 (first 10 2 k e v) refl (kept-before (cellOf op)) (mine-read s κ₁ t n (not-late w g (known notes κ) G t op a (cellOf op)) (first 10 2 k e v))
+      by k e v false z x = quiet s κ₁ t l15 (first 15 2 k e v) refl (kept-before (cellOf op)) (mine-swap s κ₁ t n (not-late w g (known notes κ) G t op a (cellOf op)) (first 15 2 k e v) (eqb-false _ _ z) (x .0) (x .1))
 
-      go : (p : Op) → valuesFit (firstOf p) ≡ true → Inv (moved s t (firstOf p)) others
-      go (read k) v = quiet s others t l10 (firstRead k) refl (kept-before (cellOf op)) (mine-read s others t n (not-late (cellOf op)) (firstRead k))
+      go : (p : Op) → valuesFit (firstOf p) ≡ true → Inv (moved s t (firstOf p)) κ₁
+      go (read k) v = quiet s κ₁ t l10 (firstRead k) refl (kept-before (cellOf op)) (mine-read s κ₁ t n (not-late w g (known notes κ) G t op a (cellOf op)) (firstRead k))
       go (swap k e v) z = by k e v (eqb e v) refl (values-some e v z)
 
   here : view w′ g′ (cellOf op) ≡ moved (before (cellOf op)) t (firstOf op)
-  here = λ i. record { cell = w .cell (cellOf op); task = on-changed (w .records) t (firstOf op) (cellOf op) (inl its-cell) i; value = g .cells (cellOf op); told = g′ .told; phase = g .phase (cellOf op) }
+  here = λ i. record { cell = w .cell (cellOf op); task = on-changed (w .records) t (firstOf op) (cellOf op) (inl (its-cell op)) i; value = g .cells (cellOf op); placed = g′ .placed; phase = g .phase (cellOf op) }
 
   there : (j : ℕ) → j ≢ cellOf op → view w′ g′ j ≡ before j
-  there j n = λ i. record { cell = w .cell j; task = on-elsewhere (w .records) t (firstOf op) j (inr was-idle) (inl (λ z. n (sym z ∙ its-cell))) i; value = g .cells j; told = g′ .told; phase = g .phase j }
+  there j n = λ i. record { cell = w .cell j; task = on-elsewhere (w .records) t (firstOf op) j (inr (was-idle w g (known notes κ) G t op a)) (inl (λ z. n (sym z ∙ its-cell op))) i; value = g .cells j; placed = g′ .placed; phase = g .phase j }
 
-  pub begun-good : AllOnPath w′ → (κ′ : Knowledge) → Grown doing w w′ g′ κ κ′ → Good w′ g′ κ′
-  begun-good p κ′ grown = record { on-path = p; eager = grown .fresh-early; cells = λ j. Frame.grow (view w′ g′ j) others κ′ (knows j) (go j (either j (cellOf op))) }
+  pub begun-good : AllOnPath w′ → (κ′ : Sim.Knowledge) → Grown doingIn clock (names figure sees) (w, notes) (w′, nothingNoted notes) g′ κ κ′ → Good w′ g′ (known (nothingNoted notes) κ′)
+  begun-good p κ′ grown = record { on-path = p; eager = grown .fresh-early; cells = λ j. knows-more (view w′ g′ j) notes others κ′ (knows j) (go j (either j (cellOf op))) }
     where
-      go : (j : ℕ) → (j ≡ cellOf op) ⊎ (j ≢ cellOf op) → Inv (view w′ g′ j) others
-      go j (inl e) = subst (λ i. Inv (view w′ g′ i) others) (sym e) (subst (λ (v : View). Inv v others) (sym here) begun)
-      go j (inr e) = subst (λ (v : View). Inv v others) (sym (there j e)) (kept-before j)
+      go : (j : ℕ) → (j ≡ cellOf op) ⊎ (j ≢ cellOf op) → Inv (view w′ g′ j) κ₁
+      go j (inl e) = subst (λ i. Inv (view w′ g′ i) κ₁) (sym e) (subst (λ (v : View). Inv v κ₁) (sym here) begun)
+      go j (inr e) = subst (λ (v : View). Inv v κ₁) (sym (there j e)) (kept-before j)
 
-      knows : (j u : ℕ) → T (busy (lineOf (on (w′ .records) j u))) → ((v : ℕ) → (u ≢ t) × κ .saw u v → κ′ .saw u v) × ((u ≢ t) × κ .early u → κ′ .early u)
+      knows : (j u : ℕ) → T (busy (lineOf (on (w′ .records) j u))) → ((n v : ℕ) → (u ≢ t) × κ .saw u n v → κ′ .saw u n v) × ((u ≢ t) × κ .early u → κ′ .early u)
       knows j u b =
           let d = doing-on w′ j u b .0 in (
-            (λ v z. grown .saw u _ _ (sym (ap tallyOf (upd-off (w .records) t (firstOf op) u (z .0))) ∙ d) d v (z .1)),
+            (λ n v z. grown .saw u _ _ (sym (ap tallyOf (upd-off (w .records) t (firstOf op) u (z .0))) ∙ d) d n v (z .1)),
             (λ z. grown .early u _ _ (sym (ap tallyOf (upd-off (w .records) t (firstOf op) u (z .0))) ∙ d) d (z .1)),
           )
 
@@ -145,6 +146,6 @@ opening-good n v vs ok κ = record {
   };
 }
 
--- a refused action, or any moment: more is known
-pub good-grown : (w : World) (g : Ghost) (κ κ′ : Knowledge) → Good w g κ → Grown doing w w g κ κ′ → Good w g κ′
-good-grown w g κ κ′ G grown = record { on-path = G .on-path; eager = grown .fresh-early; cells = λ j. Frame.grow (view w g j) κ κ′ (λ u b. let d = doing-on w j u b .0 in (grown .saw u _ _ d d, grown .early u _ _ d d)) (G .cells j) }
+-- a refused action: more is known
+pub good-grown : (w : World) (notes : Notes) (g : Ghost) (κ κ′ : Sim.Knowledge) → Good w g (known notes κ) → Grown doingIn clock (names figure sees) (w, notes) (w, nothingNoted notes) g κ κ′ → Good w g (known (nothingNoted notes) κ′)
+good-grown w notes g κ κ′ G grown = record { on-path = G .on-path; eager = grown .fresh-early; cells = λ j. knows-more (view w g j) notes κ κ′ (λ u b. let d = doing-on w j u b .0 in (grown .saw u _ _ d d, grown .early u _ _ d d)) (G .cells j) }

@@ -1,5 +1,5 @@
 -- Classes of lines, as tests of their numbers, and which class lies in which: each inclusion is one test computed over all lines.
-use mathlib.Core.Bool.{Bool, true, false, not, _&&_, _||_}
+use mathlib.Core.Bool.{Bool, true, false, not, _&&_, _||_, cond}
 use Prim.Native.Nat.{ℕ}
 use lib.Dec.{eqb, T}
 use Rattle.lines.specs.Basics.{within}
@@ -7,6 +7,7 @@ use Rattle.lines.specs.Lines.{Wanted, for13, for25, for28, Line, l1, l2, l3, l1
 use Rattle.questions.specs.Questions.{ofKind}
 use Rattle.questions.proofs.Numbers.{number}
 use Rattle.figure.proofs.LineLaws.{every, every-line, lines}
+use Rattle.figure.proofs.LineLaws as Laws
 
 abbrev pub wantedBy : Wanted → ℕ
 wantedBy for13 = 13
@@ -42,6 +43,10 @@ decisionFor nowhere = 0
 abbrev pub is : ℕ → Line → Bool
 is n ℓ = eqb (number ℓ) n
 
+-- its number in the figure's own list, where the line that wanted the decision stands for the deciding part
+abbrev pub figureLine : Line → ℕ
+figureLine ℓ = cond (within (number ℓ) 1 3) (Laws.wantedBy ℓ) (number ℓ)
+
 abbrev pub busy : Line → Bool
 busy ℓ = not (is 0 ℓ)
 
@@ -68,6 +73,10 @@ loaded ℓ = within (number ℓ) 21 23
 abbrev pub stored : Line → Bool
 stored ℓ = is 24 ℓ || (is 26 ℓ || eqb (decisionFor ℓ) 25)
 
+-- has found its block active after its load, and may yet take effect, or did
+abbrev pub storing : Line → Bool
+storing ℓ = is 23 ℓ || stored ℓ
+
 -- knows that its block is inactive
 abbrev pub contended : Line → Bool
 contended ℓ = within (number ℓ) 1 3 || within (number ℓ) 29 30
@@ -79,6 +88,10 @@ replacing ℓ = within (number ℓ) 29 30
 -- has loaded V and is about to load C
 abbrev pub checking : Line → Bool
 checking ℓ = is 12 ℓ || is 21 ℓ
+
+-- has loaded V and may yet answer by it
+abbrev pub viewing : Line → Bool
+viewing ℓ = is 12 ℓ || within (number ℓ) 21 22
 
 -- set Y and has not reset it
 abbrev pub marking : Line → Bool

@@ -10,20 +10,20 @@ use Rattle.lines.specs.declared.Access.{Access}
 use Rattle.lines.specs.Lines.{Wanted, l2, l3, lineOf, at, counted}
 use Rattle.history.specs.Basics.{upd}
 use Rattle.history.proofs.Basics.{upd-at, upd-same, upd-off, upd-cases}
-use Rattle.history.proofs.Simulation.{Phase, settled, frozen, late, Knowledge}
+use Rattle.history.proofs.Simulation.{Phase, settled, frozen, late}
 use Rattle.figure.specs.Figure.{store}
 use Rattle.figure.proofs.Classes.{is, busy, holding, swapping, won, loaded, stored, replacing, lies-in, are-apart}
-use Rattle.figure.proofs.Invariant.{none, View, Decided, Seen, Owner, TaskOf, PhaseIs, line, held, Inv}
+use Rattle.figure.proofs.Invariant.{none, View, Knowledge, Decided, Seen, Store, Owner, TaskOf, PhaseIs, line, held, Inv}
 use Rattle.figure.proofs.Frame.{moved, Rest, Mine, finish, was, undecided, one-winner, not-taken}
 use Rattle.figure.proofs.Looking.{off, same-wins, same-loses, settled≢late}
 
--- whose swap stands in the linearization when t decides its block for what it loaded
-pub record Telling (s : View) (t : ℕ) (told : ℕ → Bool) : Type 0 where
-  pub more : (u : ℕ) → T (s .told u) → T (told u)
-  pub only : (u : ℕ) → T (busy (line s u)) → T (told u) → T (stored (line s u))
-  pub new-is : (u : ℕ) → T (stored (line s u)) → held s u ≡ held s t → T (told u) → s .task t .loaded ≡ s .task u .new
-  pub expected-is : (u : ℕ) → T (stored (line s u)) → held s u ≡ held s t → T (not (told u)) → s .task t .loaded ≡ s .task u .expected
-  pub elsewhere : (u : ℕ) → T (stored (line s u)) → held s u ≢ held s t → told u ≡ s .told u
+-- whose swap took effect when t decides its block for what it loaded
+pub record Placing (s : View) (t : ℕ) (placed : ℕ → Bool) : Type 0 where
+  pub more : (u : ℕ) → T (s .placed u) → T (placed u)
+  pub only : (u : ℕ) → T (busy (line s u)) → T (placed u) → T (stored (line s u))
+  pub new-is : (u : ℕ) → T (stored (line s u)) → held s u ≡ held s t → T (placed u) → s .task t .loaded ≡ s .task u .new
+  pub expected-is : (u : ℕ) → T (stored (line s u)) → held s u ≡ held s t → T (not (placed u)) → s .task t .loaded ≡ s .task u .expected
+  pub elsewhere : (u : ℕ) → T (stored (line s u)) → held s u ≢ held s t → placed u ≡ s .placed u
   pub before-store : (u : ℕ) → T (is 23 (line s u)) → held s u ≡ held s t → s .task t .loaded ≡ s .task u .expected
 
 module _ (s : View) (κ : Knowledge) (t : ℕ) (x : Wanted) (i : Inv s κ) (e : line s t ≡ l2 x) (d : s .cell .d (held s t) ≡ none) (a : Access) (n w : ℕ) where
@@ -51,12 +51,12 @@ module _ (s : View) (κ : Knowledge) (t : ℕ) (x : Wanted) (i : Inv s κ) (e : 
   now-decided : D′ L ≡ q .loaded
   now-decided = upd-at (s .cell .d) (q .held) (q .loaded) L (sym is-L)
 
-  module _ (told : ℕ → Bool) (y : Telling s t told) (now : (u : ℕ) → T (busy (line s u)) → κ .saw u (q .loaded)) where
+  module _ (placed : ℕ → Bool) (y : Placing s t placed) (now : (u : ℕ) → T (holding (line s u)) → held s u ≡ q .held → κ .decided u (q .loaded)) where
     abbrev pub done : View
-    done = record { cell = store (s .cell) (q .held) D (q .loaded); task = s .task; value = q .loaded; told = told; phase = settled }
+    done = record { cell = store (s .cell) (q .held) D (q .loaded); task = s .task; value = q .loaded; placed = placed; phase = settled }
 
     -- of those who hold this block
-    decided-here : (u : ℕ) → held s u ≡ q .held → Decided u (line s u) (s .task u) (told u) (q .loaded) (s .cell .c (held s u)) L (q .loaded) settled
+    decided-here : (u : ℕ) → held s u ≡ q .held → Decided u (line s u) (s .task u) (placed u) (q .loaded) (s .cell .c (held s u)) L (q .loaded) settled
     decided-here u h =
         let r = i .tasks u .decided in
         let c : s .cell .c (held s u) ≢ 0 = rw h (here .task .decided .inactive tt) in
@@ -64,8 +64,8 @@ module _ (s : View) (κ : Knowledge) (t : ℕ) (x : Wanted) (i : Inv s κ) (e : 
           replaced-decided = λ b z. given;
           decided-inactive = λ b z. c;
           before-store = λ b z. y .before-store u b h;
-          told-value = λ b z g. absurd (given g);
-          told-decided = λ b z g. y .new-is u b h z;
+          placed-value = λ b z g. absurd (given g);
+          placed-decided = λ b z g. y .new-is u b h z;
           late-inactive = λ b z. c;
           late-phase = λ b z g. absurd (given g);
           late-decided = λ b z g. y .expected-is u b h z;
@@ -75,7 +75,7 @@ module _ (s : View) (κ : Knowledge) (t : ℕ) (x : Wanted) (i : Inv s κ) (e : 
         }
 
     -- of the others
-    decided-far : (u : ℕ) → held s u ≢ q .held → Decided u (line s u) (s .task u) (told u) (s .cell .d (held s u)) (s .cell .c (held s u)) L (q .loaded) settled
+    decided-far : (u : ℕ) → held s u ≢ q .held → Decided u (line s u) (s .task u) (placed u) (s .cell .d (held s u)) (s .cell .c (held s u)) L (q .loaded) settled
     decided-far u h =
         let r = i .tasks u .decided in
         let z : T (stored (line s u)) → s .cell .d (held s u) ≡ none → ⊥ = λ b g. h (undecided s κ i u (lies-in stored holding tt (line s u) b) g ∙ sym is-L) in
@@ -83,8 +83,8 @@ module _ (s : View) (κ : Knowledge) (t : ℕ) (x : Wanted) (i : Inv s κ) (e : 
           replaced-decided = r .replaced-decided;
           decided-inactive = r .decided-inactive;
           before-store = r .before-store;
-          told-value = λ b g c. absurd (z b c);
-          told-decided = λ b g. r .told-decided b (rw (y .elsewhere u b h) at g);
+          placed-value = λ b g c. absurd (z b c);
+          placed-decided = λ b g. r .placed-decided b (rw (y .elsewhere u b h) at g);
           late-inactive = λ b g. r .late-inactive b (rw (y .elsewhere u b h) at g);
           late-phase = λ b g c. absurd (z b c);
           late-decided = λ b g. r .late-decided b (rw (y .elsewhere u b h) at g);
@@ -105,12 +105,15 @@ module _ (s : View) (κ : Knowledge) (t : ℕ) (x : Wanted) (i : Inv s κ) (e : 
         loaded-some = r .loaded-some;
         other-loaded = r .other-loaded;
         same-loaded = r .same-loaded;
-        yes-told = λ b. y .more u (r .yes-told b);
-        told-stored = y .only u;
+        yes-placed = λ b. y .more u (r .yes-placed b);
+        placed-stored = y .only u;
       };
-      decided = upd-cases (λ g. Decided u (line s u) (s .task u) (told u) g (s .cell .c (held s u)) L (q .loaded) settled) (s .cell .d) (q .held) (q .loaded) (held s u) (decided-here u) (decided-far u);
-      seen = let r = k .seen in upd-cases (λ g. Seen (line s u) (held s u) (s .task u .loaded) (κ .saw u) g (s .cell .c (held s u)) L) (s .cell .d) (q .held) (q .loaded) (held s u)
-          (λ h. record { active-value = r .active-value; refusing = r .refusing; decision = λ b g. now u (lies-in holding busy tt (line s u) b); replaced = λ b g. absurd (g (h ∙ is-L)) }) (λ h. r);
+      decided = upd-cases (λ g. Decided u (line s u) (s .task u) (placed u) g (s .cell .c (held s u)) L (q .loaded) settled) (s .cell .d) (q .held) (q .loaded) (held s u) (decided-here u) (decided-far u);
+      store = let r = k .store in upd-cases (λ g. Store (line s u) (κ .storedActive u) (placed u) g (s .cell .c (held s u))) (s .cell .d) (q .held) (q .loaded) (held s u)
+          (λ h. record { active-placed = λ b z. y .more u (r .active-placed b z); late-placed = λ b z g. given; late-store = r .late-store; yes-active = r .yes-active })
+          (λ h. record { active-placed = λ b z. y .more u (r .active-placed b z); late-placed = λ b z g. r .late-placed b z (rw (y .elsewhere u b h) at g); late-store = r .late-store; yes-active = r .yes-active });
+      seen = let r = k .seen in upd-cases (λ g. Seen (line s u) (held s u) (s .task u .loaded) (κ .loaded u) (κ .decided u) (κ .replaced u) g (s .cell .c (held s u)) L) (s .cell .d) (q .held) (q .loaded) (held s u)
+          (λ h. record { active-value = r .active-value; refusing = r .refusing; decision = λ b g. now u b h; replaced = λ b g. absurd (g (h ∙ is-L)) }) (λ h. r);
       planned = record {
         plan-some = k .planned .plan-some;
         plan = λ b. upd-cases (λ g. g ≡ none → s .task u .loaded ≢ q .loaded → s .cell .v L ≡ s .task u .loaded) (s .cell .d) (q .held) (q .loaded) (held s u)
@@ -161,13 +164,13 @@ module _ (s : View) (κ : Knowledge) (t : ℕ) (x : Wanted) (i : Inv s κ) (e : 
             let k = i .tasks o .owner g in
             absurd (are-apart (is 23) stored tt (line s o) (rw (one-winner s κ i u o (lies-in (is 23) won tt (line s u) b) (lies-in stored won tt (line s o) (k .has-stored)) (h ∙ is-L ∙ sym (k .here))) at b) (k .has-stored))
 
-    pub same : Telling s t (s .told)
+    pub same : Placing s t (s .placed)
     same = record {
       more = λ u b. b;
-      only = λ u. i .tasks u .self .told-stored;
+      only = λ u. i .tasks u .self .placed-stored;
       elsewhere = λ u b h. refl;
       before-store = same-before;
-      new-is = λ u b h z. p ∙ i .tasks u .decided .told-value b z (rw h d);
+      new-is = λ u b h z. p ∙ i .tasks u .decided .placed-value b z (rw h d);
       expected-is = λ u b h z. p ∙ sym (i .tasks u .owner (i .tasks u .decided .late-phase b z (rw h d)) .expected-is);
     }
 
@@ -184,7 +187,7 @@ module _ (s : View) (κ : Knowledge) (t : ℕ) (x : Wanted) (i : Inv s κ) (e : 
         find frozen z g = absurd (p (sym stored-late ∙ z .2))
         find (late o) z g = (o, g)
 
-    pub owner : Owner (line s (who .0)) (s .task (who .0)) (s .told (who .0)) L (s .value) (s .cell .v L)
+    pub owner : Owner (line s (who .0)) (s .task (who .0)) (s .placed (who .0)) L (s .value) (s .cell .v L)
     owner = i .tasks (who .0) .owner (who .1)
 
     pub its-new : s .task (who .0) .new ≡ q .loaded
@@ -193,12 +196,12 @@ module _ (s : View) (κ : Knowledge) (t : ℕ) (x : Wanted) (i : Inv s κ) (e : 
     it-is : (u : ℕ) → T (won (line s u)) → held s u ≡ q .held → u ≡ who .0
     it-is u b h = one-winner s κ i u (who .0) b (lies-in stored won tt (line s (who .0)) (owner .has-stored)) (h ∙ is-L ∙ sym (owner .here))
 
-    pub land : Telling s t (upd (s .told) (who .0) true)
+    pub land : Placing s t (upd (s .placed) (who .0) true)
     land = record {
-      more = λ u b. upd-cases T (s .told) (who .0) true u (λ z. tt) (λ z. b);
-      only = λ u b. upd-cases (λ z. T z → T (stored (line s u))) (s .told) (who .0) true u (λ h z. rw h (owner .has-stored)) (λ h. i .tasks u .self .told-stored b);
+      more = λ u b. upd-cases T (s .placed) (who .0) true u (λ z. tt) (λ z. b);
+      only = λ u b. upd-cases (λ z. T z → T (stored (line s u))) (s .placed) (who .0) true u (λ h z. rw h (owner .has-stored)) (λ h. i .tasks u .self .placed-stored b);
       new-is = λ u b h z. rw (it-is u (lies-in stored won tt (line s u) b) h) (sym its-new);
-      expected-is = λ u b h z. absurd (rw (upd-at (s .told) (who .0) true u (it-is u (lies-in stored won tt (line s u) b) h)) at z);
-      elsewhere = λ u b h. upd-off (s .told) (who .0) true u (λ z. h (ap (held s) z ∙ owner .here ∙ sym is-L));
+      expected-is = λ u b h z. absurd (rw (upd-at (s .placed) (who .0) true u (it-is u (lies-in stored won tt (line s u) b) h)) at z);
+      elsewhere = λ u b h. upd-off (s .placed) (who .0) true u (λ z. h (ap (held s) z ∙ owner .here ∙ sym is-L));
       before-store = λ u b h. absurd (are-apart (is 23) stored tt (line s u) b (rw (it-is u (lies-in (is 23) won tt (line s u) b) h) (owner .has-stored)));
     }

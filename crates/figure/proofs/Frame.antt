@@ -2,18 +2,18 @@
 -- invariant again. The quantifiers over tasks are met here once.
 use mathlib.Core.Path.{_≡_, refl, sym, subst, _∙_}
 use mathlib.Core.Logic.{_≢_, _⊎_, inl, inr}
+use mathlib.Core.Bool.{not}
 use Prim.Native.Nat.{ℕ}
 use lib.Dec.{T}
 use Rattle.lines.specs.declared.Record.{Record}
 use Rattle.lines.specs.Lines.{Line, lineOf}
 use Rattle.history.specs.Basics.{upd}
 use Rattle.history.proofs.Basics.{either, upd-cases}
-use Rattle.history.proofs.Simulation.{Knowledge}
-use Rattle.figure.proofs.Classes.{is, busy, holding, won, checking, lies-in}
-use Rattle.figure.proofs.Invariant.{none, View, TaskOf, Rival, CurrentOf, line, held, RivalOf, Inv}
+use Rattle.figure.proofs.Classes.{is, busy, holding, stored, won, checking, viewing, lies-in}
+use Rattle.figure.proofs.Invariant.{none, View, Knowledge, TaskOf, Rival, CurrentOf, line, held, RivalOf, Inv}
 
 abbrev pub moved : View → ℕ → Record → View
-moved s t q = record { cell = s .cell; task = upd (s .task) t q; value = s .value; told = s .told; phase = s .phase }
+moved s t q = record { cell = s .cell; task = upd (s .task) t q; value = s .value; placed = s .placed; phase = s .phase }
 
 pub record Rest (s : View) (κ : Knowledge) (t : ℕ) : Type 0 where
   pub current : CurrentOf s
@@ -66,11 +66,18 @@ was s κ t ℓ e i = record {
 
 -- KNOWLEDGE
 
--- only what a busy task knows matters
-pub grow : (s : View) (κ κ′ : Knowledge) → ((u : ℕ) → T (busy (line s u)) → ((v : ℕ) → κ .saw u v → κ′ .saw u v) × (κ .early u → κ′ .early u)) → Inv s κ → Inv s κ′
+-- what a task knows goes on where it matters: a load for who may answer by it, a decision where there is one, a replacement where it was
+pub record Grows (s : View) (κ κ′ : Knowledge) (u : ℕ) (ℓ : Line) : Type 0 where
+  pub loaded : T (viewing ℓ) → (v : ℕ) → κ .loaded u v → κ′ .loaded u v
+  pub decided : T (holding ℓ) → s .cell .d (held s u) ≢ none → (v : ℕ) → κ .decided u v → κ′ .decided u v
+  pub replaced : T (holding ℓ) → held s u ≢ s .cell .current → (v : ℕ) → κ .replaced u v → κ′ .replaced u v
+  pub early : T (busy ℓ) → κ .early u → κ′ .early u
+  pub storedActive : T (stored ℓ) → κ′ .storedActive u ≡ κ .storedActive u
+
+pub grow : (s : View) (κ κ′ : Knowledge) → ((u : ℕ) → Grows s κ κ′ u (line s u)) → Inv s κ → Inv s κ′
 grow s κ κ′ m i = record { current = i .current; tasks = λ u. more u (line s u) (m u) (i .tasks u); rivals = i .rivals; apart = i .apart }
   where
-    more : (u : ℕ) (ℓ : Line) → (T (busy ℓ) → ((v : ℕ) → κ .saw u v → κ′ .saw u v) × (κ .early u → κ′ .early u)) → TaskOf s κ u ℓ (s .task u) → TaskOf s κ′ u ℓ (s .task u)
+    more : (u : ℕ) (ℓ : Line) → Grows s κ κ′ u ℓ → TaskOf s κ u ℓ (s .task u) → TaskOf s κ′ u ℓ (s .task u)
     more u ℓ m k = record {
       self = k .self;
       split = k .split;
@@ -79,12 +86,18 @@ grow s κ κ′ m i = record { current = i .current; tasks = λ u. more u (line 
       planned = k .planned;
       fresh = k .fresh;
       owner = k .owner;
-      early = λ a. m (lies-in (is 23) busy tt ℓ a) .1 (k .early a);
+      early = λ a. m .early (lies-in (is 23) busy tt ℓ a) (k .early a);
+      store = record {
+        active-placed = λ a z. k .store .active-placed a (subst T (m .storedActive a) z);
+        late-placed = λ a z. k .store .late-placed a (subst (λ b. T (not b)) (m .storedActive a) z);
+        late-store = λ a z. k .store .late-store a (subst (λ b. T (not b)) (m .storedActive a) z);
+        yes-active = λ a. subst T (sym (m .storedActive (lies-in (is 26) stored tt ℓ a))) (k .store .yes-active a);
+      };
       seen = record {
-        active-value = λ a c. m (lies-in checking busy tt ℓ a) .0 _ (k .seen .active-value a c);
-        refusing = λ a. m (lies-in (is 22) busy tt ℓ a) .0 _ (k .seen .refusing a);
-        decision = λ a d. m (lies-in holding busy tt ℓ a) .0 _ (k .seen .decision a d);
-        replaced = λ a h. let r = k .seen .replaced a h in (r .0, m (lies-in holding busy tt ℓ a) .0 _ (r .1), r .2);
+        active-value = λ a c. m .loaded (lies-in checking viewing tt ℓ a) _ (k .seen .active-value a c);
+        refusing = λ a. m .loaded (lies-in (is 22) viewing tt ℓ a) _ (k .seen .refusing a);
+        decision = λ a d. m .decided a d _ (k .seen .decision a d);
+        replaced = λ a h. let r = k .seen .replaced a h in (r .0, m .replaced a h _ (r .1), r .2);
       };
     }
 

@@ -7,7 +7,7 @@ use lib.Dec.{T}
 use Rattle.lines.specs.declared.Record.{Record}
 use Rattle.lines.specs.Lines.{Line, lineOf}
 use Rattle.lines.specs.Record as Reserved
-use Rattle.history.proofs.Simulation.{Phase, settled, frozen, late, Knowledge}
+use Rattle.history.proofs.Simulation.{Phase, settled, frozen, late}
 use Rattle.figure.specs.Figure.{Cell}
 use Rattle.figure.proofs.Classes.{is, busy, holding, swapping, racing, won, loaded, stored, contended, replacing, checking}
 
@@ -16,18 +16,28 @@ unfoldable pub none : ℕ
 none = Reserved.noValue
 
 -- one cell as the proof sees it: its memory, the tasks on it (the others idle), and the ghost: the sequential cell's value, whose
--- swap stands in the linearization, the phase
+-- swap took effect, the phase
 pub record View : Type 0 where
   pub cell : Cell
   pub task : ℕ → Record
   pub value : ℕ
-  pub told : ℕ → Bool
+  pub placed : ℕ → Bool
   pub phase : Phase
+
+-- what a task's pending call knows of its cell: the value at its load of V; the decision of the block that it holds; the value after
+-- that block was replaced. That its begin comes before the last freezing, or that the cell is settled; whether its store found its block
+-- active.
+pub record Knowledge : Type 1 where
+  pub loaded : (task value : ℕ) → Type 0
+  pub decided : (task value : ℕ) → Type 0
+  pub replaced : (task value : ℕ) → Type 0
+  pub early : (task : ℕ) → Type 0
+  pub storedActive : (task : ℕ) → Bool
 
 -- OF A TASK. ℓ is its line; x y c v d are the words of the block that it holds, number h.
 
 -- looks at the record alone
-pub record Self (ℓ : Line) (ev nv v : ℕ) (told : Bool) : Type 0 where
+pub record Self (ℓ : Line) (ev nv v : ℕ) (placed : Bool) : Type 0 where
   -- line 14: a swap of equal values reads
   pub differ : T (swapping ℓ) → ev ≢ nv
   pub ev-some : T (swapping ℓ) → ev ≢ none
@@ -37,9 +47,9 @@ pub record Self (ℓ : Line) (ev nv v : ℕ) (told : Bool) : Type 0 where
   pub other-loaded : T (is 22 ℓ) → v ≢ ev
   pub same-loaded : T (is 23 ℓ) → v ≡ ev
   -- an active block at line 24 means that the store took effect
-  pub yes-told : T (is 26 ℓ) → T told
-  -- only a store puts a pending swap into the linearization
-  pub told-stored : T (busy ℓ) → T told → T (stored ℓ)
+  pub yes-placed : T (is 26 ℓ) → T placed
+  -- only who stored can have taken effect and be pending
+  pub placed-stored : T (busy ℓ) → T placed → T (stored ℓ)
 
 -- the splitter's words
 pub record Split (u : ℕ) (ℓ : Line) (x y : ℕ) : Type 0 where
@@ -57,30 +67,37 @@ pub record Value (ℓ : Line) (nv h loadedV next v : ℕ) : Type 0 where
   pub still-stored : T (stored ℓ) → v ≡ nv
 
 -- C and D; L is the cell's current block, P the sequential cell's value
-pub record Decided (u : ℕ) (ℓ : Line) (q : Record) (told : Bool) (d c L P : ℕ) (phase : Phase) : Type 0 where
+pub record Decided (u : ℕ) (ℓ : Line) (q : Record) (placed : Bool) (d c L P : ℕ) (phase : Phase) : Type 0 where
   -- a block is replaced only after it is decided, and decided only after it is inactive
   pub replaced-decided : T (holding ℓ) → q .held ≢ L → d ≢ none
   pub decided-inactive : T (holding ℓ) → d ≢ none → c ≢ 0
   -- the winner's V is unchanged, so what is decided before its store is what it expects
   pub before-store : T (is 23 ℓ) → d ≢ none → d ≡ q .expected
   -- a store that took effect: the cell has the new value, and it will be decided so
-  pub told-value : T (stored ℓ) → T told → d ≡ none → P ≡ q .new
-  pub told-decided : T (stored ℓ) → T told → d ≢ none → d ≡ q .new
+  pub placed-value : T (stored ℓ) → T placed → d ≡ none → P ≡ q .new
+  pub placed-decided : T (stored ℓ) → T placed → d ≢ none → d ≡ q .new
   -- a store that did not: it came late, and may yet, or the decision is the expected value
-  pub late-inactive : T (stored ℓ) → T (not told) → c ≢ 0
-  pub late-phase : T (stored ℓ) → T (not told) → d ≡ none → phase ≡ late u
-  pub late-decided : T (stored ℓ) → T (not told) → d ≢ none → d ≡ q .expected
+  pub late-inactive : T (stored ℓ) → T (not placed) → c ≢ 0
+  pub late-phase : T (stored ℓ) → T (not placed) → d ≡ none → phase ≡ late u
+  pub late-decided : T (stored ℓ) → T (not placed) → d ≢ none → d ≡ q .expected
   pub inactive : T (contended ℓ) → c ≢ 0
   pub decided : T (is 3 ℓ) → d ≢ none
   pub expected : T (replacing ℓ) → d ≡ q .expected
 
 -- what the task has seen in its cell since its begin
-pub record Seen (ℓ : Line) (h v : ℕ) (saw : ℕ → Type 0) (d c L : ℕ) : Type 0 where
-  pub active-value : T (checking ℓ) → c ≡ 0 → saw v
-  pub refusing : T (is 22 ℓ) → saw v
-  pub decision : T (holding ℓ) → d ≢ none → saw d
+pub record Seen (ℓ : Line) (h v : ℕ) (loading decided replacing : ℕ → Type 0) (d c L : ℕ) : Type 0 where
+  pub active-value : T (checking ℓ) → c ≡ 0 → loading v
+  pub refusing : T (is 22 ℓ) → loading v
+  pub decision : T (holding ℓ) → d ≢ none → decided d
   -- a replaced block's decision was followed by another value
-  pub replaced : T (holding ℓ) → h ≢ L → (n : ℕ) × saw n × (n ≢ d)
+  pub replaced : T (holding ℓ) → h ≢ L → (n : ℕ) × replacing n × (n ≢ d)
+
+-- a swap that stored: if its block was active then, it took effect; else the block is inactive, and it took effect only with the decision
+pub record Store (ℓ : Line) (active placed : Bool) (d c : ℕ) : Type 0 where
+  pub active-placed : T (stored ℓ) → T active → T placed
+  pub late-placed : T (stored ℓ) → T (not active) → T placed → d ≢ none
+  pub late-store : T (stored ℓ) → T (not active) → c ≢ 0
+  pub yes-active : T (is 26 ℓ) → T active
 
 -- what is about to be decided; vL is V of the current block
 pub record Planned (ℓ : Line) (v d P vL : ℕ) : Type 0 where
@@ -98,27 +115,28 @@ pub record Fresh (b nv next v d y c L : ℕ) : Type 0 where
   pub c-is : c ≡ 0
 
 -- the task whose late store may yet take effect
-pub record Owner (ℓ : Line) (q : Record) (told : Bool) (L P vL : ℕ) : Type 0 where
+pub record Owner (ℓ : Line) (q : Record) (placed : Bool) (L P vL : ℕ) : Type 0 where
   pub has-stored : T (stored ℓ)
   pub here : q .held ≡ L
-  pub not-told : T (not told)
+  pub not-placed : T (not placed)
   pub new-is : q .new ≡ vL
   pub expected-is : q .expected ≡ P
 
-pub record Task (m : Cell) (P : ℕ) (told : Bool) (phase : Phase) (κ : Knowledge) (u : ℕ) (ℓ : Line) (q : Record) : Type 0 where
-  pub self : Self ℓ (q .expected) (q .new) (q .loaded) told
+pub record Task (m : Cell) (P : ℕ) (placed : Bool) (phase : Phase) (κ : Knowledge) (u : ℕ) (ℓ : Line) (q : Record) : Type 0 where
+  pub self : Self ℓ (q .expected) (q .new) (q .loaded) placed
   pub split : Split u ℓ (m .x (q .held)) (m .y (q .held))
   pub value : Value ℓ (q .new) (q .held) (q .loaded) (m .next) (m .v (q .held))
-  pub decided : Decided u ℓ q told (m .d (q .held)) (m .c (q .held)) (m .current) P phase
-  pub seen : Seen ℓ (q .held) (q .loaded) (κ .saw u) (m .d (q .held)) (m .c (q .held)) (m .current)
+  pub decided : Decided u ℓ q placed (m .d (q .held)) (m .c (q .held)) (m .current) P phase
+  pub store : Store ℓ (κ .storedActive u) placed (m .d (q .held)) (m .c (q .held))
+  pub seen : Seen ℓ (q .held) (q .loaded) (κ .loaded u) (κ .decided u) (κ .replaced u) (m .d (q .held)) (m .c (q .held)) (m .current)
   pub planned : Planned ℓ (q .loaded) (m .d (q .held)) P (m .v (m .current))
   pub fresh : T (is 30 ℓ) → Fresh (q .taken) (q .new) (m .next) (m .v (q .taken)) (m .d (q .taken)) (m .y (q .taken)) (m .c (q .taken)) (m .current)
   -- a store can come late only from a call that began before the block became inactive
   pub early : T (is 23 ℓ) → κ .early u
-  pub owner : phase ≡ late u → Owner ℓ q told (m .current) P (m .v (m .current))
+  pub owner : phase ≡ late u → Owner ℓ q placed (m .current) P (m .v (m .current))
 
 abbrev pub TaskOf : View → Knowledge → ℕ → Line → Record → Type 0
-TaskOf s κ u ℓ q = Task (s .cell) (s .value) (s .told u) (s .phase) κ u ℓ q
+TaskOf s κ u ℓ q = Task (s .cell) (s .value) (s .placed u) (s .phase) κ u ℓ q
 
 -- OF TWO TASKS that hold one block, u and w: ℓ and ℓ′ are their lines, x is X of the block
 

@@ -11,6 +11,7 @@ pub mod Storing
 pub mod Deciding
 pub mod Replacing
 pub mod Steps
+pub mod Notes
 pub mod Views
 pub mod Operations
 pub mod Worlds
@@ -18,6 +19,7 @@ pub mod Begins
 pub mod Marks
 pub mod Quiet
 pub mod Quietly
+pub mod Dated
 pub mod Simulation
 pub mod Reachable
 pub mod Ninth

@@ -144,9 +144,9 @@ extends l ys = every (λ d. has sameLines ys (d ++ (l ∷ []))) (before l)
 pub extends-in : (l : Line) (ys : List (List Line)) → T (extends l ys) → (d : List Line) → d ∈ before l → (d ++ (l ∷ [])) ∈ ys
 extends-in l ys h d m = has-in ys _ (every-in (λ d. has sameLines ys (d ++ (l ∷ []))) (before l) h d m)
 
--- line k may follow line l, and is of the same kind
-abbrev pub MayFollow : Line → Line → Type 0
-MayFollow l k = T (extends l (before k)) × ((read swap : Bool) → ofKind l read swap ≡ ofKind k read swap)
+-- line k may follow line l and is of the same kind; only the first line changes the block held, from b to h
+abbrev pub MayFollow : Line → Line → (b h : ℕ) → Type 0
+MayFollow l k b h = T (extends l (before k)) × ((read swap : Bool) → ofKind l read swap ≡ ofKind k read swap) × (T (not (same l l10 || same l l15)) → h ≡ b)
 
 -- a call may end with the line
 abbrev pub MayEnd : Line → Type 0
@@ -164,13 +164,13 @@ module _ (w : ℕ) where
   unfoldable Suits : Line → Type 0
   Suits l = T (suits w l)
 
-  told : (b : Bool) (x y : Line) → (T b → Suits x) → Suits y → Suits (cond b x y)
-  told true x y p q = p tt
-  told false x y p q = q
+  tested : (b : Bool) (x y : Line) → (T b → Suits x) → Suits y → Suits (cond b x y)
+  tested true x y p q = p tt
+  tested false x y p q = q
 
   suited : (n : ℕ) → Suits (lineAt n w)
   unfolding Suits
-  suited n = let passed : Unit {0} = tt in search told depth 40 fits 4000
+  suited n = let passed : Unit {0} = tt in search tested depth 40 fits 4000
 
 -- in the deciding part the record says which line wanted the decision
 pub wanted-is : (r : Record) {l : Line} → lineOf r ≡ l → T (not (eqb (wantedBy l) 0)) → r .wanted ≡ wantedBy l
@@ -199,7 +199,7 @@ module _ (l : Line) (p : ℕ) (q : Record) where
 
 -- from line l and record r: on to a line that may follow, with the call's own words as they were; or the call ends where it may
 pub data Leads (l : Line) (r : Record) : Next → Type 0 where
-  goes : {n w h t v : ℕ} → MayFollow l (lineAt n w) → Leads l r (Go (at r n w h t v))
+  goes : {n w h t v : ℕ} → MayFollow l (lineAt n w) (r .held) h → Leads l r (Go (at r n w h t v))
   done : {a : Answer} → MayEnd l → Leads l r (answer r a)
 
 module _ {l : Line} {r : Record} where
@@ -208,30 +208,30 @@ module _ {l : Line} {r : Record} where
   either false p q = q
 
 pub leads : (l : Line) (p : ℕ) (r : Record) (v : ℕ) → lineOf r ≡ l → T (not (same l nowhere)) → Leads l r (nextAt l p r v)
-leads (l1 for13) p r v e h = goes {n = 2} {w = r .wanted} (rw (wanted-is r e tt) (tt, λ a b. refl))
-leads (l1 for25) p r v e h = goes {n = 2} {w = r .wanted} (rw (wanted-is r e tt) (tt, λ a b. refl))
-leads (l1 for28) p r v e h = goes {n = 2} {w = r .wanted} (rw (wanted-is r e tt) (tt, λ a b. refl))
-leads (l2 for13) p r v e h = goes {n = 3} {w = r .wanted} (rw (wanted-is r e tt) (tt, λ a b. refl))
-leads (l2 for25) p r v e h = goes {n = 3} {w = r .wanted} (rw (wanted-is r e tt) (tt, λ a b. refl))
-leads (l2 for28) p r v e h = goes {n = 3} {w = r .wanted} (rw (wanted-is r e tt) (tt, λ a b. refl))
+leads (l1 for13) p r v e h = goes {n = 2} {w = r .wanted} {h = r .held} (rw (wanted-is r e tt) (tt, (λ a b. refl), λ z. refl))
+leads (l1 for25) p r v e h = goes {n = 2} {w = r .wanted} {h = r .held} (rw (wanted-is r e tt) (tt, (λ a b. refl), λ z. refl))
+leads (l1 for28) p r v e h = goes {n = 2} {w = r .wanted} {h = r .held} (rw (wanted-is r e tt) (tt, (λ a b. refl), λ z. refl))
+leads (l2 for13) p r v e h = goes {n = 3} {w = r .wanted} {h = r .held} (rw (wanted-is r e tt) (tt, (λ a b. refl), λ z. refl))
+leads (l2 for25) p r v e h = goes {n = 3} {w = r .wanted} {h = r .held} (rw (wanted-is r e tt) (tt, (λ a b. refl), λ z. refl))
+leads (l2 for28) p r v e h = goes {n = 3} {w = r .wanted} {h = r .held} (rw (wanted-is r e tt) (tt, (λ a b. refl), λ z. refl))
 leads (l3 for13) p r v e h = done tt
-leads (l3 for25) p r v e h = either (eqb v (r .new)) (done tt) (goes (tt, λ a b. refl))
-leads (l3 for28) p r v e h = either (eqb v (r .expected)) (goes (tt, λ a b. refl)) (done tt)
-leads l10 p r v e h = goes (tt, λ a b. refl)
-leads l11 p r v e h = goes (tt, λ a b. refl)
-leads l12 p r v e h = either (eqb v 0) (done tt) (goes (tt, λ a b. refl))
-leads l15 p r v e h = goes (tt, λ a b. refl)
-leads l16 p r v e h = goes (tt, λ a b. refl)
-leads l17 p r v e h = either (eqb v 0) (goes (tt, λ a b. refl)) (goes (tt, λ a b. refl))
-leads l18 p r v e h = goes (tt, λ a b. refl)
-leads l19 p r v e h = either (eqb v p) (goes (tt, λ a b. refl)) (goes (tt, λ a b. refl))
-leads l20 p r v e h = goes (tt, λ a b. refl)
-leads l21 p r v e h = either (eqb v 0) (either (eqb (r .loaded) (r .expected)) (goes (tt, λ a b. refl)) (goes (tt, λ a b. refl))) (goes (tt, λ a b. refl))
+leads (l3 for25) p r v e h = either (eqb v (r .new)) (done tt) (goes (tt, (λ a b. refl), λ z. refl))
+leads (l3 for28) p r v e h = either (eqb v (r .expected)) (goes (tt, (λ a b. refl), λ z. refl)) (done tt)
+leads l10 p r v e h = goes (tt, (λ a b. refl), λ z. absurd z)
+leads l11 p r v e h = goes (tt, (λ a b. refl), λ z. refl)
+leads l12 p r v e h = either (eqb v 0) (done tt) (goes (tt, (λ a b. refl), λ z. refl))
+leads l15 p r v e h = goes (tt, (λ a b. refl), λ z. absurd z)
+leads l16 p r v e h = goes (tt, (λ a b. refl), λ z. refl)
+leads l17 p r v e h = either (eqb v 0) (goes (tt, (λ a b. refl), λ z. refl)) (goes (tt, (λ a b. refl), λ z. refl))
+leads l18 p r v e h = goes (tt, (λ a b. refl), λ z. refl)
+leads l19 p r v e h = either (eqb v p) (goes (tt, (λ a b. refl), λ z. refl)) (goes (tt, (λ a b. refl), λ z. refl))
+leads l20 p r v e h = goes (tt, (λ a b. refl), λ z. refl)
+leads l21 p r v e h = either (eqb v 0) (either (eqb (r .loaded) (r .expected)) (goes (tt, (λ a b. refl), λ z. refl)) (goes (tt, (λ a b. refl), λ z. refl))) (goes (tt, (λ a b. refl), λ z. refl))
 leads l22 p r v e h = done tt
-leads l23 p r v e h = goes (tt, λ a b. refl)
-leads l24 p r v e h = either (eqb v 0) (goes (tt, λ a b. refl)) (goes (tt, λ a b. refl))
+leads l23 p r v e h = goes (tt, (λ a b. refl), λ z. refl)
+leads l24 p r v e h = either (eqb v 0) (goes (tt, (λ a b. refl), λ z. refl)) (goes (tt, (λ a b. refl), λ z. refl))
 leads l26 p r v e h = done tt
-leads l27 p r v e h = goes (tt, λ a b. refl)
-leads l29 p r v e h = goes (tt, λ a b. refl)
+leads l27 p r v e h = goes (tt, (λ a b. refl), λ z. refl)
+leads l29 p r v e h = goes (tt, (λ a b. refl), λ z. refl)
 leads l30 p r v e h = either (eqb v 1) (done tt) (done tt)
 leads nowhere p r v e h = absurd h

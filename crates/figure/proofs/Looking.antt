@@ -8,9 +8,9 @@ use lib.Dec.{T}
 use Rattle.lines.specs.declared.Record.{Record}
 use Rattle.lines.specs.declared.Access.{Access}
 use Rattle.lines.specs.Lines.{Wanted, for13, for25, for28, Line, l1, l2, l3, l10, l11, l12, l15, l16, l17, l18, l19, l20, l21, l22, l23, l24, l26, l27, l29, nowhere, at, counted}
-use Rattle.history.proofs.Simulation.{Phase, settled, frozen, late, Knowledge}
+use Rattle.history.proofs.Simulation.{Phase, settled, frozen, late}
 use Rattle.figure.proofs.Classes.{holding, racing, won, loaded, stored}
-use Rattle.figure.proofs.Invariant.{none, View, Fresh, Owner, TaskOf, Rival, PhaseIs, line, held, Inv}
+use Rattle.figure.proofs.Invariant.{none, View, Knowledge, Fresh, Owner, TaskOf, Rival, PhaseIs, line, held, Inv}
 use Rattle.figure.proofs.Frame.{Mine, undecided, active-undecided, active-current}
 
 -- NOTHING FOLLOWS FROM A LINE THAT IS NOT THERE: `search` closes each fact whose line it is not
@@ -30,19 +30,22 @@ no-phase a b x = absurd x
 pub no-fresh : (b nv next v d y c L : ℕ) → ⊥ → Fresh b nv next v d y c L
 no-fresh b nv next v d y c L x = absurd x
 
-pub no-owner : (ℓ : Line) (q : Record) (told : Bool) (L P v : ℕ) → ⊥ → Owner ℓ q told L P v
-no-owner ℓ q told L P v x = absurd x
+pub no-owner : (ℓ : Line) (q : Record) (placed : Bool) (L P v : ℕ) → ⊥ → Owner ℓ q placed L P v
+no-owner ℓ q placed L P v x = absurd x
 
 pub ruleset nothing = (no-eq, no-T, no-lt, no-phase, no-fresh, no-owner)
 
 module _ (κ : Knowledge) (t : ℕ) where
-  pub no-saw : (v : ℕ) → ⊥ → κ .saw t v
-  no-saw v x = absurd x
+  pub no-loaded : (v : ℕ) → ⊥ → κ .loaded t v
+  no-loaded v x = absurd x
+
+  pub no-decided : (v : ℕ) → ⊥ → κ .decided t v
+  no-decided v x = absurd x
 
   pub no-early : ⊥ → κ .early t
   no-early x = absurd x
 
-  pub no-other : (d : ℕ) → ⊥ → (n : ℕ) × κ .saw t n × (n ≢ d)
+  pub no-other : (d : ℕ) → ⊥ → (n : ℕ) × κ .replaced t n × (n ≢ d)
   no-other d x = absurd x
 
 module _ (s : View) (κ : Knowledge) (t : ℕ) where
@@ -53,12 +56,12 @@ module _ (s : View) (κ : Knowledge) (t : ℕ) where
   pub same-loses : (ℓ ℓ′ : Line) (q : Record) → (T (won ℓ′) → T (won ℓ)) → (T (racing ℓ′) → T (racing ℓ)) → Mine s κ t ℓ q → (w : ℕ) → w ≢ t → held s w ≡ q .held → Rival t (line s w) ℓ′ (s .cell .x (q .held))
   same-loses ℓ ℓ′ q f g m w ne h = record { one-won = λ a b. m .loses w ne h .one-won a (f b); no-race = λ a b. m .loses w ne h .no-race a (g b) }
 
-  pub ruleset off = (nothing, no-saw, no-early, no-other, same-wins, same-loses)
+  pub ruleset off = (nothing, no-loaded, no-decided, no-early, no-other, same-wins, same-loses)
 
   -- a task that is idle asks for nothing, unless its late store is awaited
   pub idle-task : (q : Record) → s .phase ≢ late t → TaskOf s κ t nowhere q
   idle-task q n = record
-      { self = search off; split = search off; value = search off; decided = search off; seen = search off; planned = search off; fresh = search off; early = search off; owner = λ e. absurd (n e) }
+      { self = search off; split = search off; value = search off; decided = search off; store = search off; seen = search off; planned = search off; fresh = search off; early = search off; owner = λ e. absurd (n e) }
 
   pub idle-mine : (q : Record) → s .phase ≢ late t → Mine s κ t nowhere q
   idle-mine q n = record { task = idle-task q n; wins = λ w ne h. search off; loses = λ w ne h. search off; apart = λ w ne. search off }
@@ -121,10 +124,10 @@ module _ (s : View) (κ : Knowledge) (i : Inv s κ) where
 
     -- who stored late and does not leave stays the one awaited
     still-owner : (ℓ ℓ′ : Line) (v : ℕ) → (T (stored ℓ) → T (stored ℓ′)) → Mine s κ t ℓ q → s .phase ≡ late t →
-        Owner ℓ′ (at (counted q a) n w (q .held) (q .taken) v) (s .told t) L (s .value) (s .cell .v L)
+        Owner ℓ′ (at (counted q a) n w (q .held) (q .taken) v) (s .placed t) L (s .value) (s .cell .v L)
     still-owner ℓ ℓ′ v f m e =
         let o = m .task .owner e in
-        record { has-stored = f (o .has-stored); here = o .here; not-told = o .not-told; new-is = o .new-is; expected-is = o .expected-is }
+        record { has-stored = f (o .has-stored); here = o .here; not-placed = o .not-placed; new-is = o .new-is; expected-is = o .expected-is }
 
     -- at line 3 the block is decided, so nobody is awaited on it
     pub decided-not-late : (x : Wanted) → Mine s κ t (l3 x) q → s .phase ≢ late t
@@ -135,18 +138,15 @@ module _ (s : View) (κ : Knowledge) (i : Inv s κ) where
 
     -- THE LINES BEFORE THE STORE: the task's own late store is not awaited
     module _ (o : s .phase ≢ late t) where
-      module _ (now : s .phase ≡ settled → κ .saw t (s .value)) where
-        seen-decision : s .cell .d L ≢ none → κ .saw t (s .cell .d L)
+      module _ (now : s .phase ≡ settled → κ .decided t (s .value)) where
+        seen-decision : s .cell .d L ≢ none → κ .decided t (s .cell .d L)
         seen-decision d = rw (i .current .decision d) (now (decided-settled d))
-
-        seen-active : (ℓ : Line) → line s t ≡ ℓ → T (holding ℓ) → s .cell .c (q .held) ≡ 0 → κ .saw t (s .cell .v (q .held))
-        seen-active ℓ e h c = rw (active-value t (rw e h) c) (now (active-settled t (rw e h) c))
 
         -- at the first line the block held is the current one
         same : L ≢ L → ⊥
         same e = e refl
 
-        not-other : L ≢ L → (n : ℕ) × κ .saw t n × (n ≢ s .cell .d L)
+        not-other : L ≢ L → (n : ℕ) × κ .replaced t n × (n ≢ s .cell .d L)
         not-other e = absurd (e refl)
 
         pub from10 : Mine s κ t l10 q → Mine s κ t l11 held-now
@@ -154,6 +154,10 @@ module _ (s : View) (κ : Knowledge) (i : Inv s κ) where
 
         pub from15 : Mine s κ t l15 q → Mine s κ t l16 held-now
         from15 m = let c = i .current in search (off, same, not-other, seen-decision)
+
+      module _ (now : s .phase ≡ settled → κ .loaded t (s .value)) where
+        seen-active : (ℓ : Line) → line s t ≡ ℓ → T (holding ℓ) → s .cell .c (q .held) ≡ 0 → κ .loaded t (s .cell .v (q .held))
+        seen-active ℓ e h c = rw (active-value t (rw e h) c) (now (active-settled t (rw e h) c))
 
         pub from11 : line s t ≡ l11 → Mine s κ t l11 q → Mine s κ t l12 loaded-now
         from11 e m =
@@ -194,7 +198,7 @@ module _ (s : View) (κ : Knowledge) (i : Inv s κ) where
 
       pub from21-22 : Mine s κ t l21 q → s .cell .c (q .held) ≡ 0 → q .loaded ≢ q .expected → Mine s κ t l22 on
       from21-22 m c e =
-          let r : κ .saw t (q .loaded) = m .task .seen .active-value tt c in
+          let r : κ .loaded t (q .loaded) = m .task .seen .active-value tt c in
           search off
 
       pub from21-23 : Mine s κ t l21 q → s .cell .c (q .held) ≡ 0 → q .loaded ≡ q .expected → κ .early t → Mine s κ t l23 on
@@ -216,7 +220,7 @@ module _ (s : View) (κ : Knowledge) (i : Inv s κ) where
     pub from3-25 : Mine s κ t (l3 for25) q → s .cell .d (q .held) ≢ q .new → Mine s κ t (l1 for28) on
     from3-25 m d =
         let o = decided-not-late for25 m in
-        let nt : T (s .told t) → ⊥ = λ x. d (m .task .decided .told-decided tt x (m .task .decided .decided tt)) in
+        let nt : T (s .placed t) → ⊥ = λ x. d (m .task .decided .placed-decided tt x (m .task .decided .decided tt)) in
         search off
 
     pub from3-28 : Mine s κ t (l3 for28) q → s .cell .d (q .held) ≡ q .expected → Mine s κ t l29 on
@@ -228,5 +232,6 @@ module _ (s : View) (κ : Knowledge) (i : Inv s κ) where
     pub from24-26 : Mine s κ t l24 q → s .cell .c (q .held) ≡ 0 → Mine s κ t l26 on
     from24-26 m c =
         let o = still-owner l24 l26 (q .loaded) (λ z. z) m in
-        let told : T (s .told t) = T-of (s .told t) (λ n. m .task .decided .late-inactive tt n c) in
+        let placed : T (s .placed t) = T-of (s .placed t) (λ n. m .task .decided .late-inactive tt n c) in
+        let lv : T (κ .storedActive t) = T-of (κ .storedActive t) (λ n. m .task .store .late-store tt n c) in
         search off

@@ -12,10 +12,9 @@ use Rattle.lines.specs.Record.{noValue}
 use Rattle.lines.specs.Lines.{for13, for25, for28, Line, l1, l2, l3, l10, l11, l12, l15, l16, l17, l18, l19, l20, l21, l22, l23, l24, l26, l27, l29, l30, nowhere, lineOf, accessAt, counted, nextAt}
 use Rattle.history.specs.Basics.{upd}
 use Rattle.history.proofs.Basics.{either, upd-same, upd-off, upd-cases}
-use Rattle.history.proofs.Simulation.{Knowledge}
 use Rattle.figure.specs.Figure.{Cell, store, install, Memory, memory, perform, recordAfter}
 use Rattle.figure.proofs.Classes.{busy, contended, marking}
-use Rattle.figure.proofs.Invariant.{View, Inv, line, held}
+use Rattle.figure.proofs.Invariant.{View, Knowledge, Inv, line, held}
 use Rattle.figure.proofs.Frame.{was}
 use Rattle.figure.proofs.Steps.{by-test}
 

@@ -31,7 +31,8 @@ use Rattle.figure.proofs.Paths.{start-sound, last-line}
 use Rattle.figure.proofs.Classes.{holding, swapping}
 use Rattle.figure.proofs.Invariant.{none, TaskOf}
 use Rattle.figure.proofs.Steps.{by-test}
-use Rattle.figure.proofs.Views.{on-in, view}
+use Rattle.figure.proofs.Views.{view}
+use Rattle.figure.proofs.Worlds.{known, facts}
 use Rattle.figure.proofs.Reachable.{trivial, Reachable, next-reachable, opening-reachable}
 
 -- CALLS THAT LINE 25 DID NOT ANSWER
@@ -124,9 +125,8 @@ module _ (v : ℕ) (w : World) (i : Reachable v w) (r : Trace) (s : Sound w r) (
   now t = lineOf (w .records t)
 
   -- what the figure's invariant says of a task
-  task : (t : ℕ) → TaskOf (view w (i .ghost) (w .records t .cell)) trivial t (now t) (w .records t)
-  task t = let k = w .records t .cell in
-      subst (λ (q : Record). TaskOf (view w (i .ghost) k) trivial t (lineOf q) q) (on-in (w .records) k t refl) (i .holds .good .cells k .tasks t)
+  task : (t : ℕ) → TaskOf (view w (i .ghost) (w .records t .cell)) (known (i .notes) trivial) t (now t) (w .records t)
+  task = facts w (i .ghost) (known (i .notes) trivial) (i .holds .good)
 
   its-line : (t : ℕ) → through25 (r .did t) ≡ true → now t ∈ later
   its-line t h = go (s .pending t)
@@ -160,10 +160,10 @@ module _ (v : ℕ) (w : World) (i : Reachable v w) (r : Trace) (s : Sound w r) (
         upd-cases (λ (c : Cell). c .d (p .held) ≡ p .expected) (w .cell) (q .cell) (perform m (accessOf t q) .cell) (p .cell)
         (λ e. subst (λ k. perform (w .cell k) (accessOf t q) .cell .d (p .held) ≡ p .expected) e (kept ∙ o .late u h)) (λ e. o .late u h)
 
-    -- line 25 found another value than the new one: the swap is not told, so the decision is the expected value
+    -- line 25 found another value than the new one: the swap is not placed, so the decision is the expected value
     came-late : now t ≡ l3 for25 → m .d (q .held) ≢ q .new → m .d (q .held) ≡ q .expected
-    came-late e n = let k = (subst (λ ℓ. TaskOf (view w (i .ghost) (q .cell)) trivial t ℓ q) e (task t)) .decided in
-        k .late-decided tt (not-T (i .ghost .told t) (λ z. n (k .told-decided tt z (k .decided tt)))) (k .decided tt)
+    came-late e n = let k = (subst (λ ℓ. TaskOf (view w (i .ghost) (q .cell)) (known (i .notes) trivial) t ℓ q) e (task t)) .decided in
+        k .late-decided tt (not-T (i .ghost .placed t) (λ z. n (k .placed-decided tt z (k .decided tt)))) (k .decided tt)
 
     abbrev Goes : (ℕ → Cell) → Next → Type 0
     Goes c (Go p) = Expected c p

@@ -18,13 +18,13 @@ use Rattle.history.specs.Basics.{upd}
 use Rattle.history.specs.History.{Op, read, swap, cellOf}
 use Rattle.history.specs.Demand3.{Unequal}
 use Rattle.history.proofs.Basics.{either, upd-at, upd-same, upd-off}
-use Rattle.history.proofs.Simulation.{Ghost, Knowledge, Tally, QuietStarts, QuietSteps, Free}
+use Rattle.history.proofs.Simulation.{Ghost, Tally, QuietStarts, QuietSteps, Free}
 use Rattle.figure.specs.Figure.{Cell, World, withRecord, recordAfter, perform, tried, active}
 use Rattle.figure.proofs.LineLaws.{Leads, goes, done}
 use Rattle.figure.proofs.Records.{Pending, OnPath, AllOnPath, Accepted, firstOf, led}
 use Rattle.figure.proofs.Tallies.{opOf, tally, tallyOf, doing}
 use Rattle.figure.proofs.Classes.{busy, swapping, marking, lies-in, holding, uncontended}
-use Rattle.figure.proofs.Invariant.{none, line}
+use Rattle.figure.proofs.Invariant.{none, Knowledge, line}
 use Rattle.figure.proofs.Views.{on, on-in, on-it, on-changed, on-elsewhere, view}
 use Rattle.figure.proofs.Operations.{cell-of, busy-line, busy-doing, is-unequal}
 use Rattle.figure.proofs.Worlds.{Good, cellAfter, nextAfter, stepAfter, pending-at}
@@ -40,7 +40,7 @@ some-is : (o : Option Tally) (a b : Tally) → o ≡ some a → o ≡ some b →
 some-is o a b p q = cc
 
 -- who is doing something is at a line
-is-busy : (w : World) → AllOnPath w → (u : ℕ) (n : Tally) → doing w u ≡ some n → T (busy (lineOf (w .records u)))
+pub is-busy : (w : World) → AllOnPath w → (u : ℕ) (n : Tally) → doing w u ≡ some n → T (busy (lineOf (w .records u)))
 is-busy w p u n d = go (p u .1)
   where
     go : OnPath (w .tasks) (w .cells) u (p u .0) (w .records u) → T (busy (lineOf (w .records u)))
@@ -152,10 +152,10 @@ module _ (w : World) (g : Ghost) (κ : Knowledge) (G : Good w g κ) (marks : (k 
   idle-here j = idle-to w g κ G t op a j
 
   on-its-cell : on (v′ .records) (cellOf op) ≡ upd (on (w .records) (cellOf op)) t (firstOf op)
-  on-its-cell = on-changed (w .records) t (firstOf op) (cellOf op) (inl (its-cell w g κ G t op a))
+  on-its-cell = on-changed (w .records) t (firstOf op) (cellOf op) (inl (its-cell op))
 
   on-another : (j : ℕ) → j ≢ cellOf op → on (v′ .records) j ≡ on (w .records) j
-  on-another j n = on-elsewhere (w .records) t (firstOf op) j (inr (was-idle w g κ G t op a)) (inl (λ z. n (sym z ∙ its-cell w g κ G t op a)))
+  on-another j n = on-elsewhere (w .records) t (firstOf op) j (inr (was-idle w g κ G t op a)) (inl (λ z. n (sym z ∙ its-cell op)))
 
   pub begun-marks : (j : ℕ) → Marks (w .cell j) (on (v′ .records) j)
   begun-marks j = go (either j (cellOf op))
@@ -189,7 +189,7 @@ module _ (w : World) (g : Ghost) (κ : Knowledge) (G : Good w g κ) (marks : (k 
   begin-quietly = record { new = new; others = others }
     where
       new : active w (cellOf op) → Free doing w (cellOf op) → QuietIn v′ t
-      new c free = rw (upd-same (w .records) t (firstOf op), its-cell w g κ G t op a, on-its-cell) (first-quiet op)
+      new c free = rw (upd-same (w .records) t (firstOf op), its-cell op, on-its-cell) (first-quiet op)
         where
           f : ℕ → Record
           f = on (w .records) (cellOf op)

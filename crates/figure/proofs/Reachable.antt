@@ -1,5 +1,4 @@
 -- Every world that the figure reaches from an opening has the invariant, if nobody asks what the tasks have seen.
-use mathlib.Core.Path.{refl, sym, subst}
 use mathlib.Core.Logic.{_≢_}
 use mathlib.Core.List.{List, [], _∷_}
 use Prim.Native.Nat.{ℕ}
@@ -9,46 +8,54 @@ use Rattle.history.specs.History.{Action, begin, step, Event, refused, begun, g
 use Rattle.history.proofs.Simulation.{Ghost, Knowledge, Grown, Forward, Follows}
 use Rattle.history.proofs.Simulation as Sim
 use Rattle.figure.specs.Figure.{World, opening, figure}
+use Rattle.figure.specs.Moments.{Notes, noNotes, names, sees}
 use Rattle.figure.proofs.Tallies.{doing, follows}
-use Rattle.figure.proofs.Invariant.{none}
-use Rattle.figure.proofs.Begins.{opening-good}
-use Rattle.figure.proofs.Simulation.{Invariant, forward}
+use Rattle.figure.proofs.Worlds.{Noted, doingIn, clock}
+use Rattle.figure.proofs.Simulation.{Invariant, forward, opened}
 
--- every task may have seen every value, and is early
+-- every task may have seen every value at every moment, and is early
 abbrev pub trivial : Knowledge
-trivial = record { saw = λ u n. Unit {0}; early = λ u. Unit {0} }
+trivial = record { saw = λ u m n. Unit {0}; early = λ u. Unit {0} }
 
+-- with some notes
 pub record Reachable (v : ℕ) (w : World) : Type 0 where
+  pub tasks : ℕ
+  pub notes : Notes
   pub ghost : Ghost
-  pub holds : Invariant v w ghost trivial
+  pub holds : Invariant tasks v (w, notes) ghost trivial
 
 module _ (v : ℕ) (w : World) (i : Reachable v w) where
   abbrev g : Ghost
   g = i .ghost
 
-  grown : (w′ : World) (g′ : Ghost) → Grown doing w w′ g′ trivial trivial
-  grown w′ g′ = record { saw = λ u n n′ a b z s. tt; early = λ u n n′ a b s. tt; sees = λ u n n′ a b s. tt; fresh-early = λ u n a s. tt }
+  abbrev x : Noted
+  x = (w, i .notes)
 
-  moves : (w′ : World) (t : ℕ) → Sim.Moves doing (Invariant v) w w′ g trivial t → Reachable v w′
-  moves w′ t m = record { ghost = _; holds = m .keeps trivial (grown w′ _) }
+  abbrev Inv : Noted → Ghost → Knowledge → Type 0
+  Inv = Invariant (i .tasks) v
 
-  after : (a : Action) (e : Event) (w′ : World) → Forward doing (Invariant v) w g trivial a w′ e → Follows doing (w .cells) w a w′ e → Reachable v w′
-  after (begin t op) (refused n) w′ f s = subst (Reachable v) (sym s) i
-  after (begin t op) begun w′ f s = record { ghost = _; holds = f trivial (grown w′ _) }
-  after (begin t op) (going x) w′ f s = absurd s
-  after (begin t op) (answered x a n h) w′ f s = absurd s
-  after (step t) (refused n) w′ f s = subst (Reachable v) (sym (s .0)) i
-  after (step t) begun w′ f s = absurd s
-  after (step t) (going x) w′ f s = moves w′ t f
-  after (step t) (answered x a n h) w′ f s = moves w′ t (f .moves)
+  grown : (x′ : Noted) (g′ : Ghost) → Grown doingIn clock (names figure sees) x x′ g′ trivial trivial
+  grown x′ g′ = record { saw = λ u n n′ a b m z s. tt; early = λ u n n′ a b s. tt; sees = λ u n n′ a b s. tt; fresh-early = λ u n a s. tt }
+
+  keeps : (w′ : World) (notes : Notes) (g′ : Ghost) → Sim.Keeps doingIn clock (names figure sees) Inv x (w′, notes) g′ trivial → Reachable v w′
+  keeps w′ notes g′ k = record { tasks = i .tasks; notes = notes; ghost = g′; holds = k trivial (grown (w′, notes) g′) }
+
+  after : (a : Action) (e : Event) (w′ : World) (notes : Notes) → Forward doingIn clock (names figure sees) Inv x g trivial a (w′, notes) e → Follows doing (w .cells) w a w′ e → Reachable v w′
+  after (begin t op) (refused n) w′ notes f s = keeps w′ notes _ f
+  after (begin t op) begun w′ notes f s = keeps w′ notes _ f
+  after (begin t op) (going y) w′ notes f s = absurd s
+  after (begin t op) (answered y a n h) w′ notes f s = absurd s
+  after (step t) (refused n) w′ notes f s = keeps w′ notes _ f
+  after (step t) begun w′ notes f s = absurd s
+  after (step t) (going y) w′ notes f s = keeps w′ notes _ (f .keeps)
+  after (step t) (answered y a n h) w′ notes f s = keeps w′ notes _ (f .moves .keeps)
 
   pub next-reachable : (a : Action) → Reachable v (figure w a .0)
-  next-reachable a = after a (figure w a .1) (figure w a .0) (forward v w g trivial (i .holds) a) (follows w (i .holds .good .on-path) a)
+  next-reachable a = after a (figure w a .1) (figure w a .0) _ (forward (i .tasks) v w (i .notes) g trivial (i .holds) a) (follows w (i .holds .good .on-path) a)
 
 module _ (n v : ℕ) (vs : List ℕ) (some-values : (k : ℕ) → getD vs k 0 ≢ noValue) where
   pub opening-reachable : Reachable v (opening n v vs)
-  unfolding none
-  opening-reachable = record { ghost = _; holds = record { size = refl; good = opening-good n v vs some-values trivial; marks = λ k c y. absurd (y refl) } }
+  opening-reachable = record { tasks = n; notes = noNotes; ghost = _; holds = opened n v vs some-values trivial }
 
   pub reachable : (l : List Action) → Reachable v (run figure (opening n v vs) l)
   reachable = go (opening n v vs) opening-reachable

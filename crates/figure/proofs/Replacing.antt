@@ -10,10 +10,10 @@ use Rattle.lines.specs.declared.Access.{Access}
 use Rattle.lines.specs.Lines.{Line, l29, l30, nowhere, lineOf, at, counted}
 use Rattle.history.specs.Basics.{upd}
 use Rattle.history.proofs.Basics.{either, upd-same, upd-off}
-use Rattle.history.proofs.Simulation.{Phase, settled, late, Knowledge}
+use Rattle.history.proofs.Simulation.{Phase, settled, late}
 use Rattle.figure.specs.Figure.{Cell, install, allocate}
-use Rattle.figure.proofs.Classes.{is, busy, holding, racing, won, loaded, stored, contended, replacing, checking, lies-in}
-use Rattle.figure.proofs.Invariant.{none, View, Split, Value, Decided, Seen, Planned, Fresh, Owner, TaskOf, line, held, Inv}
+use Rattle.figure.proofs.Classes.{is, holding, racing, won, loaded, stored, contended, replacing, checking, lies-in}
+use Rattle.figure.proofs.Invariant.{none, View, Knowledge, Store, Split, Value, Decided, Seen, Planned, Fresh, Owner, TaskOf, line, held, Inv}
 use Rattle.figure.proofs.Frame.{moved, Rest, Mine, finish, was, undecided}
 use Rattle.figure.proofs.Looking.{off, idle-mine, not-late, settled≢late, decided-settled}
 
@@ -49,13 +49,13 @@ module _ (s : View) (κ : Knowledge) (t : ℕ) (i : Inv s κ) (e : line s t ≡ 
   made : Fresh (q .taken) (q .new) (s .cell .next) (s .cell .v (q .taken)) (s .cell .d (q .taken)) (s .cell .y (q .taken)) (s .cell .c (q .taken)) L
   made = here .task .fresh tt
 
-  module _ (now : (u : ℕ) → T (busy (line s u)) → κ .saw u (q .new)) where
+  module _ (now : (u : ℕ) → T (holding (line s u)) → held s u ≡ L → κ .replaced u (q .new)) where
     abbrev pub renewed : View
-    renewed = record { cell = install (s .cell) (q .taken); task = s .task; value = q .new; told = upd (s .told) t true; phase = s .phase }
+    renewed = record { cell = install (s .cell) (q .taken); task = s .task; value = q .new; placed = upd (s .placed) t true; phase = s .phase }
 
     -- every holder has now seen a value other than its block's decision
-    other : (u : ℕ) → T (holding (line s u)) → (held s u ≡ L) ⊎ (held s u ≢ L) → (n : ℕ) × κ .saw u n × (n ≢ s .cell .d (held s u))
-    other u b (inl z) = (q .new, now u (lies-in holding busy tt (line s u) b), λ g. here .task .self .differ tt (sym (g ∙ ap (s .cell .d) z ∙ d-is)))
+    other : (u : ℕ) → T (holding (line s u)) → (held s u ≡ L) ⊎ (held s u ≢ L) → (n : ℕ) × κ .replaced u n × (n ≢ s .cell .d (held s u))
+    other u b (inl z) = (q .new, now u b z, λ g. here .task .self .differ tt (sym (g ∙ ap (s .cell .d) z ∙ d-is)))
     other u b (inr z) = i .tasks u .seen .replaced b z
 
     rest-renewed : Rest renewed κ t
@@ -70,17 +70,18 @@ module _ (s : View) (κ : Knowledge) (t : ℕ) (i : Inv s κ) (e : line s t ≡ 
         decision = λ z. absurd (z (made .d-is));
         phase-is = rw replaced-settled (λ z. (made .c-is, made .v-is));
       };
-      tasks = λ u ne. let k = i .tasks u in rw (upd-off (s .told) t true u ne) record {
+      tasks = λ u ne. let k = i .tasks u in rw (upd-off (s .placed) t true u ne) record {
         self = k .self;
         split = k .split;
         value = k .value;
         early = k .early;
+        store = k .store;
         decided = let r = k .decided in record {
           replaced-decided = λ b z. all-decided u b;
           decided-inactive = r .decided-inactive;
           before-store = r .before-store;
-          told-value = λ b g z. absurd (all-decided u (lies-in stored holding tt (line s u) b) z);
-          told-decided = r .told-decided;
+          placed-value = λ b g z. absurd (all-decided u (lies-in stored holding tt (line s u) b) z);
+          placed-decided = r .placed-decided;
           late-inactive = r .late-inactive;
           late-phase = r .late-phase;
           late-decided = r .late-decided;
@@ -101,8 +102,8 @@ module _ (s : View) (κ : Knowledge) (t : ℕ) (i : Inv s κ) (e : line s t ≡ 
 -- LINE 29
 
 -- of a task that holds nothing, nothing is said of any block's words
-module _ (u : ℕ) (ℓ : Line) (q : Record) (κ : Knowledge) (nv next : ℕ) (told : Bool) (L P : ℕ) (phase : Phase) (n : T (holding ℓ) → ⊥) where
-  holds-nothing : (x y c v d vL : ℕ) → Split u ℓ x y × Value ℓ nv (q .held) (q .loaded) next v × Decided u ℓ q told d c L P phase × Seen ℓ (q .held) (q .loaded) (κ .saw u) d c L × Planned ℓ (q .loaded) d P vL
+module _ (u : ℕ) (ℓ : Line) (q : Record) (κ : Knowledge) (nv next : ℕ) (placed : Bool) (L P : ℕ) (phase : Phase) (n : T (holding ℓ) → ⊥) where
+  holds-nothing : (x y c v d vL : ℕ) → Split u ℓ x y × Value ℓ nv (q .held) (q .loaded) next v × Decided u ℓ q placed d c L P phase × Seen ℓ (q .held) (q .loaded) (κ .loaded u) (κ .decided u) (κ .replaced u) d c L × Planned ℓ (q .loaded) d P vL × Store ℓ (κ .storedActive u) placed d c
   holds-nothing x y c v d vL = (
     record { about-to-win = λ a. absurd (n (lies-in (is 19) holding tt ℓ a)); kept = λ a. absurd (n (lies-in won holding tt ℓ a)) },
     record { there = λ a. absurd (n a); some = λ a. absurd (n a); still-loaded = λ a. absurd (n (lies-in loaded holding tt ℓ a)); still-stored = λ a. absurd (n (lies-in stored holding tt ℓ a)) },
@@ -110,8 +111,8 @@ module _ (u : ℕ) (ℓ : Line) (q : Record) (κ : Knowledge) (nv next : ℕ) (t
       replaced-decided = λ a. absurd (n a);
       decided-inactive = λ a. absurd (n a);
       before-store = λ a. absurd (n (lies-in (is 23) holding tt ℓ a));
-      told-value = λ a. absurd (n (lies-in stored holding tt ℓ a));
-      told-decided = λ a. absurd (n (lies-in stored holding tt ℓ a));
+      placed-value = λ a. absurd (n (lies-in stored holding tt ℓ a));
+      placed-decided = λ a. absurd (n (lies-in stored holding tt ℓ a));
       late-inactive = λ a. absurd (n (lies-in stored holding tt ℓ a));
       late-phase = λ a. absurd (n (lies-in stored holding tt ℓ a));
       late-decided = λ a. absurd (n (lies-in stored holding tt ℓ a));
@@ -121,6 +122,7 @@ module _ (u : ℕ) (ℓ : Line) (q : Record) (κ : Knowledge) (nv next : ℕ) (t
     },
     record { active-value = λ a. absurd (n (lies-in checking holding tt ℓ a)); refusing = λ a. absurd (n (lies-in (is 22) holding tt ℓ a)); decision = λ a. absurd (n a); replaced = λ a. absurd (n a) },
     record { plan-some = λ a. absurd (n (lies-in (is 2) holding tt ℓ a)); plan = λ a. absurd (n (lies-in (is 2) holding tt ℓ a)) },
+    record { active-placed = λ a. absurd (n (lies-in stored holding tt ℓ a)); late-placed = λ a. absurd (n (lies-in stored holding tt ℓ a)); late-store = λ a. absurd (n (lies-in stored holding tt ℓ a)); yes-active = λ a. absurd (n (lies-in (is 26) holding tt ℓ a)) },
   )
 
 module _ (s : View) (κ : Knowledge) (t : ℕ) (i : Inv s κ) (e : line s t ≡ l29) (a : Access) (n w : ℕ) where
@@ -137,7 +139,7 @@ module _ (s : View) (κ : Knowledge) (t : ℕ) (i : Inv s κ) (e : line s t ≡ 
   next = at (counted p a) n w (p .held) (m .next) (p .loaded)
 
   abbrev pub grown : View
-  grown = record { cell = m′; task = s .task; value = s .value; told = s .told; phase = s .phase }
+  grown = record { cell = m′; task = s .task; value = s .value; placed = s .placed; phase = s .phase }
 
   -- an old block keeps its words
   module _ (b : ℕ) (h : b < m .next) where
@@ -160,20 +162,21 @@ module _ (s : View) (κ : Knowledge) (t : ℕ) (i : Inv s κ) (e : line s t ≡ 
   low = i .current .low
 
   abbrev Words : ℕ → Line → Record → (x y c v d vL : ℕ) → Type 0
-  Words u ℓ q x y c v d vL = Split u ℓ x y × Value ℓ (q .new) (q .held) (q .loaded) (m′ .next) v × Decided u ℓ q (s .told u) d c (m .current) (s .value) (s .phase) × Seen ℓ (q .held) (q .loaded) (κ .saw u) d c (m .current) × Planned ℓ (q .loaded) d (s .value) vL
+  Words u ℓ q x y c v d vL = Split u ℓ x y × Value ℓ (q .new) (q .held) (q .loaded) (m′ .next) v × Decided u ℓ q (s .placed u) d c (m .current) (s .value) (s .phase) ×
+      Seen ℓ (q .held) (q .loaded) (κ .loaded u) (κ .decided u) (κ .replaced u) d c (m .current) × Planned ℓ (q .loaded) d (s .value) vL × Store ℓ (κ .storedActive u) (s .placed u) d c
 
   words : (u : ℕ) (ℓ : Line) (q : Record) → TaskOf s κ u ℓ q → Words u ℓ q (m′ .x (q .held)) (m′ .y (q .held)) (m′ .c (q .held)) (m′ .v (q .held)) (m′ .d (q .held)) (m′ .v (m .current))
   words u ℓ q k = go (either (q .held) (m .next))
     where
       go : (q .held ≡ m .next) ⊎ (q .held ≢ m .next) → Words u ℓ q (m′ .x (q .held)) (m′ .y (q .held)) (m′ .c (q .held)) (m′ .v (q .held)) (m′ .d (q .held)) (m′ .v (m .current))
-      go (inl z) = holds-nothing u ℓ q κ (q .new) (m′ .next) (s .told u) (m .current) (s .value) (s .phase) (λ b. let g : q .held < m .next = k .value .there b in omega arith) _ _ _ _ _ _
+      go (inl z) = holds-nothing u ℓ q κ (q .new) (m′ .next) (s .placed u) (m .current) (s .value) (s .phase) (λ b. let g : q .held < m .next = k .value .there b in omega arith) _ _ _ _ _ _
       go (inr z) = rw (upd-off (m .x) (m .next) 255 (q .held) z, upd-off (m .y) (m .next) 0 (q .held) z, upd-off (m .c) (m .next) 0 (q .held) z, upd-off (m .v) (m .next) (p .new) (q .held) z, upd-off (m .d) (m .next) _ (q .held) z, oldV (m .current) low)
-          (let v = k .value in (k .split, record { there = λ b. let g : q .held < m .next = v .there b in omega arith; some = v .some; still-loaded = v .still-loaded; still-stored = v .still-stored }, k .decided, k .seen, k .planned))
+          (let v = k .value in (k .split, record { there = λ b. let g : q .held < m .next = v .there b in omega arith; some = v .some; still-loaded = v .still-loaded; still-stored = v .still-stored }, k .decided, k .seen, k .planned, k .store))
 
   older : (b nv : ℕ) → Fresh b nv (m .next) (m .v b) (m .d b) (m .y b) (m .c b) (m .current) → Fresh b nv (m′ .next) (m′ .v b) (m′ .d b) (m′ .y b) (m′ .c b) (m .current)
   older b nv f = let g : b < m .next = f .below in rw (oldV b g, oldD b g, oldY b g, oldC b g) record { below = omega arith; other = f .other; v-is = f .v-is; d-is = f .d-is; y-is = f .y-is; c-is = f .c-is }
 
-  kept-owner : (u : ℕ) (ℓ : Line) (q : Record) → TaskOf s κ u ℓ q → s .phase ≡ late u → Owner ℓ q (s .told u) (m .current) (s .value) (m′ .v (m .current))
+  kept-owner : (u : ℕ) (ℓ : Line) (q : Record) → TaskOf s κ u ℓ q → s .phase ≡ late u → Owner ℓ q (s .placed u) (m .current) (s .value) (m′ .v (m .current))
   kept-owner u ℓ q k z = rw (oldV (m .current) low) (k .owner z)
 
   rest-grown : Rest grown κ t
@@ -182,7 +185,7 @@ module _ (s : View) (κ : Knowledge) (t : ℕ) (i : Inv s κ) (e : line s t ≡ 
     current = let k = i .current in rw (oldC (m .current) low, oldV (m .current) low, oldD (m .current) low) record
         { low = omega arith; P-some = k .P-some; v-some = k .v-some; decided-inactive = k .decided-inactive; decision = k .decision; phase-is = k .phase-is };
     tasks = λ u ne. let k = i .tasks u in let g = words u (line s u) (s .task u) k in record
-        { self = k .self; split = g .0; value = g .1; decided = g .2; seen = g .3; planned = g .4; early = k .early; fresh = λ b. older (s .task u .taken) (s .task u .new) (k .fresh b); owner = kept-owner u (line s u) (s .task u) k };
+        { self = k .self; split = g .0; value = g .1; decided = g .2; seen = g .3; planned = g .4; store = g .5; early = k .early; fresh = λ b. older (s .task u .taken) (s .task u .new) (k .fresh b); owner = kept-owner u (line s u) (s .task u) k };
     rivals = λ u w ne ne′ z g. let k = i .rivals u w z g in record
         { one-won = k .one-won; no-race = λ b c. rw (oldX (held s w) (i .tasks w .value .there (lies-in racing holding tt (line s w) c))) (k .no-race b c) };
   }
@@ -197,7 +200,7 @@ module _ (s : View) (κ : Knowledge) (t : ℕ) (i : Inv s κ) (e : line s t ≡ 
       let f : Fresh (m .next) (p .new) (m′ .next) (m′ .v (m .next)) (m′ .d (m .next)) (m′ .y (m .next)) (m′ .c (m .next)) (m .current)
       = record { below = omega arith; other = λ z. omega (arith, low); v-is = upd-same (m .v) (m .next) (p .new); d-is = upd-same (m .d) (m .next) _; y-is = upd-same (m .y) (m .next) 0; c-is = upd-same (m .c) (m .next) 0 } in
       record {
-        task = record { self = search off; split = search off; value = let v = g .1 in search off; decided = search off; seen = let v = g .3 in search off; planned = search off; early = search off; fresh = λ b. f; owner = λ z. absurd (o z) };
+        task = record { self = search off; split = search off; value = let v = g .1 in search off; decided = search off; seen = let v = g .3 in search off; planned = search off; store = search off; early = search off; fresh = λ b. f; owner = λ z. absurd (o z) };
         wins = λ u ne z. record { one-won = λ b. absurd b; no-race = λ b. absurd b };
         loses = λ u ne z. record { one-won = λ b c. c; no-race = λ b c. absurd c };
         apart = λ u ne b c z. let l : s .task u .taken < m .next = i .tasks u .fresh c .below in omega arith;

@@ -10,16 +10,16 @@ use Rattle.lines.specs.declared.Access.{Access}
 use Rattle.lines.specs.Lines.{for28, Line, l1, l16, l17, l18, l19, l27, nowhere, lineOf, at, counted}
 use Rattle.history.specs.Basics.{upd}
 use Rattle.history.proofs.Basics.{upd-same, upd-off, upd-cases}
-use Rattle.history.proofs.Simulation.{Phase, late, Knowledge}
+use Rattle.history.proofs.Simulation.{Phase, late}
 use Rattle.figure.specs.Figure.{Cell, store}
 use Rattle.figure.proofs.Classes.{is, holding, racing, won, lies-in}
-use Rattle.figure.proofs.Invariant.{View, Split, PhaseIs, line, held, Inv}
+use Rattle.figure.proofs.Invariant.{View, Knowledge, Split, PhaseIs, line, held, Inv}
 use Rattle.figure.proofs.Frame.{moved, Rest, finish, forget, was, not-taken}
 use Rattle.figure.proofs.Looking.{off, same-loses, idle-mine, not-late}
 
 -- the view with other memory and another phase
 abbrev pub inMemory : View → Cell → Phase → View
-inMemory s m p = record { cell = m; task = s .task; value = s .value; told = s .told; phase = p }
+inMemory s m p = record { cell = m; task = s .task; value = s .value; placed = s .placed; phase = p }
 
 not-zero : (f : ℕ → ℕ) (b m : ℕ) → f m ≢ 0 → upd f b 1 m ≢ 0
 not-zero f b m h = upd-cases (λ n. n ≢ 0) f b 1 m (λ e z. omega arith) (λ e. h)
@@ -39,6 +39,7 @@ module _ (s : View) (κ : Knowledge) (t : ℕ) (r : Rest s κ t) where
       self = k .self;
       value = k .value;
       decided = k .decided;
+      store = k .store;
       seen = k .seen;
       planned = k .planned;
       fresh = k .fresh;
@@ -66,6 +67,7 @@ module _ (s : View) (κ : Knowledge) (t : ℕ) (r : Rest s κ t) where
         self = k .self;
         value = k .value;
         decided = k .decided;
+        store = k .store;
         seen = k .seen;
         planned = k .planned;
         early = k .early;
@@ -92,8 +94,8 @@ module _ (s : View) (κ : Knowledge) (t : ℕ) (r : Rest s κ t) where
           replaced-decided = d .replaced-decided;
           decided-inactive = λ a e. not-zero (m .c) b (held s u) (d .decided-inactive a e);
           before-store = d .before-store;
-          told-value = d .told-value;
-          told-decided = d .told-decided;
+          placed-value = d .placed-value;
+          placed-decided = d .placed-decided;
           late-inactive = λ a e. not-zero (m .c) b (held s u) (d .late-inactive a e);
           late-phase = λ a e z. lates u .0 (d .late-phase a e z);
           late-decided = d .late-decided;
@@ -101,8 +103,9 @@ module _ (s : View) (κ : Knowledge) (t : ℕ) (r : Rest s κ t) where
           decided = d .decided;
           expected = d .expected;
         };
+        store = let d = k .store in record { active-placed = d .active-placed; late-placed = d .late-placed; late-store = λ a z. not-zero (m .c) b (held s u) (d .late-store a z); yes-active = d .yes-active };
         seen = let d = k .seen in record {
-          active-value = λ a. upd-cases (λ c. c ≡ 0 → κ .saw u (s .task u .loaded)) (m .c) b 1 (held s u) (λ h z. absurd (omega arith)) (λ h. d .active-value a);
+          active-value = λ a. upd-cases (λ c. c ≡ 0 → κ .loaded u (s .task u .loaded)) (m .c) b 1 (held s u) (λ h z. absurd (omega arith)) (λ h. d .active-value a);
           refusing = d .refusing;
           decision = d .decision;
           replaced = d .replaced;

@@ -10,10 +10,10 @@ use Rattle.lines.specs.declared.Access.{Access}
 use Rattle.lines.specs.Lines.{l23, l24, lineOf, at, counted}
 use Rattle.history.specs.Basics.{upd}
 use Rattle.history.proofs.Basics.{upd-at, upd-same, upd-off, upd-cases}
-use Rattle.history.proofs.Simulation.{Phase, settled, late, Knowledge}
+use Rattle.history.proofs.Simulation.{Phase, settled, late}
 use Rattle.figure.specs.Figure.{store}
 use Rattle.figure.proofs.Classes.{is, holding, won, loaded, stored, contended, lies-in, are-apart}
-use Rattle.figure.proofs.Invariant.{none, View, Value, Fresh, Owner, Rival, PhaseIs, line, held, Inv}
+use Rattle.figure.proofs.Invariant.{none, View, Knowledge, Value, Fresh, Owner, Rival, PhaseIs, line, held, Inv}
 use Rattle.figure.proofs.Frame.{moved, Rest, Mine, finish, was, undecided, active-undecided, active-current, one-winner, not-taken}
 use Rattle.figure.proofs.Looking.{off, same-wins, same-loses, active-settled, active-value}
 
@@ -37,8 +37,8 @@ module _ (s : View) (κ : Knowledge) (t : ℕ) (i : Inv s κ) (e : line s t ≡ 
   nobody : (u : ℕ) → u ≢ t → held s u ≡ q .held → T (won (line s u)) → ⊥
   nobody u ne h b = here .wins u ne (sym h) .one-won tt b
 
-  pub untold : T (not (s .told t))
-  untold = not-T (s .told t) (here .task .self .told-stored tt)
+  pub unplaced : T (not (s .placed t))
+  unplaced = not-T (s .placed t) (here .task .self .placed-stored tt)
 
   value′ : (u : ℕ) → u ≢ t → Value (line s u) (s .task u .new) (held s u) (s .task u .loaded) (s .cell .next) (V′ (held s u))
   value′ u ne = let r = i .tasks u .value in record {
@@ -76,7 +76,7 @@ module _ (s : View) (κ : Knowledge) (t : ℕ) (i : Inv s κ) (e : line s t ≡ 
 
   module _ (c : s .cell .c (q .held) ≡ 0) where
     abbrev pub live : View
-    live = record { cell = store (s .cell) (q .held) Field.V (q .new); task = s .task; value = q .new; told = upd (s .told) t true; phase = s .phase }
+    live = record { cell = store (s .cell) (q .held) Field.V (q .new); task = s .task; value = q .new; placed = upd (s .placed) t true; phase = s .phase }
 
     open-d : s .cell .d (q .held) ≡ none
     open-d = active-undecided s κ i t (rw e tt) c
@@ -107,10 +107,11 @@ module _ (s : View) (κ : Knowledge) (t : ℕ) (i : Inv s κ) (e : line s t ≡ 
         decision = λ d. absurd (d (rw is-L at open-d));
         phase-is = rw live-settled (λ d. (rw is-L at c, upd-at (s .cell .v) (q .held) (q .new) L (sym is-L)));
       };
-      tasks = λ u ne. let k = i .tasks u in rw (upd-off (s .told) t true u ne) record {
+      tasks = λ u ne. let k = i .tasks u in rw (upd-off (s .placed) t true u ne) record {
         self = k .self;
         split = k .split;
         value = value′ u ne;
+        store = k .store;
         seen = k .seen;
         fresh = fresh′ u;
         early = k .early;
@@ -118,8 +119,8 @@ module _ (s : View) (κ : Knowledge) (t : ℕ) (i : Inv s κ) (e : line s t ≡ 
           replaced-decided = r .replaced-decided;
           decided-inactive = r .decided-inactive;
           before-store = r .before-store;
-          told-value = λ b z d. absurd (none-stored u ne b d);
-          told-decided = r .told-decided;
+          placed-value = λ b z d. absurd (none-stored u ne b d);
+          placed-decided = r .placed-decided;
           late-inactive = r .late-inactive;
           late-phase = r .late-phase;
           late-decided = r .late-decided;
@@ -135,17 +136,18 @@ module _ (s : View) (κ : Knowledge) (t : ℕ) (i : Inv s κ) (e : line s t ≡ 
       };
     }
 
-    mine-live : Mine live κ t l24 next
-    mine-live =
+    mine-live : T (κ .storedActive t) → Mine live κ t l24 next
+    mine-live lv =
         let m = here in
-        let told : T (upd (s .told) t true t) = rw upd-same tt in
-        let only : T (not (upd (s .told) t true t)) → ⊥ = λ x. rw upd-same at x in
+        let placed : T (upd (s .placed) t true t) = rw upd-same tt in
+        let only : T (not (upd (s .placed) t true t)) → ⊥ = λ x. rw upd-same at x in
         let d = open-d in
         let o : s .phase ≢ late t = none-awaited is-L t in
+        let nl : T (not (κ .storedActive t)) → ⊥ = λ z. T-not (κ .storedActive t) z lv in
         search (off, stored-now, some-now, still-wins, still-loses)
 
-    pub kept-live : lineOf next ≡ l24 → Inv (moved live t next) κ
-    kept-live e′ = finish live κ t l24 next e′ rest-live mine-live
+    pub kept-live : T (κ .storedActive t) → lineOf next ≡ l24 → Inv (moved live t next) κ
+    kept-live lv e′ = finish live κ t l24 next e′ rest-live (mine-live lv)
 
   -- THE BLOCK IS INACTIVE. The phase becomes p: late, if the block is the current one and not decided, else it stays.
 
@@ -153,7 +155,7 @@ module _ (s : View) (κ : Knowledge) (t : ℕ) (i : Inv s κ) (e : line s t ≡ 
       (is-p : PhaseIs p (s .cell .c L) (V′ L) (s .cell .d L) (s .value)) (mine-p : s .cell .d (q .held) ≡ none → p ≡ late t)
       (owner-p : p ≡ late t → (q .held ≡ L) × (q .expected ≡ s .value)) (plan-p : s .cell .d L ≡ none → q .held ≡ L → s .cell .v L ≡ s .value) where
     abbrev pub delayed : View
-    delayed = record { cell = store (s .cell) (q .held) Field.V (q .new); task = s .task; value = s .value; told = s .told; phase = p }
+    delayed = record { cell = store (s .cell) (q .held) Field.V (q .new); task = s .task; value = s .value; placed = s .placed; phase = p }
 
     rest-delayed : Rest delayed κ t
     rest-delayed = record {
@@ -164,6 +166,7 @@ module _ (s : View) (κ : Knowledge) (t : ℕ) (i : Inv s κ) (e : line s t ≡ 
         self = k .self;
         split = k .split;
         value = value′ u ne;
+        store = k .store;
         seen = k .seen;
         fresh = fresh′ u;
         early = k .early;
@@ -171,8 +174,8 @@ module _ (s : View) (κ : Knowledge) (t : ℕ) (i : Inv s κ) (e : line s t ≡ 
           replaced-decided = r .replaced-decided;
           decided-inactive = r .decided-inactive;
           before-store = r .before-store;
-          told-value = r .told-value;
-          told-decided = r .told-decided;
+          placed-value = r .placed-value;
+          placed-decided = r .placed-decided;
           late-inactive = r .late-inactive;
           late-phase = λ b z d. lates u ne .0 (r .late-phase b z d);
           late-decided = r .late-decided;
@@ -187,18 +190,19 @@ module _ (s : View) (κ : Knowledge) (t : ℕ) (i : Inv s κ) (e : line s t ≡ 
               (λ h. k .planned .plan b d z);
         };
         owner = λ z. let x = lates u ne .1 z in let o = k .owner (x .0) in record
-            { has-stored = o .has-stored; here = o .here; not-told = o .not-told; expected-is = o .expected-is; new-is = o .new-is ∙ sym (upd-off (s .cell .v) (q .held) (q .new) L (x .1)) };
+            { has-stored = o .has-stored; here = o .here; not-placed = o .not-placed; expected-is = o .expected-is; new-is = o .new-is ∙ sym (upd-off (s .cell .v) (q .held) (q .new) L (x .1)) };
       };
     }
 
-    mine-delayed : Mine delayed κ t l24 next
-    mine-delayed =
+    mine-delayed : T (not (κ .storedActive t)) → Mine delayed κ t l24 next
+    mine-delayed lv =
         let m = here in
-        let nt : T (s .told t) → ⊥ = T-not (s .told t) untold in
+        let nt : T (s .placed t) → ⊥ = T-not (s .placed t) unplaced in
+        let nl : T (κ .storedActive t) → ⊥ = T-not (κ .storedActive t) lv in
         let d : s .cell .d (q .held) ≢ none → s .cell .d (q .held) ≡ q .expected = m .task .decided .before-store tt in
-        let o : p ≡ late t → Owner l24 next (s .told t) L (s .value) (V′ L)
-        = λ z. let x = owner-p z in record { has-stored = tt; here = x .0; not-told = untold; new-is = sym (upd-at (s .cell .v) (q .held) (q .new) L (sym (x .0))); expected-is = x .1 } in
+        let o : p ≡ late t → Owner l24 next (s .placed t) L (s .value) (V′ L)
+        = λ z. let x = owner-p z in record { has-stored = tt; here = x .0; not-placed = unplaced; new-is = sym (upd-at (s .cell .v) (q .held) (q .new) L (sym (x .0))); expected-is = x .1 } in
         search (off, stored-now, some-now, still-wins, still-loses)
 
-    pub kept-delayed : lineOf next ≡ l24 → Inv (moved delayed t next) κ
-    kept-delayed e′ = finish delayed κ t l24 next e′ rest-delayed mine-delayed
+    pub kept-delayed : T (not (κ .storedActive t)) → lineOf next ≡ l24 → Inv (moved delayed t next) κ
+    kept-delayed lv e′ = finish delayed κ t l24 next e′ rest-delayed (mine-delayed lv)

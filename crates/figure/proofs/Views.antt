@@ -10,11 +10,11 @@ use Rattle.lines.specs.Record.{idle}
 use Rattle.lines.specs.Lines.{Line, lineOf, nowhere}
 use Rattle.history.specs.Basics.{upd}
 use Rattle.history.proofs.Basics.{either, upd-at, upd-off}
-use Rattle.history.proofs.Simulation.{late, Ghost, Knowledge}
+use Rattle.history.proofs.Simulation.{late, Ghost}
 use Rattle.figure.specs.Figure.{World}
 use Rattle.figure.proofs.LineLaws.{every-line, same, same-is}
 use Rattle.figure.proofs.Classes.{busy}
-use Rattle.figure.proofs.Invariant.{View, Task, line, Inv}
+use Rattle.figure.proofs.Invariant.{View, Knowledge, Task, line, Inv}
 use Rattle.figure.proofs.Looking.{idle-task}
 
 -- the tasks on cell k; the others are idle to it
@@ -45,7 +45,7 @@ on-it f k u b = go (either (f u .cell) k)
     go (inr z) = absurd (rw (on-out f k u z) at b)
 
 abbrev pub view : World → Ghost → ℕ → View
-view w g k = record { cell = w .cell k; task = on (w .records) k; value = g .cells k; told = g .told; phase = g .phase k }
+view w g k = record { cell = w .cell k; task = on (w .records) k; value = g .cells k; placed = g .placed; phase = g .phase k }
 
 -- A RECORD CHANGES
 
@@ -78,7 +78,7 @@ module _ (f : ℕ → Record) (t : ℕ) (q : Record) where
       go u (inl e) = off (upd f t q) u (subst (λ (r : Record). (r .cell ≢ j) ⊎ (r ≡ idle)) (sym (upd-at f t q u e)) h′) ∙ sym (off f u (subst (λ n. (f n .cell ≢ j) ⊎ (f n ≡ idle)) (sym e) h))
       go u (inr e) = on-other j u e
 
--- WHO STANDS IN THE LINEARIZATION matters only of busy tasks
+-- WHOSE SWAP TOOK EFFECT matters only of busy tasks
 
 -- only `nowhere` is no line
 nowhere-is : (ℓ : Line) → busy ℓ ≡ false → ℓ ≡ nowhere
@@ -95,10 +95,10 @@ busy-or-not ℓ = go (busy ℓ) refl
     go true e = inl (rw e tt)
     go false e = inr (nowhere-is ℓ e)
 
-pub told-changed : (s : View) (κ : Knowledge) (told : ℕ → Bool) → ((u : ℕ) → T (busy (line s u)) → told u ≡ s .told u) → ((u : ℕ) → s .phase ≡ late u → T (busy (line s u)))
-    → Inv s κ → Inv (record { cell = s .cell; task = s .task; value = s .value; told = told; phase = s .phase }) κ
-told-changed s κ told same lates i = record { current = i .current; rivals = i .rivals; apart = i .apart; tasks = λ u. go u (busy-or-not (line s u)) }
+pub placed-changed : (s : View) (κ : Knowledge) (placed : ℕ → Bool) → ((u : ℕ) → T (busy (line s u)) → placed u ≡ s .placed u) → ((u : ℕ) → s .phase ≡ late u → T (busy (line s u)))
+    → Inv s κ → Inv (record { cell = s .cell; task = s .task; value = s .value; placed = placed; phase = s .phase }) κ
+placed-changed s κ placed same lates i = record { current = i .current; rivals = i .rivals; apart = i .apart; tasks = λ u. go u (busy-or-not (line s u)) }
   where
-    go : (u : ℕ) → T (busy (line s u)) ⊎ (line s u ≡ nowhere) → Task (s .cell) (s .value) (told u) (s .phase) κ u (line s u) (s .task u)
+    go : (u : ℕ) → T (busy (line s u)) ⊎ (line s u ≡ nowhere) → Task (s .cell) (s .value) (placed u) (s .phase) κ u (line s u) (s .task u)
     go u (inl b) = rw (same u b) (i .tasks u)
-    go u (inr e) = rw e (idle-task (record { cell = s .cell; task = s .task; value = s .value; told = told; phase = s .phase }) κ u (s .task u) (λ z. rw e at (lates u z)))
+    go u (inr e) = rw e (idle-task (record { cell = s .cell; task = s .task; value = s .value; placed = placed; phase = s .phase }) κ u (s .task u) (λ z. rw e at (lates u z)))

@@ -21,7 +21,7 @@ use Rattle.lines.specs.declared.Next.the-variants.{Go, Done}
 use Rattle.lines.specs.Record.{noValue, idle}
 use Rattle.lines.specs.Lines.{accessOf, nextOf, hardware}
 use Rattle.cells.specs.Pool.{fresh}
-use Rattle.questions.specs.Questions.{Question, refusal, beginQuestions, swapQuestions, stepQuestions, lookQuestions}
+use Rattle.questions.specs.Questions.{refusal, beginQuestions, swapQuestions, stepQuestions, lookQuestions}
 use Rattle.lines.specs.Record.{firstRead, firstSwap}
 use Rattle.cells.specs.Look.{shownValue, shown}
 use Rattle.history.specs.Basics.{upd}

@@ -1,2 +1,4 @@
 pub mod Figure
 pub mod Paths
+pub mod Moments
+pub mod MomentExamples

@@ -1,34 +1,39 @@
--- What the statement accepts and what it rules out, at histories written out. A linearization of two calls has one of five shapes, so
+-- What linearizations are accepted and what they rule out, at histories written out. A linearization of two calls has one of five shapes, so
 -- each refutation goes through them, and the answers in each are computed.
 use mathlib.Core.Path.{_≡_, refl, sym, ap, _∙_, subst}
 use mathlib.Core.Logic.{_≢_, _⊎_, inl, inr}
 use mathlib.Core.Bool.{Bool, true, false, cond}
 use mathlib.Core.Option.{none, some}
-use mathlib.Core.List.{List, [], _∷_, _++_}
+use mathlib.Core.List.{List, [], _∷_, _++_, map}
 use Prim.Native.Nat.{ℕ, _+_, _*_, _≤_, _<_}
 use native.Mathlib.Omega.{arith}
 use lib.Dec.{eqb, T}
-use lib.ListN.{replicate}
 use borrow.Author.Tests.{eq-eqb, ne-eqb}
 use Rattle.history.specs.Basics.{upd, _∈_, Once}
-use Rattle.history.specs.History.{Op, read, swap, Action, begin, step, Event, refused, begun, going, answered, Answer, Value, Yes, No, Begin, Call, Finished, Calls, noCalls, callsOf}
-use Rattle.history.specs.History.{CallOf, finished, pending, WellFormed}
+use Rattle.history.specs.History.{Op, read, swap, Action, begin, step, Event, begun, going, answered, Answer, Value, Yes, No, Begin, Call, Finished, Calls, callsOf}
+use Rattle.history.specs.History.{CallOf, finished, pending}
 use Rattle.history.specs.Linearization.{apply, Point, replies, Placed, Linearizes}
-use Rattle.history.specs.Demand3.{most, mostHard, Bounds, Unequal, Alone, NoHardware, Demand3}
+use Rattle.history.specs.Demand3.{most, mostHard, Alone, Demand3}
 use Rattle.history.proofs.Basics.{either}
 use Rattle.history.proofs.Tracks.{clash, some-inj}
-use Rattle.history.proofs.Points.{ats, to-ats}
 use Rattle.history.proofs.Kept.{point}
+
+abbrev ats : List Point → List ℕ
+ats l = map (λ e. e .call .at) l
+
+to-ats : (l : List Point) (x : Point) → x ∈ l → x .call .at ∈ ats l
+to-ats (y ∷ l) x (inl h) = inl (ap (λ (x : Point). x .call .at) h)
+to-ats (y ∷ l) x (inr h) = inr (to-ats l x h)
 
 -- TOOLS: every cell holds 5 first; a history of the tasks 0 and 1 with the calls c and d
 
 abbrev five : ℕ → ℕ
 five k = 5
 
-abbrev TwoCalls : Calls → Call → Call → Type 0
+abbrev pub TwoCalls : Calls → Call → Call → Type 0
 TwoCalls b c d = (e : Call) (n : ℕ) → CallOf b e n → (e ≡ c) ⊎ (e ≡ d)
 
-two-calls : (b : Calls) (c d : Call) → ((t : ℕ) → t ≢ 0 → t ≢ 1 → b .pending t ≡ none) → ((e : Call) → b .pending 0 ≡ some e → e ≡ c) → b .pending 1 ≡ none →
+pub two-calls : (b : Calls) (c d : Call) → ((t : ℕ) → t ≢ 0 → t ≢ 1 → b .pending t ≡ none) → ((e : Call) → b .pending 0 ≡ some e → e ≡ c) → b .pending 1 ≡ none →
     ((f : Finished) → f ∈ b .finished → (f .call ≡ c) ⊎ (f .call ≡ d)) → TwoCalls b c d
 two-calls b c d rest at0 at1 done e n (finished f i) = done f i
 two-calls b c d rest at0 at1 done e n (pending t f h) = go (either t 0) (either t 1)
@@ -257,7 +262,7 @@ no-other-cell = refl
 -- WRONG ANSWERS: no linearization has them
 
 -- a call of one step or more, finished as reported
-abbrev ended : (begun task : ℕ) → Op → List Action → (last steps hard : ℕ) → Answer → Finished
+abbrev pub ended : (begun task : ℕ) → Op → List Action → (last steps hard : ℕ) → Answer → Finished
 ended n t op l last steps hard a = record {
   call = record { start = record { at = n; task = t; op = op; before = l }; last = last; steps = steps; hard = hard };
   answer = a;
@@ -266,7 +271,7 @@ ended n t op l last steps hard a = record {
 }
 
 -- all calls of the history are finished, and they are f and g
-both-ended : (b : Calls) (f g : Finished) → ((t : ℕ) → t ≢ 0 → t ≢ 1 → b .pending t ≡ none) → b .pending 0 ≡ none → b .pending 1 ≡ none →
+pub both-ended : (b : Calls) (f g : Finished) → ((t : ℕ) → t ≢ 0 → t ≢ 1 → b .pending t ≡ none) → b .pending 0 ≡ none → b .pending 1 ≡ none →
     ((h : Finished) → h ∈ b .finished → (h ≡ f) ⊎ (h ≡ g)) → TwoCalls b (f .call) (g .call)
 both-ended b f g rest at0 at1 all = two-calls b (f .call) (g .call) rest (λ e h. absurd (clash at0 h)) at1 (λ h i. go h (all h i))
   where
@@ -274,10 +279,10 @@ both-ended b f g rest at0 at1 all = two-calls b (f .call) (g .call) rest (λ e h
     go h (inl q) = inl (ap (λ (f : Finished). f .call) q)
     go h (inr q) = inr (ap (λ (f : Finished). f .call) q)
 
-one-of : (f : Finished) (h : Finished) → h ∈ (f ∷ []) → (h ≡ f) ⊎ (h ≡ f)
+pub one-of : (f : Finished) (h : Finished) → h ∈ (f ∷ []) → (h ≡ f) ⊎ (h ≡ f)
 one-of f h (inl q) = inl q
 
-two-of : (f g : Finished) (h : Finished) → h ∈ (g ∷ f ∷ []) → (h ≡ f) ⊎ (h ≡ g)
+pub two-of : (f g : Finished) (h : Finished) → h ∈ (g ∷ f ∷ []) → (h ≡ f) ⊎ (h ≡ g)
 two-of f g h (inl q) = inr q
 two-of f g h (inr (inl q)) = inl q
 
@@ -375,109 +380,3 @@ no-stale-read l r = go l r (must r changer (inr (inl refl))) (must r stale (inl 
           ap (λ (s : Begin). s .at) (p .is),
           within-c (changer .call) (stale .call) two r (λ q. omega arith) m (inr (inl refl)) .1,
         )
-
--- WRONG EVENTS: no well-formed history has them
-
-pub no-refusal-of-a-pending-call : WellFormed 1 noCalls ((begin 0 (read 0), begun) ∷ (step 0, refused 11) ∷ []) → ⊥
-unfolding upd
-no-refusal-of-a-pending-call w = clash (w .1 .0) refl
-
-pub no-second-call-of-a-busy-task : WellFormed 1 noCalls ((begin 0 (read 0), begun) ∷ (begin 0 (read 0), begun) ∷ []) → ⊥
-unfolding upd
-no-second-call-of-a-busy-task w = clash (w .1 .0 .0) refl
-
-pub no-answer-without-a-call : WellFormed 1 noCalls ((step 0, answered 0 (Value 5) 3 0) ∷ []) → ⊥
-no-answer-without-a-call w = w .0
-
-pub no-call-on-a-cell-that-is-not-there : WellFormed 1 noCalls ((begin 0 (read 1), begun) ∷ []) → ⊥
-no-call-on-a-cell-that-is-not-there w = omega (arith, w .0 .1)
-
--- WRONG COUNTS
-
-pub no-invented-counts : Bounds (callsOf ((begin 0 (read 0), begun) ∷ (step 0, answered 0 (Value 5) 3 0) ∷ [])) → ⊥
-unfolding upd
-no-invented-counts c = omega (arith, c .reported _ (inl refl) .0)
-
--- a read that six steps did not end
-pub no-read-beyond-its-bound : Bounds (callsOf ((begin 0 (read 0), begun) ∷
-    (step 0, going 0) ∷ (step 0, going 0) ∷ (step 0, going 0) ∷ (step 0, going 0) ∷ (step 0, going 0) ∷ (step 0, going 0) ∷ [])) → ⊥
-unfolding upd
-no-read-beyond-its-bound c = omega (arith, c .unended 0 _ refl .0)
-
--- a swap that seventeen steps did not end
-pub no-swap-beyond-its-bound : Bounds (callsOf ((begin 0 (swap 0 5 7), begun) ∷ replicate 17 (step 0, going 0))) → ⊥
-unfolding upd
-no-swap-beyond-its-bound c = omega (arith, c .unended 0 _ refl .0)
-
--- a hardware CAS more than the kind's most
-pub no-read-of-two-hardware-CAS : Bounds (callsOf ((begin 0 (read 0), begun) ∷ replicate 2 (step 0, going 1))) → ⊥
-unfolding upd
-no-read-of-two-hardware-CAS c = omega (arith, c .unended 0 _ refl .1)
-
-pub no-swap-of-four-hardware-CAS : Bounds (callsOf ((begin 0 (swap 0 5 7), begun) ∷ replicate 4 (step 0, going 1))) → ⊥
-unfolding upd
-no-swap-of-four-hardware-CAS c = omega (arith, c .unended 0 _ refl .1)
-
--- RIGHT: document 01's longest calls, a read that decides and a swap that ends at 30 by 25
-abbrev only : Finished → Calls
-only f = record { now = 18; accepted = []; pending = λ t. none; finished = f ∷ [] }
-
-within-bounds : (f : Finished) → (f .call .steps ≤ most (f .call .start .op)) × (f .call .hard ≤ mostHard (f .call .start .op)) → (f .steps ≡ f .call .steps) × (f .hard ≡ f .call .hard) → Bounds (only f)
-within-bounds f h r = record { ended = ended; reported = reported; unended = λ t c e. absurd (clash refl e) }
-  where
-    ended : (g : Finished) → g ∈ (f ∷ []) → (g .call .steps ≤ most (g .call .start .op)) × (g .call .hard ≤ mostHard (g .call .start .op))
-    ended g (inl q) = rw q h
-
-    reported : (g : Finished) → g ∈ (f ∷ []) → (g .steps ≡ g .call .steps) × (g .hard ≡ g .call .hard)
-    reported g (inl q) = rw q r
-
-pub longest-read : Bounds (only (ended 0 0 (read 0) [] 6 6 1 (Value 5)))
-longest-read = within-bounds _ (omega arith) (refl, refl)
-
-pub longest-swap : Bounds (only (ended 0 0 (swap 0 5 7) [] 17 17 3 Yes))
-longest-swap = within-bounds _ (omega arith) (refl, refl)
-
--- a swap that is alone, on an active block, tries the hardware CAS
-abbrev needless : Finished
-needless = ended 0 0 (swap 0 5 7) [] 1 1 1 Yes
-
-pub no-hardware-CAS-alone : NoHardware (λ l k. Unit {0}) (callsOf ((begin 0 (swap 0 5 7), begun) ∷ (step 0, answered 1 Yes 1 1) ∷ [])) → ⊥
-unfolding upd
-no-hardware-CAS-alone h = omega (arith, h (needless .call) 1 (finished needless (inl refl)) tt alone)
-  where
-    b : Calls
-    b = callsOf ((begin 0 (swap 0 5 7), begun) ∷ (step 0, answered 1 Yes 1 1) ∷ [])
-
-    alone : Alone b (needless .call) 1
-    alone d n i u q ne = absurd (go (both-ended b needless needless (λ t p q. rw (ne-eqb t 0 p)) refl refl (one-of needless) d n i))
-      where
-        go : (d ≡ needless .call) ⊎ (d ≡ needless .call) → ⊥
-        go (inl q) = ne (ap (λ (c : Call). c .start .at) q)
-        go (inr q) = ne (ap (λ (c : Call). c .start .at) q)
-
--- and so does one beside which only a swap of equal values is pending
-abbrev beside-equal : List (Action × Event)
-beside-equal = (begin 0 (swap 0 5 5), begun) ∷ (begin 1 (swap 0 5 7), begun) ∷ (step 1, answered 1 Yes 1 1) ∷ []
-
-abbrev equal : Call
-equal = record { start = record { at = 0; task = 0; op = swap 0 5 5; before = [] }; last = 0; steps = 0; hard = 0 }
-
-abbrev beside : Finished
-beside = ended 1 1 (swap 0 5 7) (begin 0 (swap 0 5 5) ∷ []) 2 1 1 Yes
-
-pub no-hardware-CAS-beside-an-equal-swap : NoHardware (λ l k. Unit {0}) (callsOf beside-equal) → ⊥
-unfolding upd
-no-hardware-CAS-beside-an-equal-swap h = omega (arith, h (beside .call) 2 (finished beside (inl refl)) tt alone)
-  where
-    done : (f : Finished) → f ∈ (beside ∷ []) → (f .call ≡ equal) ⊎ (f .call ≡ beside .call)
-    done f (inl q) = inr (ap (λ (f : Finished). f .call) q)
-
-    two : TwoCalls (callsOf beside-equal) equal (beside .call)
-    two = two-calls (callsOf beside-equal) equal (beside .call) (λ t p q. rw (ne-eqb t 0 p, ne-eqb t 1 q)) (λ e h. some-inj h refl) refl done
-
-    alone : Alone (callsOf beside-equal) (beside .call) 2
-    alone d n i u q ne = absurd (go (two d n i))
-      where
-        go : (d ≡ equal) ⊎ (d ≡ beside .call) → ⊥
-        go (inl q) = subst (λ (d : Call). Unequal (d .start .op)) q u refl
-        go (inr q) = ne (ap (λ (c : Call). c .start .at) q)

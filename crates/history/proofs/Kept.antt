@@ -1,221 +1,203 @@
--- What a linearization in the making keeps from action to action. Its one idea: each cell has a moment, `firm`, before which
--- nothing changes any more, and from which on no point stands yet.
+-- What the proof keeps from action to action: a timeline of the calls that took effect. Each cell has a moment, `firm`, before which nothing
+-- changes any more, and from which on no call stands yet.
 use mathlib.Core.Path.{_≡_, refl, sym, ap, _∙_, subst}
 use mathlib.Core.Logic.{_≢_, _⊎_, inl, inr}
+use mathlib.Core.Bool.{Bool, true, not}
 use mathlib.Core.Option.{Option, none, some}
-use mathlib.Core.List.{List}
+use mathlib.Core.List.{List, [], _∷_}
 use Prim.Native.Nat.{ℕ, _≤_, _<_}
 use native.Mathlib.Omega.{arith}
-use Rattle.history.specs.Basics.{_∈_, Once}
-use Rattle.history.specs.History.{cellOf, Answer, Begin, Call, Finished, Calls, pending}
-use Rattle.history.specs.Linearization.{reply, after, Point, Placed, replies, Sorted}
-use Rattle.history.proofs.Basics.{either}
-use Rattle.history.proofs.Simulation.{Phase, settled, frozen, late}
-use Rattle.history.proofs.Tracks.{clash, some-inj}
-use Rattle.history.proofs.MovesOne.{Onward, Dated, From, MovesOne, continues, from-where}
-use Rattle.history.proofs.Points.{cell, final, At, place, ats, from-ats, Calm, place-mem, place-sorted, place-ats, place-once, place-answer, place-replies, Apart, place-at}
+use lib.Dec.{T, T-not}
+use Rattle.history.specs.Basics.{upd, _∈_}
+use Rattle.history.specs.History.{Op, cellOf, Answer, Yes, Begin, Call, Finished, Calls}
+use Rattle.history.specs.Linearization.{reply, after, apply, Point}
+use Rattle.history.specs.Moments.{Mark, pointOf}
+use Rattle.history.proofs.Basics.{either, upd-at, upd-same, upd-off}
+use Rattle.history.proofs.Simulation.{Phase, settled, late, Ghost, Sided}
+use Rattle.history.proofs.Tracks.{some-inj}
+use Rattle.history.proofs.MovesOne.{Onward, From, MovesOne, from-where}
+use Rattle.history.proofs.Timeline.{apply-at, apply-off, cell, Timeline}
+use Rattle.history.proofs.Growing.{Joins, regarded, since, since-other, since-after, changed}
 
--- c stands in the linearization, within its own moments, with the answer a
-abbrev pub Stands : (ℕ → ℕ) → List Point → Call → Answer → Type 0
-Stands values l c a = (e : Point) × (e .call ≡ c .start) × (c .start .at < e .moment) × (e .moment ≤ c .last) × ((e, a) ∈ replies values l)
+abbrev pub cell-of : Call → ℕ
+cell-of c = cellOf (c .start .op)
 
-stands-on : (values : ℕ → ℕ) (l : List Point) (a : Answer) {c d : Call} → Onward c d → Stands values l c a → Stands values l d a
-stands-on values l a o p = (p .0, p .1 ∙ o .start, omega (arith, p .2, ap (λ (x : Begin). x .at) (o .start)), omega (arith, p .3, o .last), p .4)
-
--- the late store on cell k is of a call whose begin comes before k's firm moment and whose last step does not
-pub record Late (b : Calls) (says : ℕ → Option Answer) (firm : ℕ → ℕ) (k u : ℕ) : Type 0 where
-  pub call : Call
-  pub busy : b .pending u ≡ some call
-  pub on : cellOf (call .start .op) ≡ k
-  pub begun : call .start .at < firm k
-  pub stepped : firm k ≤ call .last
-  pub untold : says u ≡ none
-
--- says: the answer with which a task's pending call stands there already
-pub record Kept (values cells : ℕ → ℕ) (phase : ℕ → Phase) (says : ℕ → Option Answer) (b : Calls) (l : List Point) (firm : ℕ → ℕ) : Type 0 where
-  pub sorted : Sorted l
-  pub firmed : (x : Point) → x ∈ l → x .moment < firm (cell x)
-  pub bound : (k : ℕ) → firm k ≤ b .now
-  pub ends : (k : ℕ) → final values l k ≡ cells k
-  pub placed : (x : Point) → x ∈ l → Placed b x
-  pub once : Once (ats l)
-  pub answers : (f : Finished) → f ∈ b .finished → Stands values l (f .call) (f .answer)
-  pub stands : (t : ℕ) (c : Call) (a : Answer) → b .pending t ≡ some c → says t ≡ some a → Stands values l c a
-  pub absent : (t : ℕ) (c : Call) → b .pending t ≡ some c → says t ≡ none → ¬ (c .start .at ∈ ats l)
-  pub lates : (k u : ℕ) → phase k ≡ late u → Late b says firm k u
-
--- the call that began so met the value v in its cell, at a firm moment after its begin
-pub record Seen (values : ℕ → ℕ) (l : List Point) (firm : ℕ → ℕ) (s : Begin) (v : ℕ) : Type 0 where
-  pub moment : ℕ
-  pub after-begin : s .at < moment
-  pub is-firm : moment < firm (cellOf (s .op))
-  pub at : At moment (cellOf (s .op)) values l v
-
-placed-on : {slack t : ℕ} {b b' : Calls} → MovesOne slack t b b' → (x : Point) → Placed b x → Placed b' x
-placed-on m x p =
-    let r = continues m (p .call) (p .end) (p .of-history) in
-    record {
-      call = r .0;
-      end = r .1;
-      of-history = r .2;
-      is = p .is ∙ r .3 .start;
-      after-begin = subst (λ (s : Begin). s .at < x .moment) (r .3 .start) (p .after-begin);
-      by-last-step = omega (arith, p .by-last-step, r .3 .last);
-    }
-
-abbrev pub raised : Phase → ℕ → ℕ → ℕ
-raised settled old now = now
-raised frozen old now = old
-raised (late u) old now = old
-
--- the firm moments after an action
-abbrev pub raise : (ℕ → Phase) → (ℕ → ℕ) → ℕ → ℕ → ℕ
-raise phase firm now j = raised (phase j) (firm j) now
-
-pub raise-up : (phase : ℕ → Phase) (firm : ℕ → ℕ) (now j : ℕ) → firm j ≤ now → (firm j ≤ raise phase firm now j) × (raise phase firm now j ≤ now)
-raise-up phase firm now j h = go (phase j)
-  where
-    go : (p : Phase) → (firm j ≤ raised p (firm j) now) × (raised p (firm j) now ≤ now)
-    go settled = omega arith
-    go frozen = omega arith
-    go (late u) = omega arith
+-- THE CALLS THAT TOOK EFFECT
 
 abbrev pub point : Call → ℕ → Point
 point c m = record { moment = m; call = c .start }
 
-module _ {values cells : ℕ → ℕ} {phase : ℕ → Phase} {says : ℕ → Option Answer} {b : Calls} {l : List Point} {firm : ℕ → ℕ} (k : Kept values cells phase says b l firm) where
-  -- THE CALLS MOVE: what ends must stand there, what begins does not yet
+-- the finished ones, by their marks, and the pending swaps that are placed
+pub data Entry (placed : ℕ → Bool) (when : ℕ → ℕ) (pending : ℕ → Option Call) (ms : List Mark) : Point → Answer → Type 0 where
+  of-finished : (m : Mark) → m ∈ ms → Entry placed when pending ms (pointOf m) (m .answer)
+  of-pending : (t : ℕ) (c : Call) → pending t ≡ some c → T (placed t) → Entry placed when pending ms (point c (when t)) Yes
 
-  pub calls-kept : {slack t : ℕ} {b' : Calls} (m : MovesOne slack t b b') (says' : ℕ → Option Answer) →
-      ((f : Finished) → f ∈ b' .finished → Stands values l (f .call) (f .answer)) →
-      ((u : ℕ) (c d : Call) → b .pending u ≡ some c → b' .pending u ≡ some d → says' u ≡ says u) →
-      ((u : ℕ) (d : Call) → b' .pending u ≡ some d → b .pending u ≡ none → says' u ≡ none) →
-      ((c : Call) → b .pending t ≡ some c → says t ≡ none → (d : Call) × (b' .pending t ≡ some d) × Onward c d) →
-      Kept values cells phase says' b' l firm
-  calls-kept {t = t} {b' = b'} m says' answers old new stay = record {
-    sorted = k .sorted;
-    firmed = k .firmed;
+-- a finished call's mark
+pub record MarkOf (f : Finished) (m : Mark) : Type 0 where
+  pub call : m .call ≡ f .call .start
+  pub answer : m .answer ≡ f .answer
+  pub begun : f .call .start .at < m .spot .moment
+  pub stepped : m .spot .moment ≤ f .call .last
+  pub sided : Sided (m .call .op) (m .answer) (m .spot)
+
+-- the marks are those of the finished calls, one for each
+abbrev pub Marked : List Finished → List Mark → Type 0
+Marked [] [] = Unit {0}
+Marked [] (m ∷ l) = ⊥
+Marked (f ∷ k) [] = ⊥
+Marked (f ∷ k) (m ∷ l) = MarkOf f m × Marked k l
+
+-- WHAT IS KEPT
+
+-- the late store on cell k is of a pending call that began before the freezing and has stepped since
+pub record Late (placed : ℕ → Bool) (froze : ℕ → ℕ) (pending : ℕ → Option Call) (k u : ℕ) : Type 0 where
+  pub call : Call
+  pub busy : pending u ≡ some call
+  pub on : cell-of call ≡ k
+  pub begun : call .start .at < froze k
+  pub stepped : froze k ≤ call .last
+  pub unplaced : T (not (placed u))
+
+pub record Kept (values : ℕ → ℕ) (g : Ghost) (b : Calls) (past : ℕ → ℕ → ℕ) (firm : ℕ → ℕ) (ms : List Mark) : Type 0 where
+  pub line : Timeline values past (Entry (g .placed) (g .when) (b .pending) ms)
+  pub ends : (k n : ℕ) → firm k ≤ n → past k n ≡ g .cells k
+  pub firmed : (e : Point) (a : Answer) → Entry (g .placed) (g .when) (b .pending) ms e a → e .moment < firm (cell e)
+  pub bound : (k : ℕ) → firm k ≤ b .now
+  pub marked : Marked (b .finished) ms
+  pub stands : (t : ℕ) (c : Call) → b .pending t ≡ some c → T (g .placed t) → (c .start .at < g .when t) × (g .when t ≤ c .last)
+  pub lates : (k u : ℕ) → g .phase k ≡ late u → Late (g .placed) (g .since) (b .pending) k u
+
+pub settled-late : {p : Phase} {u : ℕ} {A : Type 0} → p ≡ settled → p ≡ late u → A
+settled-late p q = absurd (let z : _≡_ {A = ℕ} 0 1 = cc in omega arith)
+
+module _ {values : ℕ → ℕ} {g : Ghost} {b : Calls} {past : ℕ → ℕ → ℕ} {firm : ℕ → ℕ} {ms : List Mark} (k : Kept values g b past firm ms) where
+  -- THE CALLS MOVE, and none ends; what begins is not placed
+
+  pub calls-kept : {slack t : ℕ} {b' : Calls} (m : MovesOne slack t b b') → Marked (b' .finished) ms →
+      ((c : Call) → b .pending t ≡ some c → (d : Call) × (b' .pending t ≡ some d) × Onward c d) →
+      (placed : ℕ → Bool) → ((u : ℕ) (c : Call) → b .pending u ≡ some c → placed u ≡ g .placed u) →
+      ((u : ℕ) (d : Call) → b' .pending u ≡ some d → b .pending u ≡ none → T (not (placed u))) →
+      Kept values (record { cells = g .cells; placed = placed; when = g .when; phase = g .phase; since = g .since }) b' past firm ms
+  calls-kept {t = t} {b' = b'} m marked stay placed old new = record {
+    line = regarded (k .line) to from;
+    ends = k .ends;
+    firmed = λ e a i. k .firmed e a (from e a i);
     bound = λ j. omega (arith, k .bound j, m .later);
-    ends = k .ends;
-    placed = λ x i. placed-on m x (k .placed x i);
-    once = k .once;
-    answers = answers;
-    stands = λ u d a h q. stands u d a h q (from-where m u d h);
-    absent = λ u d h q. absent u d h q (from-where m u d h);
-    lates = λ j u h. lates j u (k .lates j u h);
+    marked = marked;
+    stands = λ u d h p. let c = was u d h p in let s = k .stands u (c .0) (c .1) (subst T (old u (c .0) (c .1)) p) in omega (arith, ap (λ (s : Begin). s .at) (c .2 .start), c .2 .last);
+    lates = λ j u h. let p = k .lates j u h in let d = is u (p .call) (p .busy) in record {
+      call = d .0;
+      busy = d .1;
+      on = subst (λ (s : Begin). cellOf (s .op) ≡ j) (d .2 .start) (p .on);
+      begun = omega (arith, p .begun, ap (λ (s : Begin). s .at) (d .2 .start));
+      stepped = omega (arith, p .stepped, d .2 .last);
+      unplaced = subst (λ x. T (not x)) (sym (old u (p .call) (p .busy))) (p .unplaced);
+    };
   }
     where
-      stands : (u : ℕ) (d : Call) (a : Answer) → b' .pending u ≡ some d → says' u ≡ some a → From b u d → Stands values l d a
-      stands u d a h q (inl (c, i, o)) = stands-on values l a o (k .stands u c a i (sym (old u c d i h) ∙ q))
-      stands u d a h q (inr (i, e)) = absurd (clash (new u d h i) q)
-
-      absent : (u : ℕ) (d : Call) → b' .pending u ≡ some d → says' u ≡ none → From b u d → ¬ (d .start .at ∈ ats l)
-      absent u d h q (inl (c, i, o)) z = subst (λ (s : Begin). ¬ (s .at ∈ ats l)) (o .start) (k .absent u c i (sym (old u c d i h) ∙ q)) z
-      absent u d h q (inr (i, e)) z =
-          let x = from-ats l (d .start .at) z in
-          let p = k .placed (x .0) (x .1) in
-          omega (arith, x .2, p .after-begin, ap (λ (s : Begin). s .at) (p .is), k .firmed (x .0) (x .1), k .bound (cell (x .0)))
-
-      lates : (j u : ℕ) → Late b says firm j u → Late b' says' firm j u
-      lates j u p = go (either u t)
+      is : (u : ℕ) (c : Call) → b .pending u ≡ some c → (d : Call) × (b' .pending u ≡ some d) × Onward c d
+      is u c h = go (either u t)
         where
-          onto : (d : Call) → b' .pending u ≡ some d → Onward (p .call) d → Late b' says' firm j u
-          onto d h o = record {
-            call = d;
-            busy = h;
-            on = subst (λ (s : Begin). cellOf (s .op) ≡ j) (o .start) (p .on);
-            begun = subst (λ (s : Begin). s .at < firm j) (o .start) (p .begun);
-            stepped = omega (arith, p .stepped, o .last);
-            untold = old u (p .call) d (p .busy) h ∙ p .untold;
-          }
+          go : (u ≡ t) ⊎ (u ≢ t) → (d : Call) × (b' .pending u ≡ some d) × Onward c d
+          go (inl e) = let d = stay c (rw e at h) in (d .0, ap (b' .pending) e ∙ d .1, d .2)
+          go (inr n) = (c, m .others u n ∙ h, record { start = refl; last = omega arith })
 
-          go : (u ≡ t) ⊎ (u ≢ t) → Late b' says' firm j u
-          go (inl e) = let s = stay (p .call) (rw e at (p .busy)) (rw e at (p .untold)) in onto (s .0) (rw e (s .1)) (s .2)
-          go (inr n) = onto (p .call) (m .others u n ∙ p .busy) (record { start = refl; last = omega arith })
+      was : (u : ℕ) (d : Call) → b' .pending u ≡ some d → T (placed u) → (c : Call) × (b .pending u ≡ some c) × Onward c d
+      was u d h p = go (from-where m u d h)
+        where
+          go : From b u d → (c : Call) × (b .pending u ≡ some c) × Onward c d
+          go (inl c) = c
+          go (inr i) = absurd (T-not (placed u) (new u d h (i .0)) p)
 
-  -- THE PHASES MOVE: where a cell is settled, all moments so far become firm
+      -- a pending call's entry, by its begin
+      At : (ℕ → Bool) → (ℕ → Option Call) → ℕ → Begin → Type 0
+      At p q u s = Entry p (g .when) q ms (record { moment = g .when u; call = s }) Yes
 
-  pub phases-kept : (phase' : ℕ → Phase) → ((j u : ℕ) → phase' j ≡ late u → Late b says firm j u) → Kept values cells phase' says b l (raise phase' firm (b .now))
-  phases-kept phase' lates = record {
-    sorted = k .sorted;
-    firmed = λ x i. omega (arith, k .firmed x i, up (cell x) .0);
+      to : (e : Point) (a : Answer) → Entry (g .placed) (g .when) (b .pending) ms e a → Entry placed (g .when) (b' .pending) ms e a
+      to e a (of-finished x i) = of-finished x i
+      to e a (of-pending u c h p) = let d = is u c h in subst (At placed (b' .pending) u) (sym (d .2 .start)) (of-pending u (d .0) (d .1) (subst T (sym (old u c h)) p))
+
+      from : (e : Point) (a : Answer) → Entry placed (g .when) (b' .pending) ms e a → Entry (g .placed) (g .when) (b .pending) ms e a
+      from e a (of-finished x i) = of-finished x i
+      from e a (of-pending u d h p) = let c = was u d h p in subst (At (g .placed) (b .pending) u) (c .2 .start) (of-pending u (c .0) (c .1) (subst T (old u (c .0) (c .1)) p))
+
+  -- THE PHASES MOVE, and moments become firm
+
+  pub phases-kept : (phase : ℕ → Phase) (froze : ℕ → ℕ) (firm' : ℕ → ℕ) → ((j : ℕ) → (firm j ≤ firm' j) × (firm' j ≤ b .now)) →
+      ((j u : ℕ) → phase j ≡ late u → Late (g .placed) froze (b .pending) j u) →
+      Kept values (record { cells = g .cells; placed = g .placed; when = g .when; phase = phase; since = froze }) b past firm' ms
+  phases-kept phase froze firm' up lates = record {
+    line = k .line;
+    ends = λ j n h. k .ends j n (omega (arith, up j .0));
+    firmed = λ e a i. omega (arith, k .firmed e a i, up (cell e) .0);
     bound = λ j. up j .1;
-    ends = k .ends;
-    placed = k .placed;
-    once = k .once;
-    answers = k .answers;
+    marked = k .marked;
     stands = k .stands;
-    absent = k .absent;
-    lates = λ j u h. let p = lates j u h in record { call = p .call; busy = p .busy; on = p .on; begun = rw h (p .begun); stepped = rw h (p .stepped); untold = p .untold };
+    lates = lates;
   }
-    where
-      up : (j : ℕ) → (firm j ≤ raise phase' firm (b .now) j) × (raise phase' firm (b .now) j ≤ b .now)
-      up j = raise-up phase' firm (b .now) j (k .bound j)
 
-  -- A POINT IS PUT IN: task u's call, at the moment m, where its cell has the value v
+  -- A SWAP TAKES EFFECT: task u's, at the moment m, behind all others on its cell
 
-  module _ (dated : Dated b) (u : ℕ) (c : Call) (busy : b .pending u ≡ some c) (untold : says u ≡ none) (m v : ℕ) (begins : c .start .at < m) (lasts : m ≤ c .last)
-      (d : At m (cellOf (c .start .op)) values l v) where
-    pub point-kept : (cells' : ℕ → ℕ) (says' : ℕ → Option Answer) → Calm (point c m) v l → says' u ≡ some (reply v (c .start .op)) → ((w : ℕ) → w ≢ u → says' w ≡ says w) →
-        ((j : ℕ) → final values (place (point c m) v values l d) j ≡ cells' j) → m < firm (cellOf (c .start .op)) → ((j : ℕ) → phase j ≢ late u) →
-        Kept values cells' phase says' b (place (point c m) v values l d) firm
-    point-kept cells' says' calm own others ends low unlate = record {
-      sorted = place-sorted e v values l d (k .sorted);
-      firmed = λ x i. firmed x (place-mem e v values l d x i);
-      bound = k .bound;
-      ends = ends;
-      placed = λ x i. placed x (place-mem e v values l d x i);
-      once = place-once e v values l d (k .absent u c busy untold) (k .once);
-      answers = λ f i. keep (f .call) (f .answer) (k .answers f i);
-      stands = λ t s a h q. stands t s a h q (either t u);
-      absent = λ t s h q i. absent t s h q (either t u) (place-ats e v values l d (s .start .at) i);
-      lates = λ j w h. lates j w h (k .lates j w h);
+  module _ (u : ℕ) (c : Call) (busy : b .pending u ≡ some c) (unplaced : T (not (g .placed u))) (m : ℕ) (begun : c .start .at < m) (lasts : m ≤ c .last) (firm≤ : firm (cell-of c) ≤ m)
+      (says : reply (g .cells (cell-of c)) (c .start .op) ≡ Yes) where
+    abbrev op : Op
+    op = c .start .op
+
+    abbrev placed⁺ : ℕ → Bool
+    placed⁺ = upd (g .placed) u true
+
+    abbrev when⁺ : ℕ → ℕ
+    when⁺ = upd (g .when) u m
+
+    abbrev pub past⁺ : ℕ → ℕ → ℕ
+    past⁺ = since past (cell-of c) m (after (g .cells (cell-of c)) op)
+
+    other : (t : ℕ) → T (g .placed t) → t ≢ u
+    other t p e = T-not (g .placed u) unplaced (subst (λ n. T (g .placed n)) e p)
+
+    joins : Joins (Entry (g .placed) (g .when) (b .pending) ms) (Entry placed⁺ when⁺ (b .pending) ms) (point c m) Yes
+    joins = record { old = old; new = new; split = split }
+      where
+        old : (e : Point) (a : Answer) → Entry (g .placed) (g .when) (b .pending) ms e a → Entry placed⁺ when⁺ (b .pending) ms e a
+        old e a (of-finished x i) = of-finished x i
+        old e a (of-pending t d h p) = let n = other t p in subst (λ j. Entry placed⁺ when⁺ (b .pending) ms (point d j) Yes) (upd-off (g .when) u m t n) (of-pending t d h (subst T (sym (upd-off (g .placed) u true t n)) p))
+
+        new : Entry placed⁺ when⁺ (b .pending) ms (point c m) Yes
+        new = subst (λ j. Entry placed⁺ when⁺ (b .pending) ms (point c j) Yes) (upd-same (g .when) u m) (of-pending u c busy (subst T (sym (upd-same (g .placed) u true)) tt))
+
+        split : (e : Point) (a : Answer) → Entry placed⁺ when⁺ (b .pending) ms e a → ((e ≡ point c m) × (a ≡ Yes)) ⊎ Entry (g .placed) (g .when) (b .pending) ms e a
+        split e a (of-finished x i) = inr (of-finished x i)
+        split e a (of-pending t d h p) = go (either t u)
+          where
+            go : (t ≡ u) ⊎ (t ≢ u) → ((point d (when⁺ t) ≡ point c m) × (Yes ≡ Yes)) ⊎ Entry (g .placed) (g .when) (b .pending) ms (point d (when⁺ t)) Yes
+            go (inl e) = inl (ap (λ j. point d j) (upd-at (g .when) u m t e) ∙ ap (λ (d : Call). point d m) (some-inj (rw e at h) busy), refl)
+            go (inr n) = inr (subst (λ j. Entry (g .placed) (g .when) (b .pending) ms (point d j) Yes) (sym (upd-off (g .when) u m t n)) (of-pending t d h (subst T (upd-off (g .placed) u true t n) p)))
+
+    pub effect-kept : (phase : ℕ → Phase) (firm' : ℕ → ℕ) → ((j : ℕ) → (firm j ≤ firm' j) × (firm' j ≤ b .now)) → m < firm' (cell-of c) → phase (cell-of c) ≡ settled →
+        ((j w : ℕ) → phase j ≡ late w → Late (g .placed) (g .since) (b .pending) j w) →
+        Kept values (record { cells = apply (g .cells) op; placed = placed⁺; when = when⁺; phase = phase; since = g .since }) b past⁺ firm' ms
+    effect-kept phase firm' up below calm lates = record {
+      line = changed (k .line) (point c m) Yes joins (g .cells (cell-of c)) (λ n h. k .ends (cell-of c) n (omega arith)) says (λ e a i q. omega (arith, k .firmed e a i, ap firm q));
+      ends = λ j n h. ends j n h (either j (cell-of c));
+      firmed = λ e a i. firmed e a (joins .split e a i);
+      bound = λ j. up j .1;
+      marked = k .marked;
+      stands = λ t d h p. stands t d h p (either t u);
+      lates = λ j w h. let p = lates j w h in record { call = p .call; busy = p .busy; on = p .on; begun = p .begun; stepped = p .stepped; unplaced = subst (λ x. T (not x)) (sym (upd-off (g .placed) u true w (unlate j w h p))) (p .unplaced) };
     }
       where
-        e : Point
-        e = point c m
+        ends : (j n : ℕ) → firm' j ≤ n → (j ≡ cell-of c) ⊎ (j ≢ cell-of c) → past⁺ j n ≡ apply (g .cells) op j
+        ends j n h (inl e) = since-after past (cell-of c) m _ j n e (omega (arith, ap firm' e)) ∙ ap (λ i. after (g .cells i) op) (sym e) ∙ sym (apply-at (g .cells) op j e)
+        ends j n h (inr e) = since-other past (cell-of c) m _ j n e ∙ k .ends j n (omega (arith, up j .0)) ∙ sym (apply-off (g .cells) op j e)
 
-        l' : List Point
-        l' = place e v values l d
+        firmed : (e : Point) (a : Answer) → ((e ≡ point c m) × (a ≡ Yes)) ⊎ Entry (g .placed) (g .when) (b .pending) ms e a → e .moment < firm' (cell e)
+        firmed e a (inl q) = subst (λ (e : Point). e .moment < firm' (cell e)) (sym (q .0)) below
+        firmed e a (inr i) = omega (arith, k .firmed e a i, up (cell e) .0)
 
-        keep : (s : Call) (a : Answer) → Stands values l s a → Stands values l' s a
-        keep s a p = (p .0, p .1, p .2, p .3, place-replies e v values l d calm (p .0, a) (p .4))
+        stands : (t : ℕ) (d : Call) → b .pending t ≡ some d → T (placed⁺ t) → (t ≡ u) ⊎ (t ≢ u) → (d .start .at < when⁺ t) × (when⁺ t ≤ d .last)
+        stands t d h p (inl e) = subst (λ (d : Call). (d .start .at < when⁺ t) × (when⁺ t ≤ d .last)) (some-inj busy (rw e at h)) (omega (arith, upd-at (g .when) u m t e))
+        stands t d h p (inr n) = let s = k .stands t d h (subst T (upd-off (g .placed) u true t n) p) in omega (arith, upd-off (g .when) u m t n)
 
-        firmed : (x : Point) → (x ≡ e) ⊎ (x ∈ l) → x .moment < firm (cell x)
-        firmed x (inl q) = rw q low
-        firmed x (inr q) = k .firmed x q
-
-        placed : (x : Point) → (x ≡ e) ⊎ (x ∈ l) → Placed b x
-        placed x (inl q) = rw q (record { call = c; end = b .now; of-history = pending u c busy; is = refl; after-begin = begins; by-last-step = lasts })
-        placed x (inr q) = k .placed x q
-
-        stands : (t : ℕ) (s : Call) (a : Answer) → b .pending t ≡ some s → says' t ≡ some a → (t ≡ u) ⊎ (t ≢ u) → Stands values l' s a
-        stands t s a h q (inl z) =
-            let i : c ≡ s = some-inj busy (rw z at h) in
-            let r : reply v (c .start .op) ≡ a = some-inj own (rw z at q) in
-            subst (λ (s : Call). Stands values l' s a) i (e, refl, begins, lasts, subst (λ a. (e, a) ∈ replies values l') r (place-answer e v values l d))
-        stands t s a h q (inr n) = keep s a (k .stands t s a h (sym (others t n) ∙ q))
-
-        absent : (t : ℕ) (s : Call) → b .pending t ≡ some s → says' t ≡ none → (t ≡ u) ⊎ (t ≢ u) → (s .start .at ≡ c .start .at) ⊎ (s .start .at ∈ ats l) → ⊥
-        absent t s h q (inl z) i = clash (rw z at q) own
-        absent t s h q (inr n) (inl i) = n (dated .distinct t u s c h busy i)
-        absent t s h q (inr n) (inr i) = k .absent t s h (sym (others t n) ∙ q) i
-
-        lates : (j w : ℕ) → phase j ≡ late w → Late b says firm j w → Late b says' firm j w
-        lates j w h p = record { call = p .call; busy = p .busy; on = p .on; begun = p .begun; stepped = p .stepped; untold = others w (λ q. unlate j (rw q at h)) ∙ p .untold }
-
-    -- what was seen stays seen
-    pub point-seen : (old : ℕ → ℕ) → ((j : ℕ) → old j ≤ firm j) → (after v (c .start .op) ≡ v) ⊎ (old (cellOf (c .start .op)) ≤ m) →
-        (s : Begin) (w : ℕ) → Seen values l old s w → Seen values (place (point c m) v values l d) firm s w
-    point-seen old up calm s w p = record {
-      moment = p .moment;
-      after-begin = p .after-begin;
-      is-firm = omega (arith, p .is-firm, up (cellOf (s .op)));
-      at = place-at (point c m) v values l d (p .moment) (cellOf (s .op)) w (apart calm (either (cellOf (s .op)) (cellOf (c .start .op)))) (p .at);
-    }
-      where
-        apart : (after v (c .start .op) ≡ v) ⊎ (old (cellOf (c .start .op)) ≤ m) → (cellOf (s .op) ≡ cellOf (c .start .op)) ⊎ (cellOf (s .op) ≢ cellOf (c .start .op)) →
-            Apart (point c m) v (p .moment) (cellOf (s .op))
-        apart (inl h) q = inl h
-        apart (inr h) (inl q) = inr (inr (omega (arith, p .is-firm, ap old q)))
-        apart (inr h) (inr q) = inr (inl q)
+        -- a late store is on a cell that is not settled
+        unlate : (j w : ℕ) → phase j ≡ late w → Late (g .placed) (g .since) (b .pending) j w → w ≢ u
+        unlate j w h p e = settled-late (ap phase (sym (ap cell-of (some-inj busy (rw e at (p .busy))) ∙ p .on)) ∙ calm) h

@@ -1,4 +1,5 @@
--- What a machine's own proof has to give for demand 3: a forward simulation by the sequential specification, with counts and quiet tasks.
+-- What a machine's own proof has to give for demand 3: a forward simulation by the sequential specification, with counts and quiet tasks, and
+-- that the moments which the machine names are right.
 use mathlib.Core.Path.{_≡_}
 use mathlib.Core.Logic.{_≢_, Lift}
 use mathlib.Core.Bool.{Bool, true, false, not}
@@ -9,6 +10,7 @@ use Rattle.history.specs.Basics.{upd}
 use Rattle.history.specs.History.{Op, cellOf, Action, begin, step, Event, refused, begun, going, answered, Answer, Yes}
 use Rattle.history.specs.Linearization.{reply, after, apply}
 use Rattle.history.specs.Demand3.{most, mostHard, Unequal}
+use Rattle.history.specs.Moments.{before, itself, Spot, changes, Names, beside}
 
 -- WHAT THE PROOF FOLLOWS BESIDE THE MACHINE
 
@@ -18,19 +20,23 @@ pub data Phase : Type 0 where
   settled frozen : Phase
   late : (task : ℕ) → Phase
 
--- the sequential cells now; whether a task's pending swap stands in the linearization already (with yes); each cell's phase
 pub record Ghost : Type 0 where
+  -- the sequential cells now
   pub cells : ℕ → ℕ
-  pub told : ℕ → Bool
+  -- whether a task's pending swap took effect already, and at which moment
+  pub placed : ℕ → Bool
+  pub when : ℕ → ℕ
+  -- each cell's phase, and the moment when it froze
   pub phase : ℕ → Phase
+  pub since : ℕ → ℕ
 
 abbrev pub fresh : (ℕ → ℕ) → Ghost
-fresh values = record { cells = values; told = λ t. false; phase = λ k. settled }
+fresh values = record { cells = values; placed = λ t. false; when = λ t. 0; phase = λ k. settled; since = λ k. 0 }
 
--- what a task's pending call knows of its cell's past: the values that it held at some moment since the begin, at which nothing can
--- change any more; and that the begin comes before the last freezing, or that the cell is settled
+-- what a task's pending call knows of its cell's past: the value that it held after the action of a moment since the begin, at which nothing
+-- can change any more; and that the begin comes before the last freezing, or that the cell is settled
 pub record Knowledge : Type 1 where
-  pub saw : ℕ → ℕ → Type 0
+  pub saw : (task moment value : ℕ) → Type 0
   pub early : ℕ → Type 0
 
 -- what a step does to the sequential cells: nothing; its swap takes effect; its cell is frozen; its swap stored late; its cell is
@@ -40,23 +46,27 @@ pub data Move : Type 0 where
   land : (u : ℕ) → Op → Move
 
 abbrev pub inPhase : Ghost → ℕ → Phase → Ghost
-inPhase g k p = record { cells = g .cells; told = g .told; phase = upd (g .phase) k p }
+inPhase g k p = record { cells = g .cells; placed = g .placed; when = g .when; phase = upd (g .phase) k p; since = g .since }
 
-abbrev pub takesEffect : Ghost → ℕ → Op → Ghost
-takesEffect g u op = record { cells = apply (g .cells) op; told = upd (g .told) u true; phase = g .phase }
+abbrev pub freezes : Ghost → (cell moment : ℕ) → Ghost
+freezes g k n = record { cells = g .cells; placed = g .placed; when = g .when; phase = upd (g .phase) k frozen; since = upd (g .since) k n }
 
--- the step is of task t, in the operation op
-abbrev pub shift : Ghost → ℕ → Op → Move → Ghost
-shift g t op still = g
-shift g t op act = takesEffect g t op
-shift g t op freeze = inPhase g (cellOf op) frozen
-shift g t op store = inPhase g (cellOf op) (late t)
-shift g t op settle = inPhase g (cellOf op) settled
-shift g t op (land u o) = inPhase (takesEffect g u o) (cellOf op) settled
+-- task u's swap, at the moment n
+abbrev pub takesEffect : Ghost → (u : ℕ) → Op → (n : ℕ) → Ghost
+takesEffect g u op n = record { cells = apply (g .cells) op; placed = upd (g .placed) u true; when = upd (g .when) u n; phase = g .phase; since = g .since }
 
--- a call that begins stands nowhere yet
-abbrev pub untold : Ghost → ℕ → Ghost
-untold g t = record { cells = g .cells; told = upd (g .told) t false; phase = g .phase }
+-- the step is of task t, in the operation op, at the moment n
+abbrev pub shift : Ghost → (n t : ℕ) → Op → Move → Ghost
+shift g n t op still = g
+shift g n t op act = takesEffect g t op n
+shift g n t op freeze = freezes g (cellOf op) n
+shift g n t op store = inPhase g (cellOf op) (late t)
+shift g n t op settle = inPhase g (cellOf op) settled
+shift g n t op (land u o) = inPhase (takesEffect g u o (g .since (cellOf op))) (cellOf op) settled
+
+-- a call that begins has taken no effect yet
+abbrev pub unplaced : Ghost → ℕ → Ghost
+unplaced g t = record { cells = g .cells; placed = upd (g .placed) t false; when = g .when; phase = g .phase; since = g .since }
 
 -- what a machine counts of a task's pending call
 pub record Tally : Type 0 where
@@ -107,50 +117,11 @@ module _ {S : Type 0} (doing : S → ℕ → Option Tally) where
   -- when a step of task t may make a move
   abbrev pub May : S → Ghost → Knowledge → ℕ → Op → Move → Type 0
   May s g κ t op still = Unit {0}
-  May s g κ t op act = T (not (g .told t)) × (g .phase (cellOf op) ≡ settled) × (reply (g .cells (cellOf op)) op ≡ Yes)
+  May s g κ t op act = T (not (g .placed t)) × (g .phase (cellOf op) ≡ settled) × (reply (g .cells (cellOf op)) op ≡ Yes)
   May s g κ t op freeze = g .phase (cellOf op) ≡ settled
-  May s g κ t op store = T (not (g .told t)) × (g .phase (cellOf op) ≡ frozen) × κ .early t
+  May s g κ t op store = T (not (g .placed t)) × (g .phase (cellOf op) ≡ frozen) × κ .early t
   May s g κ t op settle = Unit {0}
   May s g κ t op (land u o) = (g .phase (cellOf op) ≡ late u) × ((n : Tally) × (doing s u ≡ some n) × (n .op ≡ o)) × (reply (g .cells (cellOf o)) o ≡ Yes)
-
-  -- what is known stays known while the call is pending; in a settled cell its value now is seen, and every pending call is early
-  pub record Grown (s s' : S) (g' : Ghost) (κ κ' : Knowledge) : Type 0 where
-    pub saw : (u : ℕ) (n n' : Tally) → doing s u ≡ some n → doing s' u ≡ some n' → (v : ℕ) → κ .saw u v → κ' .saw u v
-    pub early : (u : ℕ) (n n' : Tally) → doing s u ≡ some n → doing s' u ≡ some n' → κ .early u → κ' .early u
-    pub sees : (u : ℕ) (n n' : Tally) → doing s u ≡ some n → doing s' u ≡ some n' → g' .phase (cellOf (n' .op)) ≡ settled → κ' .saw u (g' .cells (cellOf (n' .op)))
-    pub fresh-early : (u : ℕ) (n' : Tally) → doing s' u ≡ some n' → g' .phase (cellOf (n' .op)) ≡ settled → κ' .early u
-
-  module _ (Inv : S → Ghost → Knowledge → Type 0) where
-    -- the invariant holds again, whatever more is known by then
-    abbrev pub Keeps : S → S → Ghost → Knowledge → Type 1
-    Keeps s s' g' κ = (κ' : Knowledge) → Grown s s' g' κ κ' → Inv s' g' κ'
-
-    pub record Moves (s s' : S) (g : Ghost) (κ : Knowledge) (t : ℕ) : Type 1 where
-      pub now : Tally
-      pub was : doing s t ≡ some now
-      pub move : Move
-      pub may : May s g κ t (now .op) move
-      pub keeps : Keeps s s' (shift g t (now .op) move) κ
-
-    -- why a call of task t, in the operation op, may answer a: its swap takes effect with this step; it did before; or it changes
-    -- nothing and saw a value for which a is the answer
-    pub data Why (g : Ghost) (κ : Knowledge) (t : ℕ) (op : Op) (a : Answer) : Move → Type 0 where
-      acts : a ≡ Yes → Why g κ t op a act
-      acted : T (g .told t) → a ≡ Yes → Why g κ t op a still
-      observes : (v : ℕ) → κ .saw t v → reply v op ≡ a → after v op ≡ v → T (not (g .told t)) → g .phase (cellOf op) ≢ late t → Why g κ t op a still
-
-    pub record Answers (s s' : S) (g : Ghost) (κ : Knowledge) (t : ℕ) (a : Answer) : Type 1 where
-      pub moves : Moves s s' g κ t
-      pub why : Why g κ t (moves .now .op) a (moves .move)
-
-    abbrev pub Forward : S → Ghost → Knowledge → Action → S → Event → Type 1
-    Forward s g κ a s' (refused r) = Unit {1}
-    Forward s g κ (begin t op) s' begun = Keeps s s' (untold g t) κ
-    Forward s g κ (begin t op) s' (going x) = Lift {0, 1} ⊥
-    Forward s g κ (begin t op) s' (answered x a n h) = Lift {0, 1} ⊥
-    Forward s g κ (step t) s' begun = Lift {0, 1} ⊥
-    Forward s g κ (step t) s' (going x) = Moves s s' g κ t
-    Forward s g κ (step t) s' (answered x a n h) = Answers s s' g κ t a
 
   -- QUIET TASKS: those that meet no contention
 
@@ -176,16 +147,78 @@ module _ {S : Type 0} (doing : S → ℕ → Option Tally) where
     Quietly s (step t) s' (going x) = QuietSteps s s' t x
     Quietly s (step t) s' (answered x a n h) = QuietSteps s s' t x
 
--- ALL OF IT
+-- never before an action, and who changes its cell at the action itself
+pub record Sided (op : Op) (a : Answer) (p : Spot) : Type 0 where
+  pub never-before : p .side ≢ before
+  pub change-itself : T (changes op a) → p .side ≡ itself
 
-pub record Simulation {S : Type 0} (machine : S → Action → S × Event) (start : S) (active : S → ℕ → Type 0) (size : ℕ) (values : ℕ → ℕ) : Type 1 where
+-- of a machine's state with its notes, by the number of the next action and the moments that are named
+module _ {X : Type 0} (doing : X → ℕ → Option Tally) (clock : X → ℕ) (names : Names X) where
+  -- what is known stays known while the call is pending; in a settled cell its value after the action is seen, and every pending call is early
+  pub record Grown (x x' : X) (g' : Ghost) (κ κ' : Knowledge) : Type 0 where
+    pub saw : (u : ℕ) (n n' : Tally) → doing x u ≡ some n → doing x' u ≡ some n' → (m v : ℕ) → κ .saw u m v → κ' .saw u m v
+    pub early : (u : ℕ) (n n' : Tally) → doing x u ≡ some n → doing x' u ≡ some n' → κ .early u → κ' .early u
+    pub sees : (u : ℕ) (n n' : Tally) → doing x u ≡ some n → doing x' u ≡ some n' → g' .phase (cellOf (n' .op)) ≡ settled → κ' .saw u (clock x) (g' .cells (cellOf (n' .op)))
+    pub fresh-early : (u : ℕ) (n' : Tally) → doing x' u ≡ some n' → g' .phase (cellOf (n' .op)) ≡ settled → κ' .early u
+
+  -- why a call of task t, in the operation op, may answer a and be placed at m: its swap takes effect with this step; it did before; or it
+  -- changes nothing and saw a value for which a is the answer
+  pub data Why (x : X) (g : Ghost) (κ : Knowledge) (t : ℕ) (op : Op) (a : Answer) (m : ℕ) : Move → Type 0 where
+    acts : a ≡ Yes → m ≡ clock x → Why x g κ t op a m act
+    acted : T (g .placed t) → a ≡ Yes → m ≡ g .when t → Why x g κ t op a m still
+    observes : (v : ℕ) → κ .saw t m v → reply v op ≡ a → after v op ≡ v → T (not (g .placed t)) → g .phase (cellOf op) ≢ late t → Why x g κ t op a m still
+
+  module _ (Inv : X → Ghost → Knowledge → Type 0) where
+    -- the invariant holds again, whatever more is known by then
+    abbrev pub Keeps : X → X → Ghost → Knowledge → Type 1
+    Keeps x x' g' κ = (κ' : Knowledge) → Grown x x' g' κ κ' → Inv x' g' κ'
+
+    pub record Moves (x x' : X) (g : Ghost) (κ : Knowledge) (t : ℕ) : Type 1 where
+      pub now : Tally
+      pub was : doing x t ≡ some now
+      pub move : Move
+      pub may : May doing x g κ t (now .op) move
+      pub keeps : Keeps x x' (shift g (clock x) t (now .op) move) κ
+
+    pub record Answers (x x' : X) (g : Ghost) (κ : Knowledge) (t : ℕ) (a : Answer) : Type 1 where
+      pub moves : Moves x x' g κ t
+      pub why : Why x g κ t (moves .now .op) a (names .ending x t a .moment) (moves .move)
+      pub sided : Sided (moves .now .op) a (names .ending x t a)
+
+    abbrev pub Forward : X → Ghost → Knowledge → Action → X → Event → Type 1
+    Forward x g κ a x' (refused r) = Keeps x x' g κ
+    Forward x g κ (begin t op) x' begun = Keeps x x' (unplaced g t) κ
+    Forward x g κ (begin t op) x' (going y) = Lift {0, 1} ⊥
+    Forward x g κ (begin t op) x' (answered y a n h) = Lift {0, 1} ⊥
+    Forward x g κ (step t) x' begun = Lift {0, 1} ⊥
+    Forward x g κ (step t) x' (going y) = Moves x x' g κ t
+    Forward x g κ (step t) x' (answered y a n h) = Answers x x' g κ t a
+
+-- a pending swap that took effect is named, with its moment
+pub record Named (names : Option Spot) (when : ℕ) : Type 0 where
+  pub spot : Spot
+  pub is : names ≡ some spot
+  pub moment : spot .moment ≡ when
+  pub side : spot .side ≡ itself
+
+-- ALL OF IT, of a machine with notes beside it
+
+pub record Simulation {S N : Type 0} (machine : S → Action → S × Event) (note : N → S → Action → Event → N) (names : Names (S × N)) (start : S) (blank : N)
+    (active : S → ℕ → Type 0) (tasks size : ℕ) (values : ℕ → ℕ) : Type 1 where
   pub doing : S → ℕ → Option Tally
-  pub Inv : S → Ghost → Knowledge → Type 0
+  pub clock : S × N → ℕ
+  pub Inv : S × N → Ghost → Knowledge → Type 0
   pub Quiet : S → ℕ → Type 0
   pub idle : (t : ℕ) → doing start t ≡ none
-  pub opened : (κ : Knowledge) → Inv start (fresh values) κ
-  pub grow : (s : S) (g : Ghost) (κ κ' : Knowledge) → Inv s g κ → Grown doing s s g κ κ' → Inv s g κ'
-  pub within : (s : S) (g : Ghost) (κ : Knowledge) → Inv s g κ → (t : ℕ) (n : Tally) → doing s t ≡ some n → (n .steps < most (n .op)) × (n .hard ≤ mostHard (n .op))
-  pub follows : (s : S) (g : Ghost) (κ : Knowledge) → Inv s g κ → (a : Action) → Follows doing size s a (machine s a .0) (machine s a .1)
-  pub forward : (s : S) (g : Ghost) (κ : Knowledge) → Inv s g κ → (a : Action) → Forward doing Inv s g κ a (machine s a .0) (machine s a .1)
-  pub quietly : (s : S) (g : Ghost) (κ : Knowledge) → Inv s g κ → (a : Action) → Quietly doing active Quiet s a (machine s a .0) (machine s a .1)
+  pub first-moment : clock (start, blank) ≡ 0
+  pub next-moment : (x : S × N) (a : Action) → clock (beside machine note x a .0) ≡ suc (clock x)
+  pub opened : (κ : Knowledge) → Inv (start, blank) (fresh values) κ
+  pub within : (x : S × N) (g : Ghost) (κ : Knowledge) → Inv x g κ → (t : ℕ) (n : Tally) → doing (x .0) t ≡ some n → (n .steps < most (n .op)) × (n .hard ≤ mostHard (n .op))
+  pub follows : (x : S × N) (g : Ghost) (κ : Knowledge) → Inv x g κ → (a : Action) → Follows doing size (x .0) a (machine (x .0) a .0) (machine (x .0) a .1)
+  pub forward : (x : S × N) (g : Ghost) (κ : Knowledge) → Inv x g κ → (a : Action) →
+      Forward (λ (y : S × N). doing (y .0)) clock names Inv x g κ a (beside machine note x a .0) (machine (x .0) a .1)
+  pub quietly : (x : S × N) (g : Ghost) (κ : Knowledge) → Inv x g κ → (a : Action) → Quietly doing active Quiet (x .0) a (machine (x .0) a .0) (machine (x .0) a .1)
+  -- where the pending swaps of the tasks are named
+  pub low : (x : S × N) (g : Ghost) (κ : Knowledge) → Inv x g κ → (t : ℕ) (n : Tally) → doing (x .0) t ≡ some n → t < tasks
+  pub listed : (x : S × N) (g : Ghost) (κ : Knowledge) → Inv x g κ → (t : ℕ) (n : Tally) → doing (x .0) t ≡ some n → T (g .placed t) → Named (names .standing x t) (g .when t)
+  pub unlisted : (x : S × N) (g : Ghost) (κ : Knowledge) → Inv x g κ → (t : ℕ) (n : Tally) → doing (x .0) t ≡ some n → T (not (g .placed t)) → names .standing x t ≡ none

@@ -10,6 +10,7 @@ pub mod Refines
 pub mod LoneRead
 pub mod Demand3
 pub mod Traces
+pub mod Moments
 pub mod Counts
 pub mod NoNone
 pub mod Reaching

@@ -118,10 +118,14 @@ module _ {n v : ℕ} {R : Links} {s : State} {p : List ℕ} {w : World} (a : Agr
         records = a .records;
       }
 
+  -- two blocks of a cell are one in the pool as they are in the figure
+  pub one-block : (k i b i′ b′ : ℕ) → R k i b → R k i′ b′ → eqb b b′ ≡ eqb i i′
+  one-block k i b i′ b′ r r′ = go (eqb i i′) refl
+    where
+      go : (x : Bool) → eqb i i′ ≡ x → eqb b b′ ≡ x
+      go true e = eq-eqb _ _ (a .blocks .back k i′ b b′ (rw (eqb-true i i′ e) at r) r′)
+      go false e = ne-eqb _ _ (λ (g : b ≡ b′). eqb-false _ _ e (a .blocks .same k i b′ k i′ (rw g at r) r′ .1))
+
   -- both cells name the block that the CAS expects, or neither
   pub names : (k i b : ℕ) → k < v → R k i b → eqb (current s k) b ≡ eqb (w .cell k .current) i
-  names k i b h r = go (eqb (w .cell k .current) i) refl
-    where
-      go : (x : Bool) → eqb (w .cell k .current) i ≡ x → eqb (current s k) b ≡ x
-      go true e = eq-eqb _ _ (a .blocks .back k i (current s k) b (rw (eqb-true (w .cell k .current) i e) at (a .current k h)) r)
-      go false e = ne-eqb _ _ (λ (g : current s k ≡ b). eqb-false _ _ e (a .blocks .same k (w .cell k .current) b k i (rw g at (a .current k h)) r .1))
+  names k i b h r = one-block k (w .cell k .current) (current s k) i b (a .current k h) r

@@ -22,15 +22,14 @@ use Rattle.cells.specs.Step.{current}
 use Rattle.cells.specs.Look.{looked, shown, shownValue}
 use Rattle.history.specs.Basics.{_∈_}
 use Rattle.history.specs.History.{Op, Action, begin, step, Answer, Value, Yes, No, Event, refused, begun, going, answered, history, run, Call, Calls, Finished, noCalls, advanced, closed, enter, enterAll, callsOf}
-use Rattle.history.proofs.Simulation.{Knowledge}
 use Rattle.figure.specs.Figure.{Cell, World, After, perform, answerOf, outcomeOf, ran, beginEvent, stepEvent, tried, figure, opening}
 use Rattle.figure.specs.Figure
 use Rattle.figure.proofs.Records.{Begun, starts, begin-cases, Stepped, runs, step-cases, with-first}
 use Rattle.figure.proofs.Invariant as Invariant
-use Rattle.figure.proofs.Invariant.{View}
+use Rattle.figure.proofs.Invariant.{View, Knowledge}
 use Rattle.figure.proofs.Steps.{Change, Reason, acts, acted, reads, declines, Out, by-test}
 use Rattle.figure.proofs.Views.{view}
-use Rattle.figure.proofs.Worlds.{out}
+use Rattle.figure.proofs.Worlds.{known, κ⁺, out}
 use Rattle.figure.proofs.Reachable.{trivial, Reachable, next-reachable, opening-reachable, reachable}
 use Rattle.refinement.specs.Pool.{Pool, pool}
 use Rattle.refinement.specs.Terms.{start}
@@ -61,10 +60,10 @@ value-proper v n e = n (cc)
 -- a call answers yes, no, or a value that it saw and that is not none
 reason-proper : (s : View) (κ : Knowledge) (t : ℕ) (a : Code.Answer) {x : Change} → Reason s κ t a x → Proper (answerOf a)
 unfolding Invariant.none
-reason-proper s κ t a (acts e) = rw e yes-proper
-reason-proper s κ t a (acted told swaps e) = rw e yes-proper
-reason-proper s κ t a (declines v saw other swaps e told late) = rw e no-proper
-reason-proper s κ t a (reads v saw other swaps e told late) = let P : Code.Answer → Type 0 = λ a. Proper (answerOf a) in
+reason-proper s κ t a (acts e from) = rw e yes-proper
+reason-proper s κ t a (acted placed swaps e from) = rw e yes-proper
+reason-proper s κ t a (declines v saw other swaps e placed late) = rw e no-proper
+reason-proper s κ t a (reads v saw other swaps e placed late) = let P : Code.Answer → Type 0 = λ a. Proper (answerOf a) in
     rw e (by-test P (eqb (s .task t .kind) 2) _ _ (λ k. by-test P (eqb v (s .task t .expected)) _ _ (λ y. yes-proper) (λ y. no-proper)) (λ k. value-proper v other))
 
 module _ (v : ℕ) (w : World) (i : Reachable v w) where
@@ -75,11 +74,11 @@ module _ (v : ℕ) (w : World) (i : Reachable v w) where
   step-proper : (t : ℕ) (did : List Line) {f : After} → Stepped w t did f → ProperEvent (stepEvent (tried t (w .records t)) (f .outcome))
   unfolding ran
   step-proper t did (Stepped.refuses n e) = tt
-  step-proper t did (runs l o) = let m = perform (w .cell (w .records t .cell)) (accessOf t (w .records t)) in go (m .cell) (nextOf t (w .records t) (m .value)) (out w (i .ghost) trivial (i .holds .good) t did o)
+  step-proper t did (runs l o) = let m = perform (w .cell (w .records t .cell)) (accessOf t (w .records t)) in go (m .cell) (nextOf t (w .records t) (m .value)) (out w (i .notes) (i .ghost) trivial (i .holds .good) t did o)
     where
-      go : (c : Cell) (n : Next) → Out (view w (i .ghost) (w .records t .cell)) trivial t c n → ProperEvent (stepEvent (tried t (w .records t)) (outcomeOf n))
+      go : (c : Cell) (n : Next) → Out (view w (i .ghost) (w .records t .cell)) (known (i .notes) trivial) (κ⁺ w (i .notes) (i .ghost) trivial (i .holds .good) t did o) t c n → ProperEvent (stepEvent (tried t (w .records t)) (outcomeOf n))
       go c (Go q) x = tt
-      go c (Done f) x = reason-proper (view w (i .ghost) (w .records t .cell)) trivial t (f .answer) (x .1)
+      go c (Done f) x = reason-proper (view w (i .ghost) (w .records t .cell)) (known (i .notes) trivial) t (f .answer) (x .1)
 
   act-proper : (a : Action) → ProperEvent (figure w a .1)
   act-proper (begin t op) = begin-proper t op (begin-cases w t op)

@@ -39,7 +39,7 @@ module _ {n v : ℕ} {x : Pool} {w : World} (g : Together n v x w) where
   same-event a = ap (λ (h : List (Action × Event)). getD h 0 (a, begun) .1) (histories (a ∷ []) g)
 
   -- the step of a task that is not there is refused, whatever its record
-  no-task : (t : ℕ) → n ≤ t → figure w (step t) .1 ≡ refused 7
+  pub no-task : (t : ℕ) → n ≤ t → figure w (step t) .1 ≡ refused 7
   unfolding stepped
   no-task t h = rw (g .agree .sizes .tasks-too, le-ltb t n h)
 

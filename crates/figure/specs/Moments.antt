@@ -1,0 +1,160 @@
+-- Where each call of figure 2 takes effect: the source's linearization points (document 003, section 5, R1 to C6), and beside the machine the
+-- actions that they look back at. The same for any machine that runs the figure's lines: it has only to say what a task sees.
+use mathlib.Core.Bool.{Bool, false, not, _&&_, _||_, cond}
+use mathlib.Core.Option.{Option, none, some}
+use mathlib.Core.List.{List, [], _∷_}
+use Prim.Native.Nat.{ℕ, suc}
+use lib.Dec.{eqb}
+use Rattle.lines.specs.Basics.{within}
+use Rattle.lines.specs.declared.Record.{Record}
+use Rattle.lines.specs.declared.Field.{Field}
+use Rattle.lines.specs.declared.Field.the-variants.{C, D}
+use Rattle.lines.specs.Record.{noValue, isIdle}
+use Rattle.questions.specs.Questions.{holds}
+use Rattle.history.specs.History.{Action, begin, step, Answer, Value, Yes, No, Event, refused, begun, going, answered}
+use Rattle.history.specs.Moments.{itself, before, after, Rule, R1, R2, C1, C2, C3, C4, C5, C6, Spot, Mark, Names, beside, linearized}
+use Rattle.figure.specs.Figure.{World, wordOf, figure, opening}
+
+-- WHAT A TASK SEES BEFORE ITS STEP
+
+abbrev pub holdsBlock : Record → Bool
+holdsBlock r = not (isIdle r) && holds r
+
+pub record Sight : Type 0 where
+  -- the number of its next line
+  pub line : ℕ
+  -- its line in the figure's list, where lines 13, 25 and 28 run the deciding part
+  pub figureLine : ℕ
+  -- its call was begun as a swap
+  pub swaps : Bool
+  -- it holds a block, and that is active; not decided; current; decided as the expected value; as the new one
+  pub active : Bool
+  pub undecided : Bool
+  pub current : Bool
+  pub asExpected : Bool
+  pub asNew : Bool
+  -- who holds this block
+  pub holders : ℕ → Bool
+
+-- of all records, each cell's current block, and the words of its blocks
+abbrev pub sight : (ℕ → Record) → (ℕ → ℕ) → (ℕ → ℕ → Field → ℕ) → ℕ → Sight
+sight records current words t = let r = records t in let h = holdsBlock r in let word = words (r .cell) (r .held) in record {
+  line = r .line;
+  figureLine = cond (within (r .line) 1 3) (r .wanted) (r .line);
+  swaps = eqb (r .kind) 2;
+  active = h && eqb (word C) 0;
+  undecided = h && eqb (word D) noValue;
+  current = h && eqb (current (r .cell)) (r .held);
+  asExpected = h && eqb (word D) (r .expected);
+  asNew = h && eqb (word D) (r .new);
+  holders = λ u. h && (holdsBlock (records u) && (eqb (records u .cell) (r .cell) && eqb (records u .held) (r .held)));
+}
+
+-- WHAT IS NOTED
+
+-- the next action's number, and of each task's call o, with the block o.b that it holds, the actions that
+pub record Notes : Type 0 where
+  pub now : ℕ
+  -- was o.11 or o.20
+  pub loaded : ℕ → ℕ
+  -- was o.23; and whether o.b was active then
+  pub stored : ℕ → ℕ
+  pub storedActive : ℕ → Bool
+  -- made o.b inactive, the source's δC(o.b)
+  pub inactive : ℕ → ℕ
+  -- decided o.b, the source's δD(o.b); o.10 or o.15, if it was decided then
+  pub decided : ℕ → ℕ
+  -- replaced o.b
+  pub replaced : ℕ → ℕ
+
+abbrev pub noNotes : Notes
+noNotes = record { now = 0; loaded = λ t. 0; stored = λ t. 0; storedActive = λ t. false; inactive = λ t. 0; decided = λ t. 0; replaced = λ t. 0 }
+
+abbrev pub nothingNoted : Notes → Notes
+nothingNoted o = record { now = suc (o .now); loaded = o .loaded; stored = o .stored; storedActive = o .storedActive; inactive = o .inactive; decided = o .decided; replaced = o .replaced }
+
+-- a, of those for whom it is noted
+abbrev pub noteFor : {A : Type 0} → (ℕ → Bool) → A → (ℕ → A) → ℕ → A
+noteFor who a old u = cond (who u) a (old u)
+
+-- at a step of task t that saw x
+abbrev pub noted : Notes → ℕ → Sight → Notes
+noted o t x = let at : ℕ → Bool = λ n. eqb (x .line) n in let own : ℕ → Bool = λ u. eqb u t in record {
+  now = suc (o .now);
+  loaded = noteFor (λ u. (at 11 || at 20) && own u) (o .now) (o .loaded);
+  stored = noteFor (λ u. at 23 && own u) (o .now) (o .stored);
+  storedActive = noteFor (λ u. at 23 && own u) (x .active) (o .storedActive);
+  inactive = noteFor (λ u. (at 27 && x .active) && x .holders u) (o .now) (o .inactive);
+  decided = noteFor (λ u. ((at 10 || at 15) && own u) || ((at 2 && x .undecided) && x .holders u)) (o .now) (o .decided);
+  replaced = noteFor (λ u. (at 30 && x .current) && x .holders u) (o .now) (o .replaced);
+}
+
+-- THE RULES
+
+abbrev pub at : ℕ → Rule → Spot
+at n r = record { moment = n; side = itself; rule = r }
+
+-- C6: who installs its block takes effect there. Who fails: o.b was replaced; before that, if another value than the expected was decided,
+-- else after it.
+abbrev pub lineC6 : Notes → ℕ → Sight → Answer → Spot
+lineC6 o t x (Value v) = at (o .now) C6
+lineC6 o t x Yes = at (o .now) C6
+lineC6 o t x No = record { moment = o .replaced t; side = cond (x .asExpected) after before; rule = C6 }
+
+-- where C3 is linearized: at o.23 if o.b was active then, else at δC(o.b)
+abbrev pub effect : Notes → ℕ → ℕ
+effect o t = cond (o .storedActive t) (o .stored t) (o .inactive t)
+
+-- by the line of the figure's list from which the call returns. C1: a swap of equal values is linearized where its read is.
+abbrev pub rules : Notes → ℕ → Sight → Answer → List (ℕ × Spot)
+rules o t x a =
+    (12, at (o .loaded t) (cond (x .swaps) C1 R1)) ∷
+    (13, at (o .decided t) (cond (x .swaps) C1 R2)) ∷
+    (22, at (o .loaded t) C2) ∷
+    (25, at (effect o t) C3) ∷
+    (26, at (o .stored t) C4) ∷
+    (28, at (o .decided t) C5) ∷
+    (30, lineC6 o t x a) ∷ []
+
+-- the first clause stands for every other line: no call returns from one
+abbrev pub ruleAt : ℕ → List (ℕ × Spot) → Spot
+ruleAt n [] = at 0 R1
+ruleAt n (p ∷ l) = cond (eqb n (p .0)) (p .1) (ruleAt n l)
+
+abbrev pub ruled : Notes → ℕ → Sight → Answer → Spot
+ruled o t x a = ruleAt (x .figureLine) (rules o t x a)
+
+-- PENDING SWAPS: one that has stored, so at line 24, 25 or 26 (who went on to 28 found another value decided). It is listed if its block was
+-- active then; or if not, and its block's decision is its new value.
+abbrev pub stands : Notes → ℕ → Sight → Option Spot
+stands o t x = cond (within (x .figureLine) 24 26)
+    (cond (o .storedActive t) (some (at (o .stored t) C4)) (cond (x .asNew) (some (at (o .inactive t) C3)) none)) none
+
+-- BESIDE A MACHINE, by what its tasks see
+
+-- refused actions and begins note nothing
+abbrev pub noteStep : Event → Notes → ℕ → Sight → Notes
+noteStep (refused r) o t x = nothingNoted o
+noteStep begun o t x = nothingNoted o
+noteStep (going y) o t x = noted o t x
+noteStep (answered y a n h) o t x = noted o t x
+
+module _ {S : Type 0} (machine : S → Action → S × Event) (see : S → ℕ → Sight) where
+  abbrev pub note : Notes → S → Action → Event → Notes
+  note o s (begin t op) e = nothingNoted o
+  note o s (step t) e = noteStep e o t (see s t)
+
+  abbrev pub noting : S × Notes → Action → (S × Notes) × Event
+  noting = beside machine note
+
+  abbrev pub names : Names (S × Notes)
+  names = record { ending = λ x t a. ruled (x .1) t (see (x .0) t) a; standing = λ x t. stands (x .1) t (see (x .0) t) }
+
+-- THE FIGURE
+
+abbrev pub sees : World → ℕ → Sight
+sees w t = sight (w .records) (λ k. w .cell k .current) (λ k. wordOf (w .cell k)) t
+
+-- the marks of a list of actions, from an opening
+abbrev pub moments : (tasks cells : ℕ) → List ℕ → List Action → List Mark
+moments n v vs l = linearized (noting figure sees) (names figure sees) n (opening n v vs, noNotes) l
