@@ -5,3 +5,5 @@ pub mod Step
 pub mod Lent
 pub mod Look
 pub mod Turn
+pub mod Events
+pub mod Machine

@@ -21,7 +21,8 @@ use Rattle.history.specs.Moments.{before, after, C3, C4, Rule, Spot, changes}
 use Rattle.history.proofs.Basics.{either, upd-at, upd-same, upd-off, upd-cases}
 use Rattle.history.proofs.Simulation as Sim
 use Rattle.history.proofs.Simulation.{Phase, settled, frozen, late, Ghost, unplaced, Tally, Why, Sided, Named}
-use Rattle.figure.specs.Figure.{Cell, World, withRecord, recordAfter, perform, figure, answerOf}
+use Rattle.figure.specs.Figure.{Cell, World, withRecord, recordAfter, perform, figure}
+use Rattle.cells.specs.Events.{answerOf}
 use Rattle.figure.specs.Moments.{Notes, nothingNoted, noted, Sight, holdsBlock, sees, names, at, effect, lineC6, rules, ruleAt, ruled, stands}
 use Rattle.figure.proofs.LineLaws.{both, every, every-line, lines, same, same-is, extends, Leads, goes, done}
 use Rattle.figure.proofs.LineLaws as Laws

@@ -4,15 +4,17 @@ use mathlib.Core.List.{List, [], _∷_, _++_}
 use Prim.Native.Nat.{ℕ}
 use lib.ListN.{replicate}
 use Rattle.history.specs.Basics.{upd}
-use Rattle.history.specs.History.{Op, swap, Action, begin, step, Yes, No, Event, refused, begun, going, answered, history}
+use Rattle.history.specs.History.{Op, swap, aSwap, Action, begin, step, Answer, Yes, No, Event, refused, accepted, answered, history}
 use Rattle.figure.specs.Figure.{opening, ran, stepped, begins, figure}
 
 abbrev ends : List (Action × Event) → List Event
 ends [] = []
 ends ((a, refused r) ∷ h) = refused r ∷ ends h
-ends ((a, begun) ∷ h) = ends h
-ends ((a, going x) ∷ h) = ends h
-ends ((a, answered x v n y) ∷ h) = answered x v n y ∷ ends h
+ends ((a, accepted x) ∷ h) = ends h
+ends ((a, answered x r) ∷ h) = answered x r ∷ ends h
+
+abbrev swapped : (tried : ℕ) → Answer → (steps hard : ℕ) → Event
+swapped x a n h = answered x (record { kind = aSwap; cell = 0; answer = a; steps = n; hard = h })
 
 -- two tasks and a cell that holds 5
 abbrev five : List Action → List Event
@@ -28,21 +30,21 @@ meeting = begin 0 (swap 0 5 7) ∷ begin 1 (swap 0 5 9) ∷ steps 2 0 ++ steps 7
 abbrev alone : Op → ℕ → List Action
 alone op n = begin 0 op ∷ steps n 0
 
-pub p5 : five (alone (swap 0 5 5) 3) ≡ answered 0 Yes 3 0 ∷ []
+pub p5 : five (alone (swap 0 5 5) 3) ≡ swapped 0 Yes 3 0 ∷ []
 unfolding upd ran stepped begins
 p5 = refl
 
-pub p6 : five (alone (swap 0 4 6) 8) ≡ answered 0 No 8 0 ∷ []
+pub p6 : five (alone (swap 0 4 6) 8) ≡ swapped 0 No 8 0 ∷ []
 unfolding upd ran stepped begins
 p6 = refl
 
 -- the inactive block is replaced by the swap of 9 to 4, and the new one is active: the next swap attempts no hardware CAS
 pub p9 : five (meeting ++ steps 2 0 ++ steps 5 1 ++ steps 3 0 ++ alone (swap 0 9 4) 9 ++ alone (swap 0 4 6) 10) ≡
-    answered 0 Yes 12 1 ∷ answered 0 No 7 1 ∷ answered 1 Yes 9 2 ∷ answered 0 Yes 10 0 ∷ []
+    swapped 0 Yes 12 1 ∷ swapped 0 No 7 1 ∷ swapped 1 Yes 9 2 ∷ swapped 0 Yes 10 0 ∷ []
 unfolding upd ran stepped begins
 p9 = refl
 
 -- task 1 replaces the block; task 0's hardware CAS of it then fails
-pub p10 : five (meeting ++ steps 5 0 ++ steps 10 1 ++ steps 2 0) ≡ answered 1 Yes 17 3 ∷ answered 1 No 9 2 ∷ []
+pub p10 : five (meeting ++ steps 5 0 ++ steps 10 1 ++ steps 2 0) ≡ swapped 1 Yes 17 3 ∷ swapped 1 No 9 2 ∷ []
 unfolding upd ran stepped begins
 p10 = refl

@@ -14,7 +14,7 @@ use Rattle.questions.specs.Questions.{ofKind, reads, swaps, lineFit}
 use Rattle.history.specs.History.{Op, read, swap, cellOf, Yes, No}
 use Rattle.history.specs.Linearization.{reply, after, apply}
 use Rattle.history.specs.Demand3.{Unequal}
-use Rattle.figure.specs.Figure.{answerOf}
+use Rattle.cells.specs.Events.{answerOf}
 use Rattle.figure.proofs.LineLaws.{every-line, imp}
 use Rattle.figure.proofs.Tallies.{opOf, tally, tallyOf}
 use Rattle.figure.proofs.Classes.{busy, swapping, are-apart}

@@ -19,7 +19,8 @@ use Rattle.history.specs.History.{Op, read, swap, cellOf}
 use Rattle.history.specs.Demand3.{Unequal}
 use Rattle.history.proofs.Basics.{either, upd-at, upd-same, upd-off}
 use Rattle.history.proofs.Simulation.{Ghost, Tally, QuietStarts, QuietSteps, Free}
-use Rattle.figure.specs.Figure.{Cell, World, withRecord, recordAfter, perform, tried, active}
+use Rattle.figure.specs.Figure.{Cell, World, withRecord, recordAfter, perform, clear}
+use Rattle.cells.specs.Events.{tried}
 use Rattle.figure.proofs.LineLaws.{Leads, goes, done}
 use Rattle.figure.proofs.Records.{Pending, OnPath, AllOnPath, Accepted, firstOf, led}
 use Rattle.figure.proofs.Tallies.{opOf, tally, tallyOf, doing}
@@ -131,7 +132,7 @@ module _ (w : World) (g : Ghost) (κ : Knowledge) (G : Good w g κ) (marks : (k 
           elsewhere (inl x) = inl (λ y. e (sym y ∙ x))
           elsewhere (inr x) = inr x
 
-  pub step-quietly : QuietSteps doing active QuietIn w w′ t (tried t q)
+  pub step-quietly : QuietSteps doing clear QuietIn w w′ t (tried t q)
   step-quietly = record {
     untried = λ z. subst (λ (p : Record). hardware (accessAt (lineOf p) t p) ≡ 0) here (untried (w .cell k) (on (w .records) k) t z);
     kept = λ u a d z. go u a d z (either u t);
@@ -185,10 +186,10 @@ module _ (w : World) (g : Ghost) (κ : Knowledge) (G : Good w g κ) (marks : (k 
       let y = lies-in swapping busy tt (lineOf (w .records u)) b′ in
       (busy-doing (w .records u) y, is-unequal (w .records u) (pending-at w (G .on-path) u y .1 .line) b′, cell-of (w .records u) ∙ e)
 
-  pub begin-quietly : QuietStarts doing active QuietIn w v′ t op
+  pub begin-quietly : QuietStarts doing clear QuietIn w v′ t op
   begin-quietly = record { new = new; others = others }
     where
-      new : active w (cellOf op) → Free doing w (cellOf op) → QuietIn v′ t
+      new : clear w (cellOf op) → Free doing w (cellOf op) → QuietIn v′ t
       new c free = rw (upd-same (w .records) t (firstOf op), its-cell op, on-its-cell) (first-quiet op)
         where
           f : ℕ → Record

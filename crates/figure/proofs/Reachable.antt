@@ -4,7 +4,7 @@ use mathlib.Core.List.{List, [], _∷_}
 use Prim.Native.Nat.{ℕ}
 use lib.ListN.{getD}
 use Rattle.lines.specs.Record.{noValue}
-use Rattle.history.specs.History.{Action, begin, step, Event, refused, begun, going, answered, run}
+use Rattle.history.specs.History.{Action, begin, step, Event, refused, accepted, answered, run}
 use Rattle.history.proofs.Simulation.{Ghost, Knowledge, Grown, Forward, Follows}
 use Rattle.history.proofs.Simulation as Sim
 use Rattle.figure.specs.Figure.{World, opening, figure}
@@ -42,13 +42,11 @@ module _ (v : ℕ) (w : World) (i : Reachable v w) where
 
   after : (a : Action) (e : Event) (w′ : World) (notes : Notes) → Forward doingIn clock (names figure sees) Inv x g trivial a (w′, notes) e → Follows doing (w .cells) w a w′ e → Reachable v w′
   after (begin t op) (refused n) w′ notes f s = keeps w′ notes _ f
-  after (begin t op) begun w′ notes f s = keeps w′ notes _ f
-  after (begin t op) (going y) w′ notes f s = absurd s
-  after (begin t op) (answered y a n h) w′ notes f s = absurd s
+  after (begin t op) (accepted y) w′ notes f s = keeps w′ notes _ f
+  after (begin t op) (answered y r) w′ notes f s = absurd s
   after (step t) (refused n) w′ notes f s = keeps w′ notes _ f
-  after (step t) begun w′ notes f s = absurd s
-  after (step t) (going y) w′ notes f s = keeps w′ notes _ (f .keeps)
-  after (step t) (answered y a n h) w′ notes f s = keeps w′ notes _ (f .moves .keeps)
+  after (step t) (accepted y) w′ notes f s = keeps w′ notes _ (f .keeps)
+  after (step t) (answered y r) w′ notes f s = keeps w′ notes _ (f .moves .keeps)
 
   pub next-reachable : (a : Action) → Reachable v (figure w a .0)
   next-reachable a = after a (figure w a .1) (figure w a .0) _ (forward (i .tasks) v w (i .notes) g trivial (i .holds) a) (follows w (i .holds .good .on-path) a)

@@ -19,7 +19,8 @@ use Rattle.lines.specs.Record.{firstRead, firstSwap}
 use Rattle.history.specs.Basics.{upd, _∈_}
 use Rattle.history.specs.History.{Op, read, swap, cellOf, Action, begin, step, run}
 use Rattle.history.proofs.Basics.{either, upd-at, upd-off, upd-cases}
-use Rattle.figure.specs.Figure.{Cell, World, withRecord, withBoth, After, leaving, unless, recordAfter, outcomeOf, ran, stepped, begins, opening, figure, perform, beginEvent, stepEvent, tried}
+use Rattle.figure.specs.Figure.{Cell, World, withRecord, withBoth, After, leaving, unless, recordAfter, outcomeOf, ran, stepped, begins, opening, figure, perform}
+use Rattle.cells.specs.Events.{eventOf, tried}
 use Rattle.figure.specs.Paths.{paths, count, Traced, Trace, didLine, enterLine, traces}
 use Rattle.figure.specs.Paths as Paths
 use Rattle.figure.proofs.LineLaws.{every, every-in, every-line, both, imp, lines, same, before, readPaths, endings, extends-in, hardware-alike, Leads, goes, done, leads}
@@ -199,7 +200,7 @@ abbrev Begins : Op → Record → Type 0
 Begins op q = (k : ℕ) → op ≡ read k → (q ≡ idle) ⊎ (q .kind ≡ 1)
 
 abbrev pub CompleteCall : Traced → Type 0
-CompleteCall x = Complete ((k : ℕ) × (x .op ≡ read k)) (x .lines) (x .steps) (x .hard)
+CompleteCall x = Complete ((k : ℕ) × (x .op ≡ read k)) (x .lines) (x .report .steps) (x .report .hard)
 
 -- a trace of the figure, now w, whose calls keep to the paths: each task with the lines that its pending call did, and every finished
 -- call complete
@@ -240,7 +241,7 @@ module _ (w : World) (r : Trace) (s : Sound w r) where
   put-begun : (t : ℕ) (q : Record) → Begins (r .op t) q → (u : ℕ) → Begins (r .op u) (upd (w .records) t q u)
   put-begun t q b u = upd-cases (Begins (r .op u)) (w .records) t q u (λ e. rw e b) (λ e. s .begun u)
 
-  begin-sound : (t : ℕ) (op : Op) {f : After} → Begun w t op f → Sound (f .world) (enterLine now r (begin t op) (beginEvent (f .outcome)))
+  begin-sound : (t : ℕ) (op : Op) {f : After} → Begun w t op f → Sound (f .world) (enterLine now r (begin t op) (eventOf 0 (f .outcome)))
   begin-sound t op (refuses n) = s
   begin-sound t op (starts a) = record {
     pending = put t (firstOf op) [] (inr (a .task, first-on-path w t op a));
@@ -264,7 +265,7 @@ module _ (w : World) (r : Trace) (s : Sound w r) where
         go (inr i) = i
 
     line-sound : (c : Cell) {n : Next} → Leads (lineOf q) (counted q (accessOf t q)) n → Then (w .cells) (r .did t) q o n
-        → Sound (withBoth w (q .cell) c t (recordAfter n)) (enterLine now r (step t) (stepEvent (tried t q) (outcomeOf n)))
+        → Sound (withBoth w (q .cell) c t (recordAfter n)) (enterLine now r (step t) (eventOf (tried t q) (outcomeOf n)))
     line-sound c (goes f) k = record { pending = put t _ (didLine now r t) (inr (m, k)); begun = put-begun t _ (λ j e. inr (is-read j e)); complete = s .complete }
     line-sound c (done f) k = record {
       pending = put t idle [] (inl (refl, refl));
@@ -272,7 +273,7 @@ module _ (w : World) (r : Trace) (s : Sound w r) where
       complete = with-first CompleteCall _ (r .done) (record { path = k .path; read-path = λ b. k .read-path (is-read (b .0) (b .1)); all-steps = k .all-steps; all-hard = k .all-hard }) (s .complete);
     }
 
-  step-sound : (t : ℕ) {f : After} → Stepped w t (r .did t) f → Sound (f .world) (enterLine now r (step t) (stepEvent (tried t (w .records t)) (f .outcome)))
+  step-sound : (t : ℕ) {f : After} → Stepped w t (r .did t) f → Sound (f .world) (enterLine now r (step t) (eventOf (tried t (w .records t)) (f .outcome)))
   unfolding ran
   step-sound t (refuses n i) = s
   step-sound t (runs m o) =

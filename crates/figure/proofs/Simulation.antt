@@ -9,17 +9,18 @@ use Rattle.lines.specs.declared.Next.{Next}
 use Rattle.lines.specs.declared.Next.the-variants.{Go, Done}
 use Rattle.lines.specs.Record.{noValue, first}
 use Rattle.lines.specs.Lines.{Line, lineOf}
-use Rattle.history.specs.History.{Op, read, swap, Action, begin, step, Event, refused, begun, going, answered, history, callsOf}
+use Rattle.history.specs.History.{Op, read, swap, Action, begin, step, Event, refused, accepted, answered, history, callsOf}
 use Rattle.history.specs.Basics.{_∈_}
 use Rattle.history.specs.Linearization.{replies, Linearizes}
-use Rattle.history.specs.Demand3.{Meets, activeAfter}
+use Rattle.history.specs.Demand3.{Meets, clearAfter}
 use Rattle.history.specs.Moments.{before, Mark, pointOf, replyOf}
 use Rattle.history.proofs.Meets.{meets}
 use Rattle.history.proofs.Moments as Placing
 use Rattle.history.proofs.Moments.{marks-linearize, marks-answers}
 use Rattle.history.proofs.Simulation.{Phase, Ghost, Knowledge, Keeps, Forward, Quietly, QuietSteps}
 use Rattle.history.proofs.Simulation as Sim
-use Rattle.figure.specs.Figure.{World, withBoth, After, recordAfter, outcomeOf, ran, opening, beginEvent, stepEvent, tried, figure, active, answerOf}
+use Rattle.figure.specs.Figure.{World, withBoth, After, recordAfter, outcomeOf, ran, opening, figure, clear}
+use Rattle.cells.specs.Events.{answerOf, eventOf, tried}
 use Rattle.figure.specs.Moments.{Notes, noNotes, nothingNoted, noted, noteStep, note, names, sees, moments}
 use Rattle.figure.proofs.Records.{Pending, AllOnPath, Begun, starts, firstOf, begin-cases, Stepped, runs, step-cases, act-on-path}
 use Rattle.figure.proofs.Tallies.{tally, doing, follows, within}
@@ -82,7 +83,7 @@ module _ (n v : ℕ) (w : World) (notes : Notes) (g : Ghost) (κ : Knowledge) (i
     }
 
     -- the line's move, and why it may answer
-    line-forward : (x : Next) → nextAfter w t ≡ x → Out s κ₀ later t (cellAfter w t) x → AllOnPath (stepAfter w t) → let e = stepEvent (tried t (w .records t)) (outcomeOf x) in
+    line-forward : (x : Next) → nextAfter w t ≡ x → Out s κ₀ later t (cellAfter w t) x → AllOnPath (stepAfter w t) → let e = eventOf (tried t (w .records t)) (outcomeOf x) in
         Forwards (step t) (withBoth w (w .records t .cell) (cellAfter w t) t (recordAfter x), noteStep e notes t (sees w t)) e
     line-forward (Go r) e x p = subst (λ (y : Next). Sim.Moves doingIn clock (names figure sees) Inv (w, notes) (withBoth w (w .records t .cell) (cellAfter w t) t (recordAfter y), notes₁) g κ t) e (moves (subst (λ (y : Next). Step s κ₀ later t (cellAfter w t) (recordAfter y)) (sym e) x) p)
     line-forward (Done f) e x p = subst (λ (y : Next). (z : Step s κ₀ later t (cellAfter w t) (recordAfter y)) × Reason s κ₀ t (f .answer) (z .change) →
@@ -97,12 +98,12 @@ module _ (n v : ℕ) (w : World) (notes : Notes) (g : Ghost) (κ : Knowledge) (i
   passing : Keeps doingIn clock (names figure sees) Inv (w, notes) (w, nothingNoted notes) g κ
   passing κ′ grown = record { size = i .size; tasks = i .tasks; good = good-grown w notes g κ κ′ (i .good) grown; dated = record { placed = i .dated .placed; since = i .dated .since }; marks = i .marks }
 
-  step-forward : (t : ℕ) (did : List Line) {f : After} → Stepped w t did f → AllOnPath (f .world) → let e = stepEvent (tried t (w .records t)) (f .outcome) in Forwards (step t) (f .world, noteStep e notes t (sees w t)) e
+  step-forward : (t : ℕ) (did : List Line) {f : After} → Stepped w t did f → AllOnPath (f .world) → let e = eventOf (tried t (w .records t)) (f .outcome) in Forwards (step t) (f .world, noteStep e notes t (sees w t)) e
   unfolding ran
   step-forward t did (Stepped.refuses x e) p = passing
   step-forward t did (runs x o) p = line-forward t did o (nextAfter w t) refl (out w notes g κ (i .good) t did o) p
 
-  begin-forward : (t : ℕ) (op : Op) {f : After} → Begun w t op f → AllOnPath (f .world) → Forwards (begin t op) (f .world, nothingNoted notes) (beginEvent (f .outcome))
+  begin-forward : (t : ℕ) (op : Op) {f : After} → Begun w t op f → AllOnPath (f .world) → Forwards (begin t op) (f .world, nothingNoted notes) (eventOf 0 (f .outcome))
   begin-forward t op (Begun.refuses x) p = passing
   begin-forward t op (starts a) p = λ κ′ grown. record {
     size = i .size;
@@ -122,20 +123,20 @@ module _ (n v : ℕ) (w : World) (notes : Notes) (g : Ghost) (κ : Knowledge) (i
 
   -- QUIET TASKS
 
-  step-quiet : (t : ℕ) (did : List Line) {f : After} → Stepped w t did f → Quietly doing active QuietIn w (step t) (f .world) (stepEvent (tried t (w .records t)) (f .outcome))
+  step-quiet : (t : ℕ) (did : List Line) {f : After} → Stepped w t did f → Quietly doing clear QuietIn w (step t) (f .world) (eventOf (tried t (w .records t)) (f .outcome))
   unfolding ran
   step-quiet t did (Stepped.refuses x e) = tt
   step-quiet t did (runs x o) = go (nextAfter w t) (step-quietly w g κ₀ (i .good) (i .marks) t did o)
     where
-      go : (y : Next) {w″ : World} → QuietSteps doing active QuietIn w w″ t (tried t (w .records t)) → Quietly doing active QuietIn w (step t) w″ (stepEvent (tried t (w .records t)) (outcomeOf y))
+      go : (y : Next) {w″ : World} → QuietSteps doing clear QuietIn w w″ t (tried t (w .records t)) → Quietly doing clear QuietIn w (step t) w″ (eventOf (tried t (w .records t)) (outcomeOf y))
       go (Go r) z = z
       go (Done f) z = z
 
-  begin-quiet : (t : ℕ) (op : Op) {f : After} → Begun w t op f → Quietly doing active QuietIn w (begin t op) (f .world) (beginEvent (f .outcome))
+  begin-quiet : (t : ℕ) (op : Op) {f : After} → Begun w t op f → Quietly doing clear QuietIn w (begin t op) (f .world) (eventOf 0 (f .outcome))
   begin-quiet t op (Begun.refuses x) = tt
   begin-quiet t op (starts a) = begin-quietly w g κ₀ (i .good) (i .marks) t op a
 
-  pub quietly : (a : Action) → Quietly doing active QuietIn w a (figure w a .0) (figure w a .1)
+  pub quietly : (a : Action) → Quietly doing clear QuietIn w a (figure w a .0) (figure w a .1)
   quietly (begin t op) = begin-quiet t op (begin-cases w t op)
   quietly (step t) = step-quiet t (i .good .on-path t .0) (step-cases w t (i .good .on-path t .0) (i .good .on-path t .1))
 
@@ -152,7 +153,7 @@ module _ (n v : ℕ) (vs : List ℕ) (some-values : (k : ℕ) → getD vs k 0 �
     marks = λ k c y. absurd (y refl);
   }
 
-  pub simulation : Sim.Simulation figure (note figure sees) (names figure sees) (opening n v vs) noNotes active n v (λ k. getD vs k 0)
+  pub simulation : Sim.Simulation figure (note figure sees) (names figure sees) (opening n v vs) noNotes clear n v (λ k. getD vs k 0)
   simulation = record {
     doing = doing;
     clock = clock;
@@ -177,13 +178,12 @@ module _ (n v : ℕ) (vs : List ℕ) (some-values : (k : ℕ) → getD vs k 0 �
         where
           go : (e : Event) → noteStep e (x .1) t (sees (x .0) t) .now ≡ suc (x .1 .now)
           go (refused r) = refl
-          go begun = refl
-          go (going y) = refl
-          go (answered y a n h) = refl
+          go (accepted y) = refl
+          go (answered y r) = refl
 
   -- demand 3, of figure 2 with a new block each time: from any opening whose starting values are other than none, for every list of
   -- actions, the calls can be linearized, keep their bounds, and attempt no hardware CAS without contention
-  pub figure-meets-demand-3 : Meets figure (opening n v vs) (activeAfter figure (opening n v vs) active) v (λ k. getD vs k 0)
+  pub figure-meets-demand-3 : Meets figure (opening n v vs) (clearAfter figure (opening n v vs) clear) v (λ k. getD vs k 0)
   figure-meets-demand-3 = meets simulation
 
   -- The source's linearization points, in their order, are a linearization: of every finished call, and of exactly the listed pending swaps.

@@ -14,11 +14,12 @@ use Rattle.lines.specs.declared.Next.{Next}
 use Rattle.lines.specs.Record.{idle, isIdle}
 use Rattle.lines.specs.Lines.{Line, lineOf, accessOf, counted, hardware}
 use Rattle.history.specs.Basics.{upd, _∈_}
-use Rattle.history.specs.History.{Op, read, swap, Action, begin, step}
+use Rattle.history.specs.History.{Op, read, swap, Action, begin, step, cellOf, Kind, aRead, aSwap, kindOf}
 use Rattle.history.specs.Demand3.{most, mostHard}
 use Rattle.history.proofs.Basics.{either, upd-at, upd-off}
 use Rattle.history.proofs.Simulation.{Tally, first, Follows}
-use Rattle.figure.specs.Figure.{Cell, World, After, withBoth, recordAfter, outcomeOf, ran, beginEvent, stepEvent, tried, figure, perform}
+use Rattle.figure.specs.Figure.{Cell, World, After, withBoth, recordAfter, outcomeOf, ran, figure, perform}
+use Rattle.cells.specs.Events.{eventOf, tried}
 use Rattle.figure.specs.Paths.{paths, count}
 use Rattle.figure.proofs.LineLaws.{every, every-in, readPaths, Leads, goes, done}
 use Rattle.figure.proofs.Records.{Pending, not-idle, led, Then, one-line, pending-bounds, read-bounds, firstOf, Begun, starts, begin-cases, Stepped, runs, step-cases, OnPath, AllOnPath}
@@ -38,6 +39,14 @@ doing w t = tallyOf (w .records t)
 
 pub was-doing : (v : ℕ) (did : List Line) (q : Record) → Pending v did q → tallyOf q ≡ some (tally q)
 was-doing v did q o = rw (not-idle q (o .line))
+
+-- kind and cell as a finished call reports them
+as-begun : (q : Record) → (cond (eqb (q .kind) 1) aRead aSwap ≡ kindOf (opOf q)) × (q .cell ≡ cellOf (opOf q))
+as-begun q = go (eqb (q .kind) 1)
+  where
+    go : (b : Bool) → let op = cond b (read (q .cell)) (swap (q .cell) (q .expected) (q .new)) in (cond b aRead aSwap ≡ kindOf op) × (q .cell ≡ cellOf op)
+    go true = (refl, refl)
+    go false = (refl, refl)
 
 -- BOUNDS
 
@@ -71,9 +80,9 @@ module _ (w : World) where
       go (inl i) = rw (upd-at (w .records) t q u i, upd-at (doing w) t x u i) e
       go (inr i) = rw (upd-off (w .records) t q u i, upd-off (doing w) t x u i)
 
-  begin-follows : (t : ℕ) (op : Op) {f : After} → Begun w t op f → Follows doing (w .cells) w (begin t op) (f .world) (beginEvent (f .outcome))
+  begin-follows : (t : ℕ) (op : Op) {f : After} → Begun w t op f → Follows doing (w .cells) w (begin t op) (f .world) (eventOf 0 (f .outcome))
   begin-follows t op (Begun.refuses n) = refl
-  begin-follows t op (starts a) = record { idle = rw (a .free); cell = a .cell; rest = put t (firstOf op) (some (first op)) (new op) }
+  begin-follows t op (starts a) = record { idle = rw (a .free); cell = a .cell; untried = refl; rest = put t (firstOf op) (some (first op)) (new op) }
     where
       new : (op : Op) → tallyOf (firstOf op) ≡ some (first op)
       new (read k) = refl
@@ -91,18 +100,20 @@ module _ (w : World) where
     few x ps h i = leb→le _ _ (every-in (λ p. leb (count hardware p) x) ps h _ i)
 
     line-follows : (c : Cell) {n : Next} → Leads (lineOf q) (counted q (accessOf t q)) n → Then (w .cells) did q o n
-        → Follows doing (w .cells) w (step t) (withBoth w (q .cell) c t (recordAfter n)) (stepEvent (tried t q) (outcomeOf n))
+        → Follows doing (w .cells) w (step t) (withBoth w (q .cell) c t (recordAfter n)) (eventOf (tried t q) (outcomeOf n))
     line-follows c (goes f) next = record { now = tally q; was = was-doing (w .cells) did q o; rest = put t _ _ (rw (not-idle _ (next .line), add-one)) }
     line-follows c (done f) end = record {
       now = tally q;
       was = was-doing (w .cells) did q o;
       rest = put t idle none refl;
+      kind = as-begun q .0;
+      cell = as-begun q .1;
       steps = add-one (q .steps);
       hard = refl;
       few = rw (end .all-hard) (by-kind q (λ op. count hardware (did ++ (lineOf q ∷ [])) ≤ mostHard op) (λ e. few 1 readPaths tt (end .read-path e)) (few 3 paths tt (end .path)));
     }
 
-  step-follows : (t : ℕ) (did : List Line) {f : After} → Stepped w t did f → Follows doing (w .cells) w (step t) (f .world) (stepEvent (tried t (w .records t)) (f .outcome))
+  step-follows : (t : ℕ) (did : List Line) {f : After} → Stepped w t did f → Follows doing (w .cells) w (step t) (f .world) (eventOf (tried t (w .records t)) (f .outcome))
   unfolding ran
   step-follows t did (Stepped.refuses n i) = (refl, rw i)
   step-follows t did (runs m o) =

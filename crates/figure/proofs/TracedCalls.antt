@@ -5,20 +5,10 @@ use mathlib.Core.List.{List, [], _∷_, map}
 use Prim.Native.Nat.{ℕ}
 use Rattle.lines.specs.Lines.{Line}
 use Rattle.history.specs.Basics.{upd}
-use Rattle.history.specs.History.{Op, Action, begin, step, Answer, Event, refused, begun, going, answered, history, Call, Calls, Finished, noCalls, called, advanced, closed, enter, enterAll, callsOf, IsBusy, Allowed, WellFormed}
+use Rattle.history.specs.History.{Op, Action, begin, step, Answer, Event, refused, accepted, answered, history, Call, Calls, Finished, noCalls, called, advanced, closed, enter, enterAll, callsOf, IsBusy, Allowed, WellFormed}
 use Rattle.history.proofs.Basics.{upd-cases}
-use Rattle.figure.specs.Paths.{Traced, Trace, noTrace, enterLine, traces}
+use Rattle.figure.specs.Paths.{Traced, Trace, noTrace, enterLine, traces, finishedReport, tracedReport}
 use Rattle.figure.proofs.Records.{upd-both}
-
--- what a call is as begun, and what its last step reported
-abbrev pub Report : Type 0
-Report = Op × Answer × ℕ × ℕ
-
-abbrev pub finishedReport : Finished → Report
-finishedReport f = (f .call .start .op, f .answer, f .steps, f .hard)
-
-abbrev pub tracedReport : Traced → Report
-tracedReport x = (x .op, x .answer, x .steps, x .hard)
 
 -- a pending call is the one that the trace has as begun
 abbrev OfOp : Option Call → Op → Type 0
@@ -39,14 +29,12 @@ module _ (next : ℕ → Line) (size : ℕ) (b : Calls) (r : Trace) (s : Same b 
 
   enters : (a : Action) (e : Event) → Allowed size b a e → Same (enter b a e) (enterLine next r a e)
   enters a (refused n) w = record { pending = s .pending; finished = s .finished }
-  enters (begin t op) begun w = record { pending = upd-both (λ u. OfOp) (b .pending) (r .op) t (some (called b t op)) op refl (s .pending); finished = s .finished }
-  enters (begin t op) (going x) w = absurd w
-  enters (begin t op) (answered x a n h) w = absurd w
-  enters (step t) begun w = absurd w
-  enters (step t) (going x) w = record { pending = put t (advanced b x (b .pending t)) (advances (b .pending t) (r .op t) x (s .pending t)); finished = s .finished }
-  enters (step t) (answered x a n h) w = record { pending = put t none tt; finished = go (b .pending t) (s .pending t) w }
+  enters (begin t op) (accepted x) w = record { pending = upd-both (λ u. OfOp) (b .pending) (r .op) t (some (called b t op)) op refl (s .pending); finished = s .finished }
+  enters (begin t op) (answered x y) w = absurd w
+  enters (step t) (accepted x) w = record { pending = put t (advanced b x (b .pending t)) (advances (b .pending t) (r .op t) x (s .pending t)); finished = s .finished }
+  enters (step t) (answered x y) w = record { pending = put t none tt; finished = go (b .pending t) (s .pending t) w }
     where
-      go : (o : Option Call) → OfOp o (r .op t) → IsBusy o → map finishedReport (closed (advanced b x o) a n h (b .finished)) ≡ ((r .op t, a, n, h) ∷ map tracedReport (r .done))
+      go : (o : Option Call) → OfOp o (r .op t) → IsBusy o → map finishedReport (closed (advanced b x o) y (b .finished)) ≡ ((r .op t, y) ∷ map tracedReport (r .done))
       go none k w = absurd w
       go (some c) k w = rw (k, s .finished)
 

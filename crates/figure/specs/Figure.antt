@@ -7,8 +7,6 @@ use Prim.Native.Nat.{ℕ, suc}
 use lib.Dec.{eqb}
 use lib.ListN.{getD}
 use Rattle.lines.specs.declared.Record.{Record}
-use Rattle.lines.specs.declared.Answer as Code
-use Rattle.lines.specs.declared.Answer.the-variants as CodeAnswer
 use Rattle.cells.specs.declared.Outcome.{Outcome}
 use Rattle.cells.specs.declared.Outcome.the-variants.{Refused, Acted, Ended}
 use Rattle.cells.specs.declared.Looked.{Looked}
@@ -19,13 +17,14 @@ use Rattle.lines.specs.declared.Access.the-variants.{LoadCell, Load, Store, Dec
 use Rattle.lines.specs.declared.Next.{Next}
 use Rattle.lines.specs.declared.Next.the-variants.{Go, Done}
 use Rattle.lines.specs.Record.{noValue, idle}
-use Rattle.lines.specs.Lines.{accessOf, nextOf, hardware}
+use Rattle.lines.specs.Lines.{accessOf, nextOf}
 use Rattle.cells.specs.Pool.{fresh}
 use Rattle.questions.specs.Questions.{refusal, beginQuestions, swapQuestions, stepQuestions, lookQuestions}
 use Rattle.lines.specs.Record.{firstRead, firstSwap}
 use Rattle.cells.specs.Look.{shownValue, shown}
+use Rattle.cells.specs.Events.{eventOf, tried}
 use Rattle.history.specs.Basics.{upd}
-use Rattle.history.specs.History.{Op, read, swap, Action, begin, step, Answer, Value, Yes, No, Event, refused, begun, going, answered}
+use Rattle.history.specs.History.{Op, read, swap, Action, begin, step, Event}
 
 -- MEMORY
 
@@ -145,30 +144,10 @@ looked w k = let m = w .cell k in let b = m .current in shown (refusal (lookQues
 
 -- AS A MACHINE THAT TAKES ACTIONS AND GIVES EVENTS
 
-abbrev pub answerOf : Code.Answer → Answer
-answerOf (CodeAnswer.Value v) = Value v
-answerOf CodeAnswer.Yes = Yes
-answerOf CodeAnswer.No = No
-
-abbrev pub beginEvent : Outcome → Event
-beginEvent (Refused r) = refused r
-beginEvent Acted = begun
-beginEvent (Ended f) = answered 0 (answerOf (f .answer)) (f .steps) (f .hard)
-
--- the access of the step's line attempts x hardware CAS
-abbrev pub stepEvent : ℕ → Outcome → Event
-stepEvent x (Refused r) = refused r
-stepEvent x Acted = going x
-stepEvent x (Ended f) = answered x (answerOf (f .answer)) (f .steps) (f .hard)
-
--- the hardware CAS attempts of a record's next line
-abbrev pub tried : ℕ → Record → ℕ
-tried t q = hardware (accessOf t q)
-
 abbrev pub figure : World → Action → World × Event
-figure w (begin t op) = let r = begins w t op in (r .world, beginEvent (r .outcome))
-figure w (step t) = let r = stepped w t in (r .world, stepEvent (tried t (w .records t)) (r .outcome))
+figure w (begin t op) = let r = begins w t op in (r .world, eventOf 0 (r .outcome))
+figure w (step t) = let r = stepped w t in (r .world, eventOf (tried t (w .records t)) (r .outcome))
 
--- the current block of cell k is active
-abbrev pub active : World → ℕ → Type 0
-active w k = w .cell k .c (w .cell k .current) ≡ 0
+-- nothing is left of an earlier collision: the current block of cell k is active
+abbrev pub clear : World → ℕ → Type 0
+clear w k = w .cell k .c (w .cell k .current) ≡ 0

@@ -11,7 +11,7 @@ use Rattle.lines.specs.declared.Field.{Field}
 use Rattle.lines.specs.declared.Field.the-variants.{C, D}
 use Rattle.lines.specs.Record.{noValue, isIdle}
 use Rattle.questions.specs.Questions.{holds}
-use Rattle.history.specs.History.{Action, begin, step, Answer, Value, Yes, No, Event, refused, begun, going, answered}
+use Rattle.history.specs.History.{Action, begin, step, Answer, Value, Yes, No, Event, refused, accepted, answered}
 use Rattle.history.specs.Moments.{itself, before, after, Rule, R1, R2, C1, C2, C3, C4, C5, C6, Spot, Mark, Names, beside, linearized}
 use Rattle.figure.specs.Figure.{World, wordOf, figure, opening}
 
@@ -132,12 +132,11 @@ stands o t x = cond (within (x .figureLine) 24 26)
 
 -- BESIDE A MACHINE, by what its tasks see
 
--- refused actions and begins note nothing
+-- a refused step notes nothing, nor does a begin
 abbrev pub noteStep : Event → Notes → ℕ → Sight → Notes
-noteStep (refused r) o t x = nothingNoted o
-noteStep begun o t x = nothingNoted o
-noteStep (going y) o t x = noted o t x
-noteStep (answered y a n h) o t x = noted o t x
+noteStep (refused n) o t x = nothingNoted o
+noteStep (accepted y) o t x = noted o t x
+noteStep (answered y r) o t x = noted o t x
 
 module _ {S : Type 0} (machine : S → Action → S × Event) (see : S → ℕ → Sight) where
   abbrev pub note : Notes → S → Action → Event → Notes

@@ -7,7 +7,7 @@ use Rattle.lines.specs.Record.{idle}
 use Rattle.lines.specs.Paths.{table}
 use Rattle.lines.specs.Lines.{Line, Wanted, for13, for25, for28, l1, l2, l3, l10, l11, l12, l15, l16, l17, l18, l19, l20, l21, l22, l23, l24, l26, l27, l29, l30, accessAt, loads, stores, hardware}
 use Rattle.history.specs.Basics.{upd, _∈_}
-use Rattle.history.specs.History.{Op, read, Action, begin, step, Answer, Event, refused, begun, going, answered}
+use Rattle.history.specs.History.{Op, read, Action, begin, step, Report, Event, refused, accepted, answered, Finished}
 
 -- THE THIRTEEN PATHS
 
@@ -88,9 +88,7 @@ countsOf (p ∷ ps) = counts p ∷ countsOf ps
 pub record Traced : Type 0 where
   pub op : Op
   pub lines : List Line
-  pub answer : Answer
-  pub steps : ℕ
-  pub hard : ℕ
+  pub report : Report
 
 -- of each task its last call as begun, and the lines of its pending one so far; the finished calls
 pub record Trace : Type 0 where
@@ -109,12 +107,10 @@ module _ (next : ℕ → Line) (r : Trace) where
   -- a begin that is accepted starts with no line; an accepted step adds its line; a refused action changes nothing
   abbrev pub enterLine : Action → Event → Trace
   enterLine a (refused n) = r
-  enterLine (begin t op) begun = record { op = upd (r .op) t op; did = upd (r .did) t []; done = r .done }
-  enterLine (begin t op) (going x) = r
-  enterLine (begin t op) (answered x a n h) = r
-  enterLine (step t) begun = r
-  enterLine (step t) (going x) = record { op = r .op; did = upd (r .did) t (didLine t); done = r .done }
-  enterLine (step t) (answered x a n h) = record { op = r .op; did = upd (r .did) t []; done = record { op = r .op t; lines = didLine t; answer = a; steps = n; hard = h } ∷ r .done }
+  enterLine (begin t op) (accepted x) = record { op = upd (r .op) t op; did = upd (r .did) t []; done = r .done }
+  enterLine (begin t op) (answered x y) = r
+  enterLine (step t) (accepted x) = record { op = r .op; did = upd (r .did) t (didLine t); done = r .done }
+  enterLine (step t) (answered x y) = record { op = r .op; did = upd (r .did) t []; done = record { op = r .op t; lines = didLine t; report = y } ∷ r .done }
 
 -- the trace of a list of actions, from a state and what is traced already
 module _ {S : Type 0} (act : S → Action → S × Event) (next : S → ℕ → Line) where
@@ -126,6 +122,13 @@ module _ {S : Type 0} (act : S → Action → S × Event) (next : S → ℕ → 
 pub record Counted (x : Traced) : Type 0 where
   pub path : x .lines ∈ reached
   pub read-path : (k : ℕ) → x .op ≡ read k → x .lines ∈ (readActive ∷ readDecided ∷ [])
-  pub all-steps : x .steps ≡ steps (x .lines)
-  pub all-hard : x .hard ≡ count hardware (x .lines)
+  pub all-steps : x .report .steps ≡ steps (x .lines)
+  pub all-hard : x .report .hard ≡ count hardware (x .lines)
   pub row : counts (x .lines) ∈ table
+
+-- what a call is as begun, and what its last step reported: of a history, and of a trace
+abbrev pub finishedReport : Finished → Op × Report
+finishedReport f = (f .call .start .op, f .report)
+
+abbrev pub tracedReport : Traced → Op × Report
+tracedReport x = (x .op, x .report)

@@ -17,8 +17,8 @@ pub run-snoc : {S : Type 0} (act : S → Action → S × Event) (s : S) (l : Lis
 run-snoc act s [] a = refl
 run-snoc act s (x ∷ l) a = run-snoc act (act s x .0) l a
 
-module _ {S N : Type 0} {machine : S → Action → S × Event} {note : N → S → Action → Event → N} {names : Names (S × N)} {start : S} {blank : N} {active : S → ℕ → Type 0} {tasks size : ℕ} {values : ℕ → ℕ}
-    (M : Simulation machine note names start blank active tasks size values) where
+module _ {S N : Type 0} {machine : S → Action → S × Event} {note : N → S → Action → Event → N} {names : Names (S × N)} {start : S} {blank : N} {clear : S → ℕ → Type 0} {tasks size : ℕ} {values : ℕ → ℕ}
+    (M : Simulation machine note names start blank clear tasks size values) where
   pub record Good (x : S × N) (b : Calls) (ms : List Mark) : Type 1 where
     pub reached : x .0 ≡ run machine start (b .accepted)
     pub tracks : Tracks (M .doing) (x .0) b
@@ -26,7 +26,7 @@ module _ {S N : Type 0} {machine : S → Action → S × Event} {note : N → S 
     pub distinct : Distinct b
     pub ended : AllEnded b
     pub simulated : Simulated M x b ms
-    pub quiet : AllQuiet machine start active (M .doing) (M .Quiet) (x .0) b
+    pub quiet : AllQuiet machine start clear (M .doing) (M .Quiet) (x .0) b
 
   good-start : Good (start, blank) noCalls []
   good-start = record {
@@ -50,7 +50,7 @@ module _ {S N : Type 0} {machine : S → Action → S × Event} {note : N → S 
   reached-next (refuses q) r = q ∙ r
   reached-next {b = b} {a = a} (starts i) r = one-more (b .accepted) a r
   reached-next {b = b} {a = a} (goes c i) r = one-more (b .accepted) a r
-  reached-next {b = b} {a = a} (ends c i p q z) r = one-more (b .accepted) a r
+  reached-next {b = b} {a = a} (ends c i p q) r = one-more (b .accepted) a r
 
   next : (x : S × N) (b : Calls) (ms : List Mark) (G : Good x b ms) (a : Action) → Tracked (M .doing) size (x .0) (machine (x .0) a .0) b a (machine (x .0) a .1) →
       Good (beside machine note x a .0) (enter b a (machine (x .0) a .1)) (marked (beside machine note) names x b a (machine (x .0) a .1) ++ ms)
@@ -61,7 +61,7 @@ module _ {S N : Type 0} {machine : S → Action → S × Event} {note : N → S 
     distinct = distinct-next (G .dated) (G .distinct) (k .change);
     ended = ended-next (G .dated) (within x b ms G) (G .ended) (k .change);
     simulated = simulated-next M x (beside machine note x a .0) b ms m (G .tracks) (G .dated) (M .next-moment x a) (k .change) (k .tracks) (M .forward x (m .ghost) (knows b (m .past) (firm (m .ghost) (b .now))) (m .inv) a);
-    quiet = quiet-next machine start active (M .doing) (M .Quiet) (x .0) (machine (x .0) a .0) b (G .quiet) (G .tracks) (G .dated) (k .change) (G .reached) (k .tracks)
+    quiet = quiet-next machine start clear (M .doing) (M .Quiet) (x .0) (machine (x .0) a .0) b (G .quiet) (G .tracks) (G .dated) (k .change) (G .reached) (k .tracks)
         (M .quietly x (m .ghost) (knows b (m .past) (firm (m .ghost) (b .now))) (m .inv) a);
   }
     where

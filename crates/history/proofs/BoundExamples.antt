@@ -3,56 +3,65 @@ use mathlib.Core.Path.{_≡_, refl, ap, subst}
 use mathlib.Core.Logic.{_⊎_, inl, inr}
 use mathlib.Core.Option.{none}
 use mathlib.Core.List.{List, [], _∷_}
-use Prim.Native.Nat.{_≤_}
+use Prim.Native.Nat.{ℕ, _≤_}
 use native.Mathlib.Omega.{arith}
 use lib.ListN.{replicate}
 use borrow.Author.Tests.{ne-eqb}
 use Rattle.history.specs.Basics.{upd, _∈_}
-use Rattle.history.specs.History.{read, swap, Action, begin, step, Event, refused, begun, going, answered, Value, Yes, Call, Finished, Calls, noCalls, callsOf}
+use Rattle.history.specs.History.{aRead, aSwap, read, swap, Action, begin, step, Event, refused, accepted, answered, Value, Yes, Call, Finished, Calls, noCalls, callsOf}
 use Rattle.history.specs.History.{finished, pending, WellFormed}
-use Rattle.history.specs.Demand3.{most, mostHard, Bounds, Unequal, Alone, NoHardware}
+use Rattle.history.specs.Demand3.{most, mostHard, Reports, Bounds, Unequal, Alone, NoHardware}
 use Rattle.history.proofs.Tracks.{clash, some-inj}
-use Rattle.history.proofs.Examples.{TwoCalls, two-calls, ended, both-ended, one-of}
+use Rattle.history.proofs.Examples.{answers, TwoCalls, two-calls, ended, both-ended, one-of}
 
 -- WRONG EVENTS: no well-formed history has them
 
-pub no-refusal-of-a-pending-call : WellFormed 1 noCalls ((begin 0 (read 0), begun) ∷ (step 0, refused 11) ∷ []) → ⊥
+pub no-refusal-of-a-pending-call : WellFormed 1 noCalls ((begin 0 (read 0), accepted 0) ∷ (step 0, refused 11) ∷ []) → ⊥
 unfolding upd
 no-refusal-of-a-pending-call w = clash (w .1 .0) refl
 
-pub no-second-call-of-a-busy-task : WellFormed 1 noCalls ((begin 0 (read 0), begun) ∷ (begin 0 (read 0), begun) ∷ []) → ⊥
+pub no-second-call-of-a-busy-task : WellFormed 1 noCalls ((begin 0 (read 0), accepted 0) ∷ (begin 0 (read 0), accepted 0) ∷ []) → ⊥
 unfolding upd
 no-second-call-of-a-busy-task w = clash (w .1 .0 .0) refl
 
-pub no-answer-without-a-call : WellFormed 1 noCalls ((step 0, answered 0 (Value 5) 3 0) ∷ []) → ⊥
+pub no-answer-without-a-call : WellFormed 1 noCalls ((step 0, answers 0 aRead (Value 5) 3 0) ∷ []) → ⊥
 no-answer-without-a-call w = w .0
 
-pub no-call-on-a-cell-that-is-not-there : WellFormed 1 noCalls ((begin 0 (read 1), begun) ∷ []) → ⊥
+pub no-call-on-a-cell-that-is-not-there : WellFormed 1 noCalls ((begin 0 (read 1), accepted 0) ∷ []) → ⊥
 no-call-on-a-cell-that-is-not-there w = omega (arith, w .0 .1)
 
 -- WRONG COUNTS
 
-pub no-invented-counts : Bounds (callsOf ((begin 0 (read 0), begun) ∷ (step 0, answered 0 (Value 5) 3 0) ∷ [])) → ⊥
+pub no-invented-counts : Bounds (callsOf ((begin 0 (read 0), accepted 0) ∷ (step 0, answers 0 aRead (Value 5) 3 0) ∷ [])) → ⊥
 unfolding upd
-no-invented-counts c = omega (arith, c .reported _ (inl refl) .0)
+no-invented-counts c = omega (arith, c .reported _ (inl refl) .steps)
+
+-- a read that reports a swap, or another cell
+pub no-other-kind : Bounds (callsOf ((begin 0 (read 0), accepted 0) ∷ (step 0, answers 0 aSwap (Value 5) 1 0) ∷ [])) → ⊥
+unfolding upd
+no-other-kind w = let e = w .reported _ (inl refl) .kind in let z : _≡_ {A = ℕ} 0 1 = cc in omega arith
+
+pub no-report-of-another-cell : Bounds (callsOf ((begin 0 (read 1), accepted 0) ∷ (step 0, answers 0 aRead (Value 5) 1 0) ∷ [])) → ⊥
+unfolding upd
+no-report-of-another-cell w = omega (arith, w .reported _ (inl refl) .cell)
 
 -- a read that six steps did not end
-pub no-read-beyond-its-bound : Bounds (callsOf ((begin 0 (read 0), begun) ∷
-    (step 0, going 0) ∷ (step 0, going 0) ∷ (step 0, going 0) ∷ (step 0, going 0) ∷ (step 0, going 0) ∷ (step 0, going 0) ∷ [])) → ⊥
+pub no-read-beyond-its-bound : Bounds (callsOf ((begin 0 (read 0), accepted 0) ∷
+    (step 0, accepted 0) ∷ (step 0, accepted 0) ∷ (step 0, accepted 0) ∷ (step 0, accepted 0) ∷ (step 0, accepted 0) ∷ (step 0, accepted 0) ∷ [])) → ⊥
 unfolding upd
 no-read-beyond-its-bound c = omega (arith, c .unended 0 _ refl .0)
 
 -- a swap that seventeen steps did not end
-pub no-swap-beyond-its-bound : Bounds (callsOf ((begin 0 (swap 0 5 7), begun) ∷ replicate 17 (step 0, going 0))) → ⊥
+pub no-swap-beyond-its-bound : Bounds (callsOf ((begin 0 (swap 0 5 7), accepted 0) ∷ replicate 17 (step 0, accepted 0))) → ⊥
 unfolding upd
 no-swap-beyond-its-bound c = omega (arith, c .unended 0 _ refl .0)
 
 -- a hardware CAS more than the kind's most
-pub no-read-of-two-hardware-CAS : Bounds (callsOf ((begin 0 (read 0), begun) ∷ replicate 2 (step 0, going 1))) → ⊥
+pub no-read-of-two-hardware-CAS : Bounds (callsOf ((begin 0 (read 0), accepted 0) ∷ replicate 2 (step 0, accepted 1))) → ⊥
 unfolding upd
 no-read-of-two-hardware-CAS c = omega (arith, c .unended 0 _ refl .1)
 
-pub no-swap-of-four-hardware-CAS : Bounds (callsOf ((begin 0 (swap 0 5 7), begun) ∷ replicate 4 (step 0, going 1))) → ⊥
+pub no-swap-of-four-hardware-CAS : Bounds (callsOf ((begin 0 (swap 0 5 7), accepted 0) ∷ replicate 4 (step 0, accepted 1))) → ⊥
 unfolding upd
 no-swap-of-four-hardware-CAS c = omega (arith, c .unended 0 _ refl .1)
 
@@ -60,31 +69,31 @@ no-swap-of-four-hardware-CAS c = omega (arith, c .unended 0 _ refl .1)
 abbrev only : Finished → Calls
 only f = record { now = 18; accepted = []; pending = λ t. none; finished = f ∷ [] }
 
-within-bounds : (f : Finished) → (f .call .steps ≤ most (f .call .start .op)) × (f .call .hard ≤ mostHard (f .call .start .op)) → (f .steps ≡ f .call .steps) × (f .hard ≡ f .call .hard) → Bounds (only f)
+within-bounds : (f : Finished) → (f .call .steps ≤ most (f .call .start .op)) × (f .call .hard ≤ mostHard (f .call .start .op)) → Reports (f .call) (f .report) → Bounds (only f)
 within-bounds f h r = record { ended = ended; reported = reported; unended = λ t c e. absurd (clash refl e) }
   where
     ended : (g : Finished) → g ∈ (f ∷ []) → (g .call .steps ≤ most (g .call .start .op)) × (g .call .hard ≤ mostHard (g .call .start .op))
     ended g (inl q) = rw q h
 
-    reported : (g : Finished) → g ∈ (f ∷ []) → (g .steps ≡ g .call .steps) × (g .hard ≡ g .call .hard)
+    reported : (g : Finished) → g ∈ (f ∷ []) → Reports (g .call) (g .report)
     reported g (inl q) = rw q r
 
 pub longest-read : Bounds (only (ended 0 0 (read 0) [] 6 6 1 (Value 5)))
-longest-read = within-bounds _ (omega arith) (refl, refl)
+longest-read = within-bounds _ (omega arith) (record { kind = refl; cell = refl; steps = refl; hard = refl })
 
 pub longest-swap : Bounds (only (ended 0 0 (swap 0 5 7) [] 17 17 3 Yes))
-longest-swap = within-bounds _ (omega arith) (refl, refl)
+longest-swap = within-bounds _ (omega arith) (record { kind = refl; cell = refl; steps = refl; hard = refl })
 
--- a swap that is alone, on an active block, tries the hardware CAS
+-- a swap that is alone, on a clear cell, tries the hardware CAS
 abbrev needless : Finished
 needless = ended 0 0 (swap 0 5 7) [] 1 1 1 Yes
 
-pub no-hardware-CAS-alone : NoHardware (λ l k. Unit {0}) (callsOf ((begin 0 (swap 0 5 7), begun) ∷ (step 0, answered 1 Yes 1 1) ∷ [])) → ⊥
+pub no-hardware-CAS-alone : NoHardware (λ l k. Unit {0}) (callsOf ((begin 0 (swap 0 5 7), accepted 0) ∷ (step 0, answers 1 aSwap Yes 1 1) ∷ [])) → ⊥
 unfolding upd
 no-hardware-CAS-alone h = omega (arith, h (needless .call) 1 (finished needless (inl refl)) tt alone)
   where
     b : Calls
-    b = callsOf ((begin 0 (swap 0 5 7), begun) ∷ (step 0, answered 1 Yes 1 1) ∷ [])
+    b = callsOf ((begin 0 (swap 0 5 7), accepted 0) ∷ (step 0, answers 1 aSwap Yes 1 1) ∷ [])
 
     alone : Alone b (needless .call) 1
     alone d n i u q ne = absurd (go (both-ended b needless needless (λ t p q. rw (ne-eqb t 0 p)) refl refl (one-of needless) d n i))
@@ -95,7 +104,7 @@ no-hardware-CAS-alone h = omega (arith, h (needless .call) 1 (finished needless 
 
 -- and so does one beside which only a swap of equal values is pending
 abbrev beside-equal : List (Action × Event)
-beside-equal = (begin 0 (swap 0 5 5), begun) ∷ (begin 1 (swap 0 5 7), begun) ∷ (step 1, answered 1 Yes 1 1) ∷ []
+beside-equal = (begin 0 (swap 0 5 5), accepted 0) ∷ (begin 1 (swap 0 5 7), accepted 0) ∷ (step 1, answers 1 aSwap Yes 1 1) ∷ []
 
 abbrev equal : Call
 equal = record { start = record { at = 0; task = 0; op = swap 0 5 5; before = [] }; last = 0; steps = 0; hard = 0 }

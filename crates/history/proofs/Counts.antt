@@ -7,7 +7,7 @@ use Prim.Native.Nat.{ℕ, _≤_, _<_}
 use native.Mathlib.Omega.{arith}
 use Rattle.history.specs.Basics.{_∈_}
 use Rattle.history.specs.History.{Action, Event, Call, Finished, Calls, enter}
-use Rattle.history.specs.Demand3.{most, mostHard, Bounds}
+use Rattle.history.specs.Demand3.{most, mostHard, Reports, Bounds}
 use Rattle.history.proofs.Tracks.{Change, refuses, starts, goes, ends}
 use Rattle.history.proofs.MovesOne.{Dated, last-one, ended-finished}
 
@@ -17,7 +17,7 @@ Within b = (t : ℕ) (c : Call) → b .pending t ≡ some c → (c .steps < most
 
 pub record Ended (f : Finished) : Type 0 where
   pub few : (f .call .steps ≤ most (f .call .start .op)) × (f .call .hard ≤ mostHard (f .call .start .op))
-  pub reported : (f .steps ≡ f .call .steps) × (f .hard ≡ f .call .hard)
+  pub reported : Reports (f .call) (f .report)
 
 abbrev pub AllEnded : Calls → Type 0
 AllEnded b = (f : Finished) → f ∈ b .finished → Ended f
@@ -26,10 +26,10 @@ pub ended-next : {S : Type 0} {s s' : S} {b : Calls} {a : Action} {e : Event} �
 ended-next dated within all (refuses q) f i = all f i
 ended-next dated within all (starts idle) f i = all f i
 ended-next dated within all (goes c busy) f i = all f i
-ended-next {b = b} dated within all (ends {t} {x} {a} {n} {h} c busy p q r) f i = go (rw (ended-finished b dated t x c busy a n h) at i)
+ended-next {b = b} dated within all (ends {t} {x} {r} c busy p q) f i = go (rw (ended-finished b dated t x c busy r) at i)
   where
-    go : f ∈ (last-one b dated t x c busy a n h ∷ b .finished) → Ended f
-    go (inl e) = rw e (record { few = (omega (arith, within t c busy .0), omega arith); reported = (p, q) })
+    go : f ∈ (last-one b dated t x c busy r ∷ b .finished) → Ended f
+    go (inl e) = rw e (record { few = (omega (arith, within t c busy .0), omega (arith, p .hard)); reported = p })
     go (inr j) = all f j
 
 pub bounds-of : {b : Calls} → Within b → AllEnded b → Bounds b

@@ -30,14 +30,14 @@ distinct-next {b = b} dated k (goes {t} {x} c busy) = record { past = λ n i. om
     apart : (u : ℕ) (d : Call) → d .start .at ∈ begun (b .finished) → ((u ≡ t) × (advanced b x (b .pending t) ≡ some d)) ⊎ ((u ≢ t) × (b .pending u ≡ some d)) → ⊥
     apart u d i (inl (q, e)) = k .apart t c busy (subst (λ (d : Call). d .start .at ∈ begun (b .finished)) (some-inj e (ap (advanced b x) busy)) i)
     apart u d i (inr (q, h)) = k .apart u d h i
-distinct-next {b = b} dated k (ends {t} {x} {a} {n} {h} c busy p q r) = record {
+distinct-next {b = b} dated k (ends {t} {x} {r} c busy p q) = record {
   past = λ j i. past j (rw fin at i);
   once = rw fin (k .apart t c busy, k .once);
   apart = λ u d j i. apart u d (rw fin at i) (upd-some (b .pending) t none u d j);
 }
   where
-    fin : enter b (step t) (answered x a n h) .finished ≡ last-one b dated t x c busy a n h ∷ b .finished
-    fin = ended-finished b dated t x c busy a n h
+    fin : enter b (step t) (answered x r) .finished ≡ last-one b dated t x c busy r ∷ b .finished
+    fin = ended-finished b dated t x c busy r
 
     past : (j : ℕ) → (j ≡ c .start .at) ⊎ (j ∈ begun (b .finished)) → j < suc (b .now)
     past j (inl e) = omega (arith, dated .past t c busy)

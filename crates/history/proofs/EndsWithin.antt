@@ -7,7 +7,7 @@ use Prim.Native.Nat.{ℕ, zero, suc, _+_, _≤_}
 use native.Mathlib.Omega.{arith}
 use lib.ListN.{replicate}
 use Rattle.history.specs.Basics.{_∈_}
-use Rattle.history.specs.History.{Action, step, Event, refused, going, answered, history, run, Call, Finished, Calls, noCalls, advance, advanced, closed, enter, enterAll, callsOf}
+use Rattle.history.specs.History.{Action, step, Event, refused, accepted, answered, history, run, Call, Finished, Calls, noCalls, advance, advanced, closed, enter, enterAll, callsOf}
 use Rattle.history.specs.History.{Allowed, WellFormed}
 use Rattle.history.specs.Demand3.{most, Meets, Finishes}
 use Rattle.history.proofs.Basics.{upd-same}
@@ -29,10 +29,10 @@ module _ {S : Type 0} (machine : S → Action → S × Event) (start : S) where
   abbrev callsAfter : List Action → Calls
   callsAfter l = callsOf (history machine start l)
 
-  module _ {Active : List Action → ℕ → Type 0} {size : ℕ} {values : ℕ → ℕ} (meets : Meets machine start Active size values) where
+  module _ {Clear : List Action → ℕ → Type 0} {size : ℕ} {values : ℕ → ℕ} (meets : Meets machine start Clear size values) where
     -- each further step is accepted, and the bound leaves room for no more than k that do not end the call
     within : (k : ℕ) (l : List Action) (t : ℕ) (c : Call) → callsAfter l .pending t ≡ some c → most (c .start .op) ≤ c .steps + k → Finishes machine start l t c k
-    within zero l t c h m = absurd (omega (arith, meets l .bounds .unended t c h .0))
+    within zero l t c h m = absurd (omega (arith, meets l .calls .bounds .unended t c h .0))
     within (suc k) l t c h m = go (machine (run machine start l) (step t) .1)
         (ap callsOf (history-snoc machine start l (step t)) ∙ calls-snoc noCalls (history machine start l) (step t, machine (run machine start l) (step t) .1))
         (last-allowed size noCalls (history machine start l) (step t, machine (run machine start l) (step t) .1)
@@ -48,7 +48,7 @@ module _ {S : Type 0} (machine : S → Action → S × Event) (start : S) where
         go : (e : Event) → b' ≡ enter b (step t) e → Allowed size b (step t) e →
             ((d : Call) → b' .pending t ≡ some d → most (d .start .op) ≤ d .steps + k → Finishes machine start (l ++ (step t ∷ [])) t d k) → Finishes machine start l t c (suc k)
         go (refused r) q f rec = absurd (clash f h)
-        go (going x) q f rec =
+        go (accepted x) q f rec =
             let r = rec (advance b x c) (ap (λ (b : Calls). b .pending t) q ∙ (upd-same (b .pending) t (advanced b x (b .pending t)) ∙ ap (advanced b x) h)) (omega arith) in
             record {
               steps = suc (r .steps);
@@ -57,14 +57,14 @@ module _ {S : Type 0} (machine : S → Action → S × Event) (start : S) where
               is = r .is;
               done = subst (λ l. r .end ∈ callsAfter l .finished) (append-assoc l (step t ∷ []) (replicate (r .steps) (step t))) (r .done);
             }
-        go (answered x a n o) q f rec =
-            let e : Finished = record { call = advance b x c; answer = a; steps = n; hard = o } in
+        go (answered x r) q f rec =
+            let e : Finished = record { call = advance b x c; report = r } in
             record {
               steps = 1;
               at-most = omega arith;
               end = e;
               is = refl;
-              done = subst (λ d. e ∈ d) (sym (ap (λ (b : Calls). b .finished) q ∙ ap (λ z. closed (advanced b x z) a n o (b .finished)) h)) (inl refl);
+              done = subst (λ d. e ∈ d) (sym (ap (λ (b : Calls). b .finished) q ∙ ap (λ z. closed (advanced b x z) r (b .finished)) h)) (inl refl);
             }
 
     -- from anywhere in any list, at most so many further steps of its task finish a pending call

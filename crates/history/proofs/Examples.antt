@@ -10,10 +10,10 @@ use native.Mathlib.Omega.{arith}
 use lib.Dec.{eqb, T}
 use borrow.Author.Tests.{eq-eqb, ne-eqb}
 use Rattle.history.specs.Basics.{upd, _∈_, Once}
-use Rattle.history.specs.History.{Op, read, swap, Action, begin, step, Event, begun, going, answered, Answer, Value, Yes, No, Begin, Call, Finished, Calls, callsOf}
+use Rattle.history.specs.History.{Op, Kind, aRead, aSwap, kindOf, Report, read, swap, Action, begin, step, Event, accepted, answered, Answer, Value, Yes, No, Begin, Call, Finished, Calls, callsOf}
 use Rattle.history.specs.History.{CallOf, finished, pending}
 use Rattle.history.specs.Linearization.{apply, Point, replies, Placed, Linearizes}
-use Rattle.history.specs.Demand3.{most, mostHard, Alone, Demand3}
+use Rattle.history.specs.Demand3.{most, mostHard, Reports, Alone, Demand3}
 use Rattle.history.proofs.Basics.{either}
 use Rattle.history.proofs.Tracks.{clash, some-inj}
 use Rattle.history.proofs.Kept.{point}
@@ -29,6 +29,13 @@ to-ats (y ∷ l) x (inr h) = inr (to-ats l x h)
 
 abbrev five : ℕ → ℕ
 five k = 5
+
+-- of calls on cell 0
+abbrev pub report : Kind → Answer → (steps hard : ℕ) → Report
+report k a n h = record { kind = k; cell = 0; answer = a; steps = n; hard = h }
+
+abbrev pub answers : (tried : ℕ) → Kind → Answer → (steps hard : ℕ) → Event
+answers x k a n h = answered x (report k a n h)
 
 abbrev pub TwoCalls : Calls → Call → Call → Type 0
 TwoCalls b c d = (e : Call) (n : ℕ) → CallOf b e n → (e ≡ c) ⊎ (e ≡ d)
@@ -118,10 +125,10 @@ in-said (q ∷ r) p (inr h) = go (eqb (code (p .0 .call .at) (p .1)) (code (q .0
     go false i = i
 
 -- a finished call's answer is among those of the linearization
-must : {values : ℕ → ℕ} {b : Calls} {l : List Point} → Linearizes values b l → (f : Finished) → f ∈ b .finished → T (said (code (f .call .start .at) (f .answer)) (replies values l))
+must : {values : ℕ → ℕ} {b : Calls} {l : List Point} → Linearizes values b l → (f : Finished) → f ∈ b .finished → T (said (code (f .call .start .at) (f .report .answer)) (replies values l))
 must {values} {l = l} r f i =
     let a = r .answers f i in
-    subst (λ (s : Begin). T (said (code (s .at) (f .answer)) (replies values l))) (a .1) (in-said (replies values l) (a .0, f .answer) (a .4))
+    subst (λ (s : Begin). T (said (code (s .at) (f .report .answer)) (replies values l))) (a .1) (in-said (replies values l) (a .0, f .report .answer) (a .4))
 
 -- A LATE SWAP THAT HALTS
 
@@ -129,11 +136,11 @@ must {values} {l = l} r f i =
 -- the block inactive; task 0 stores with line 23 (action 13) and halts for good; task 1 decides the block for 7 (action 15) and answers no.
 abbrev late-swap : List (Action × Event)
 late-swap =
-    (begin 0 (swap 0 5 7), begun) ∷ (begin 1 (swap 0 5 9), begun) ∷
-    (step 0, going 0) ∷ (step 0, going 0) ∷ (step 0, going 0) ∷ (step 0, going 0) ∷ (step 0, going 0) ∷ (step 0, going 0) ∷ (step 0, going 0) ∷
-    (step 1, going 0) ∷ (step 1, going 0) ∷ (step 1, going 0) ∷ (step 1, going 0) ∷
-    (step 0, going 0) ∷
-    (step 1, going 0) ∷ (step 1, going 1) ∷ (step 1, answered 0 No 7 1) ∷ []
+    (begin 0 (swap 0 5 7), accepted 0) ∷ (begin 1 (swap 0 5 9), accepted 0) ∷
+    (step 0, accepted 0) ∷ (step 0, accepted 0) ∷ (step 0, accepted 0) ∷ (step 0, accepted 0) ∷ (step 0, accepted 0) ∷ (step 0, accepted 0) ∷ (step 0, accepted 0) ∷
+    (step 1, accepted 0) ∷ (step 1, accepted 0) ∷ (step 1, accepted 0) ∷ (step 1, accepted 0) ∷
+    (step 0, accepted 0) ∷
+    (step 1, accepted 0) ∷ (step 1, accepted 1) ∷ (step 1, answers 0 aSwap No 7 1) ∷ []
 
 abbrev halted : Call
 halted = record { start = record { at = 0; task = 0; op = swap 0 5 7; before = [] }; last = 13; steps = 8; hard = 0 }
@@ -142,7 +149,7 @@ abbrev decider : Call
 decider = record { start = record { at = 1; task = 1; op = swap 0 5 9; before = begin 0 (swap 0 5 7) ∷ [] }; last = 16; steps = 7; hard = 1 }
 
 abbrev decided : Finished
-decided = record { call = decider; answer = No; steps = 7; hard = 1 }
+decided = record { call = decider; report = report aSwap No 7 1 }
 
 its-calls : (callsOf late-swap .pending 0 ≡ some halted) × (callsOf late-swap .pending 1 ≡ none) × (callsOf late-swap .finished ≡ decided ∷ []) × (callsOf late-swap .now ≡ 17)
 unfolding upd
@@ -175,7 +182,7 @@ late-linearizes m low high = record { sorted = (first, ((λ x i. absurd i), tt))
     placed x (inr (inl q)) = rw q (record { call = decider; end = 16; of-history = finished decided (inl refl); is = refl; after-begin = omega arith; by-last-step = omega arith })
 
     answers : (f : Finished) → f ∈ (decided ∷ []) →
-        (e : Point) × (e .call ≡ f .call .start) × (f .call .start .at < e .moment) × (e .moment ≤ f .call .last) × ((e, f .answer) ∈ replies five (point halted m ∷ point decider 15 ∷ []))
+        (e : Point) × (e .call ≡ f .call .start) × (f .call .start .at < e .moment) × (e .moment ≤ f .call .last) × ((e, f .report .answer) ∈ replies five (point halted m ∷ point decider 15 ∷ []))
     answers f (inl q) = rw q (point decider 15, refl, omega arith, omega arith, inr (inl refl))
 
 -- RIGHT: at the action that made the block inactive, where the source puts it; and at its own store
@@ -185,22 +192,24 @@ late-swap-at-the-freezing = late-linearizes 12 (omega arith) (omega arith)
 pub late-swap-at-its-store : Linearizes five (callsOf late-swap) (point halted 13 ∷ point decider 15 ∷ [])
 late-swap-at-its-store = late-linearizes 13 (omega arith) (omega arith)
 
--- RIGHT: the whole of demand 3, on a block active at both begins: the halted swap made no hardware CAS, the other was not alone
+-- RIGHT: the whole of demand 3, on a cell clear at both begins: the halted swap made no hardware CAS, the other was not alone
 pub late-swap-meets-demand-3 : Demand3 (λ l k. Unit {0}) 1 five late-swap
 unfolding upd
 late-swap-meets-demand-3 = record {
-  well-formed = ((refl, omega arith), ((refl, omega arith), (tt, (tt, (tt, (tt, (tt, (tt, (tt, (tt, (tt, (tt, (tt, (tt, (tt, (tt, (tt, tt)))))))))))))))));
-  linearization = point halted 12 ∷ point decider 15 ∷ [];
-  linearizes = late-swap-at-the-freezing;
-  bounds = record { ended = ended; reported = reported; unended = λ t c h. unended c (late-two c 17 (pending t c h)) };
-  no-hardware = λ c n i a l. hard c n i l (late-two c n i);
+  well-formed = ((refl, omega arith, refl), ((refl, omega arith, refl), (tt, (tt, (tt, (tt, (tt, (tt, (tt, (tt, (tt, (tt, (tt, (tt, (tt, (tt, (tt, tt)))))))))))))))));
+  calls = record {
+    linearization = point halted 12 ∷ point decider 15 ∷ [];
+    linearizes = late-swap-at-the-freezing;
+    bounds = record { ended = ended; reported = reported; unended = λ t c h. unended c (late-two c 17 (pending t c h)) };
+    no-hardware = λ c n i a l. hard c n i l (late-two c n i);
+  };
 }
   where
     ended : (f : Finished) → f ∈ (decided ∷ []) → (f .call .steps ≤ most (f .call .start .op)) × (f .call .hard ≤ mostHard (f .call .start .op))
     ended f (inl q) = rw q (omega arith)
 
-    reported : (f : Finished) → f ∈ (decided ∷ []) → (f .steps ≡ f .call .steps) × (f .hard ≡ f .call .hard)
-    reported f (inl q) = rw q (refl, refl)
+    reported : (f : Finished) → f ∈ (decided ∷ []) → Reports (f .call) (f .report)
+    reported f (inl q) = rw q (record { kind = refl; cell = refl; steps = refl; hard = refl })
 
     unended : (c : Call) → (c ≡ halted) ⊎ (c ≡ decider) → (c .steps < most (c .start .op)) × (c .hard ≤ mostHard (c .start .op))
     unended c (inl q) = rw q (omega arith)
@@ -265,9 +274,7 @@ no-other-cell = refl
 abbrev pub ended : (begun task : ℕ) → Op → List Action → (last steps hard : ℕ) → Answer → Finished
 ended n t op l last steps hard a = record {
   call = record { start = record { at = n; task = t; op = op; before = l }; last = last; steps = steps; hard = hard };
-  answer = a;
-  steps = steps;
-  hard = hard;
+  report = report (kindOf op) a steps hard;
 }
 
 -- all calls of the history are finished, and they are f and g
@@ -288,7 +295,7 @@ two-of f g h (inr (inl q)) = inl q
 
 -- a read answers 6, which its cell never held
 abbrev odd-read : List (Action × Event)
-odd-read = (begin 0 (read 0), begun) ∷ (step 0, going 0) ∷ (step 0, going 0) ∷ (step 0, answered 0 (Value 6) 3 0) ∷ []
+odd-read = (begin 0 (read 0), accepted 0) ∷ (step 0, accepted 0) ∷ (step 0, accepted 0) ∷ (step 0, answers 0 aRead (Value 6) 3 0) ∷ []
 
 abbrev odd : Finished
 odd = ended 0 0 (read 0) [] 3 3 0 (Value 6)
@@ -306,7 +313,7 @@ no-value-never-held l r = go l (must r odd (inl refl)) (shape (odd .call) (odd .
 
 -- a swap that nobody meets answers no, though its cell holds the value that it expects
 abbrev lone-no : List (Action × Event)
-lone-no = (begin 0 (swap 0 5 7), begun) ∷ (step 0, answered 0 No 1 0) ∷ []
+lone-no = (begin 0 (swap 0 5 7), accepted 0) ∷ (step 0, answers 0 aSwap No 1 0) ∷ []
 
 abbrev refusal : Finished
 refusal = ended 0 0 (swap 0 5 7) [] 1 1 0 No
@@ -327,7 +334,7 @@ no-spurious-no l r = go l (must r refusal (inl refl)) (shape (refusal .call) (re
 
 -- two swaps of the value 5 both answer yes
 abbrev two-winners : List (Action × Event)
-two-winners = (begin 0 (swap 0 5 7), begun) ∷ (begin 1 (swap 0 5 9), begun) ∷ (step 0, answered 0 Yes 1 0) ∷ (step 1, answered 0 Yes 1 0) ∷ []
+two-winners = (begin 0 (swap 0 5 7), accepted 0) ∷ (begin 1 (swap 0 5 9), accepted 0) ∷ (step 0, answers 0 aSwap Yes 1 0) ∷ (step 1, answers 0 aSwap Yes 1 0) ∷ []
 
 abbrev winner : Finished
 winner = ended 0 0 (swap 0 5 7) [] 2 1 0 Yes
@@ -351,7 +358,7 @@ no-two-winners l r = go l (must r winner (inr (inl refl))) (must r second-winner
 
 -- a read begins after a swap has ended, and answers the value before it
 abbrev stale-read : List (Action × Event)
-stale-read = (begin 0 (swap 0 5 7), begun) ∷ (step 0, answered 0 Yes 1 0) ∷ (begin 1 (read 0), begun) ∷ (step 1, answered 0 (Value 5) 1 0) ∷ []
+stale-read = (begin 0 (swap 0 5 7), accepted 0) ∷ (step 0, answers 0 aSwap Yes 1 0) ∷ (begin 1 (read 0), accepted 0) ∷ (step 1, answers 0 aRead (Value 5) 1 0) ∷ []
 
 abbrev changer : Finished
 changer = ended 0 0 (swap 0 5 7) [] 1 1 0 Yes

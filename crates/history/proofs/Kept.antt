@@ -35,7 +35,7 @@ pub data Entry (placed : ℕ → Bool) (when : ℕ → ℕ) (pending : ℕ → O
 -- a finished call's mark
 pub record MarkOf (f : Finished) (m : Mark) : Type 0 where
   pub call : m .call ≡ f .call .start
-  pub answer : m .answer ≡ f .answer
+  pub answer : m .answer ≡ f .report .answer
   pub begun : f .call .start .at < m .spot .moment
   pub stepped : m .spot .moment ≤ f .call .last
   pub sided : Sided (m .call .op) (m .answer) (m .spot)

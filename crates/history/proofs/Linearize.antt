@@ -5,7 +5,7 @@ use mathlib.Core.Option.{Option, some}
 use mathlib.Core.List.{List, [], _∷_, _++_}
 use Prim.Native.Nat.{ℕ, suc, _<_}
 use native.Mathlib.Omega.{arith}
-use Rattle.history.specs.History.{cellOf, Action, begin, step, Event, refused, begun, going, answered, Answer, Begin, Call, Calls, noCalls, enter}
+use Rattle.history.specs.History.{cellOf, Action, begin, step, Event, refused, accepted, answered, Answer, Begin, Call, Calls, noCalls, enter}
 use Rattle.history.specs.Moments.{Spot, Mark, markOf, marked, Names, beside}
 use Rattle.history.proofs.Simulation.{settled, Ghost, fresh, Knowledge, Move, shift, unplaced, Tally, May, Sided, Why, Keeps, Moves, Forward, Simulation}
 use Rattle.history.proofs.Tracks.{some-inj, tallied, tallyOf, call-of, Tracks, Change, refuses, starts, goes, ends}
@@ -13,8 +13,8 @@ use Rattle.history.proofs.MovesOne.{Dated, MovesOne, same-begin, dated-
 use Rattle.history.proofs.Kept.{cell-of, Entry, of-finished, of-pending, Kept, settled-late}
 use Rattle.history.proofs.Moves.{firm, Onto, Seen, knows, pass-onto, start-onto, go-onto, end-onto}
 
-module _ {S N : Type 0} {machine : S → Action → S × Event} {note : N → S → Action → Event → N} {names : Names (S × N)} {start : S} {blank : N} {active : S → ℕ → Type 0} {tasks size : ℕ} {values : ℕ → ℕ}
-    (M : Simulation machine note names start blank active tasks size values) where
+module _ {S N : Type 0} {machine : S → Action → S × Event} {note : N → S → Action → Event → N} {names : Names (S × N)} {start : S} {blank : N} {clear : S → ℕ → Type 0} {tasks size : ℕ} {values : ℕ → ℕ}
+    (M : Simulation machine note names start blank clear tasks size values) where
   abbrev X : Type 0
   X = S × N
 
@@ -130,16 +130,16 @@ module _ {S N : Type 0} {machine : S → Action → S × Event} {note : N → S 
     pub simulated-next : {a : Action} {e : Event} → Change (s .0) (s' .0) b a e → Tracks (M .doing) (s' .0) (enter b a e) → Forward doing (M .clock) names (M .Inv) s g known a s' e → Simulated s' (enter b a e) (marks-after a e)
     simulated-next {a = begin t op} (refuses q) same' f = refusing same' f
     simulated-next {a = step t} (refuses q) same' f = refusing same' f
-    simulated-next (starts {t} {op} idle) same' f = finish (enter b (begin t op) begun) (starts-on b dated t op idle) refl same' (unplaced g t) ms (start-onto g (G .kept) dated t op idle) f
-    simulated-next (goes {t} {x} c busy) same' f = finish (enter b (step t) (going x)) (goes-on b dated t x c busy) refl same' (shift g (b .now) t (c .start .op) (f .move)) ms
+    simulated-next (starts {t} {op} idle) same' f = finish (enter b (begin t op) (accepted 0)) (starts-on b dated t op idle) refl same' (unplaced g t) ms (start-onto g (G .kept) dated t op idle) f
+    simulated-next (goes {t} {x} c busy) same' f = finish (enter b (step t) (accepted x)) (goes-on b dated t x c busy) refl same' (shift g (b .now) t (c .start .op) (f .move)) ms
         (go-onto g (G .kept) dated doing s same t x c busy (f .move) (may t c busy f)) (keeps t c busy f)
-    simulated-next (ends {t} {x} {a} {n} {h} c busy p q r) same' f = subst (λ l. Simulated s' (enter b (step t) (answered x a n h)) (l ++ ms)) (sym (ap (λ o. markOf (beside machine note) names o a spot) busy))
-        (finish (enter b (step t) (answered x a n h)) (ends-on b dated t x c busy a n h) refl same' (shift g (b .now) t (c .start .op) mv) (record { spot = spot; call = c .start; answer = a } ∷ ms)
-        (end-onto g (G .kept) dated doing s same t x c busy a n h spot (subst (λ (n : Tally). Sided (n .op) a spot) tally (f .sided)) doing (M .clock) names s (G .clock) mv (may t c busy (f .moves))
-        (subst (λ (n : Tally). Why doing (M .clock) names s g known t (n .op) a (spot .moment) mv) tally (f .why))) (keeps t c busy (f .moves)))
+    simulated-next (ends {t} {x} {r} c busy p q) same' f = subst (λ l. Simulated s' (enter b (step t) (answered x r)) (l ++ ms)) (sym (ap (λ o. markOf (beside machine note) names o (r .answer) spot) busy))
+        (finish (enter b (step t) (answered x r)) (ends-on b dated t x c busy r) refl same' (shift g (b .now) t (c .start .op) mv) (record { spot = spot; call = c .start; answer = r .answer } ∷ ms)
+        (end-onto g (G .kept) dated doing s same t x c busy r spot (subst (λ (n : Tally). Sided (n .op) (r .answer) spot) tally (f .sided)) doing (M .clock) names s (G .clock) mv (may t c busy (f .moves))
+        (subst (λ (n : Tally). Why doing (M .clock) names s g known t (n .op) (r .answer) (spot .moment) mv) tally (f .why))) (keeps t c busy (f .moves)))
       where
         spot : Spot
-        spot = names .ending s t a
+        spot = names .ending s t (r .answer)
 
         mv : Move
         mv = f .moves .move

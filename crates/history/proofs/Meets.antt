@@ -2,7 +2,7 @@
 use mathlib.Core.List.{map}
 use Prim.Native.Nat.{ℕ}
 use Rattle.history.specs.History.{Action, Event}
-use Rattle.history.specs.Demand3.{Meets, activeAfter}
+use Rattle.history.specs.Demand3.{Meets, clearAfter}
 use Rattle.history.specs.Moments.{Names, pointOf}
 use Rattle.history.proofs.Simulation.{Simulation}
 use Rattle.history.proofs.Counts.{bounds-of}
@@ -12,15 +12,17 @@ use Rattle.history.proofs.Moments.{placing, marks-linearize}
 
 -- a machine with a simulation meets demand 3 at every list of actions: its histories are well-formed, its marks are a linearization by the
 -- sequential specification, its calls keep their bounds, and those without contention make no hardware CAS
-pub meets : {S N : Type 0} {machine : S → Action → S × Event} {note : N → S → Action → Event → N} {names : Names (S × N)} {start : S} {blank : N} {active : S → ℕ → Type 0} {tasks size : ℕ} {values : ℕ → ℕ} →
-    Simulation machine note names start blank active tasks size values → Meets machine start (activeAfter machine start active) size values
-meets {machine = machine} {start = start} {active = active} M l =
+pub meets : {S N : Type 0} {machine : S → Action → S × Event} {note : N → S → Action → Event → N} {names : Names (S × N)} {start : S} {blank : N} {clear : S → ℕ → Type 0} {tasks size : ℕ} {values : ℕ → ℕ} →
+    Simulation machine note names start blank clear tasks size values → Meets machine start (clearAfter machine start clear) size values
+meets {machine = machine} {start = start} {clear = clear} M l =
     let r = at-end M l in
     let G = r .good in
     record {
       well-formed = r .well-formed;
-      linearization = map pointOf (placing M l);
-      linearizes = marks-linearize M l;
-      bounds = bounds-of (within M (r .state) _ (r .finished) G) (G .ended);
-      no-hardware = no-hardware machine start active (M .doing) (M .Quiet) (G .quiet);
+      calls = record {
+        linearization = map pointOf (placing M l);
+        linearizes = marks-linearize M l;
+        bounds = bounds-of (within M (r .state) _ (r .finished) G) (G .ended);
+        no-hardware = no-hardware machine start clear (M .doing) (M .Quiet) (G .quiet);
+      };
     }

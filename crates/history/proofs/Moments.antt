@@ -127,8 +127,8 @@ module _ {S : Type 0} (machine : S → Action → S × Event) (names : Names S) 
 
 -- ALL OF IT
 
-module _ {S N : Type 0} {machine : S → Action → S × Event} {note : N → S → Action → Event → N} {names : Names (S × N)} {start : S} {blank : N} {active : S → ℕ → Type 0} {tasks size : ℕ} {values : ℕ → ℕ}
-    (M : Simulation machine note names start blank active tasks size values) (l : List Action) where
+module _ {S N : Type 0} {machine : S → Action → S × Event} {note : N → S → Action → Event → N} {names : Names (S × N)} {start : S} {blank : N} {clear : S → ℕ → Type 0} {tasks size : ℕ} {values : ℕ → ℕ}
+    (M : Simulation machine note names start blank clear tasks size values) (l : List Action) where
   r : AtEnd M (start, blank) noCalls [] l
   r = at-end M l
 
@@ -240,7 +240,7 @@ module _ {S N : Type 0} {machine : S → Action → S × Event} {note : N → S 
       w .2 .call,
       w .2 .begun,
       w .2 .stepped,
-      subst (λ q. (pointOf (w .0), f .answer) ∈ q) (sym answers-sorted) (subst (λ a. (pointOf (w .0), a) ∈ map replyOf sorted) (w .2 .answer)
+      subst (λ q. (pointOf (w .0), f .report .answer) ∈ q) (sym answers-sorted) (subst (λ a. (pointOf (w .0), a) ∈ map replyOf sorted) (w .2 .answer)
           (in-answers sorted (w .0) (in-sort (waiting ++ r .finished) (w .0) (mem-right waiting (r .finished) (w .0) (w .1))))),
     );
   }

@@ -8,7 +8,7 @@ use Prim.Native.Nat.{ℕ, suc, _≤_, _<_}
 use native.Mathlib.Omega.{arith}
 use lib.Dec.{T, T-not}
 use Rattle.history.specs.Basics.{upd}
-use Rattle.history.specs.History.{Op, cellOf, begin, step, refused, begun, going, answered, Answer, Yes, Begin, Call, Calls, advance, enter}
+use Rattle.history.specs.History.{Op, cellOf, begin, step, refused, accepted, answered, Answer, Yes, Report, Begin, Call, Calls, advance, enter}
 use Rattle.history.specs.Linearization.{reply, after, Point}
 use Rattle.history.specs.Moments.{Spot, Mark, pointOf, Names}
 use Rattle.history.proofs.Basics.{either, upd-at, upd-same, upd-off, upd-cases}
@@ -75,15 +75,15 @@ module _ {values : ℕ → ℕ} (g : Ghost) {b : Calls} {past : ℕ → ℕ → 
       let k₁ = calls-kept k (passes-on b dated 0) (k .marked) (λ c h. (c, h, onward c)) (g .placed) (λ u c h. refl) (λ u d h i. absurd (clash i h)) in
       record { later = past; kept = phases-kept k₁ (g .phase) (g .since) (firm g (suc n)) later (k₁ .lates); stays = λ j i h. refl; up = λ j. later j .0 }
 
-  pub start-onto : (t : ℕ) (op : Op) → b .pending t ≡ none → Onto values (unplaced g t) (enter b (begin t op) begun) past was ms
+  pub start-onto : (t : ℕ) (op : Op) → b .pending t ≡ none → Onto values (unplaced g t) (enter b (begin t op) (accepted 0)) past was ms
   start-onto t op idle =
       let k₁ = calls-kept k m (k .marked) (λ c h. absurd (clash idle h)) (upd (g .placed) t false) (λ u c h. upd-off (g .placed) t false u (λ q. clash idle (rw q at h))) new in
       record { later = past; kept = phases-kept k₁ (g .phase) (g .since) (firm g (suc n)) later (k₁ .lates); stays = λ j i h. refl; up = λ j. later j .0 }
     where
-      m : MovesOne 0 t b (enter b (begin t op) begun)
+      m : MovesOne 0 t b (enter b (begin t op) (accepted 0))
       m = starts-on b dated t op idle
 
-      new : (u : ℕ) (d : Call) → enter b (begin t op) begun .pending u ≡ some d → b .pending u ≡ none → T (not (upd (g .placed) t false u))
+      new : (u : ℕ) (d : Call) → enter b (begin t op) (accepted 0) .pending u ≡ some d → b .pending u ≡ none → T (not (upd (g .placed) t false u))
       new u d h i = go (either u t)
         where
           go : (u ≡ t) ⊎ (u ≢ t) → T (not (upd (g .placed) t false u))
@@ -94,7 +94,7 @@ module _ {values : ℕ → ℕ} (g : Ghost) {b : Calls} {past : ℕ → ℕ → 
 
   module _ {S : Type 0} (doing : S → ℕ → Option Tally) (s : S) (same : Tracks doing s b) (t x : ℕ) (c : Call) (busy : b .pending t ≡ some c) where
     abbrev pub stepped : Calls
-    stepped = enter b (step t) (going x)
+    stepped = enter b (step t) (accepted x)
 
     abbrev kk : ℕ
     kk = cell-of c
@@ -193,18 +193,21 @@ module _ {values : ℕ → ℕ} (g : Ghost) {b : Calls} {past : ℕ → ℕ → 
 
     -- THE CALL ENDS with the answer a, marked at the spot
 
-    module _ (a : Answer) (i h : ℕ) (spot : Spot) (sided : Sided (c .start .op) a spot) where
+    module _ (r : Report) (spot : Spot) (sided : Sided (c .start .op) (r .answer) spot) where
+      abbrev a : Answer
+      a = r .answer
+
       abbrev pub ended : Calls
-      ended = enter b (step t) (answered x a i h)
+      ended = enter b (step t) (answered x r)
 
       abbrev mark : Mark
       mark = record { spot = spot; call = c .start; answer = a }
 
       leaving : MovesOne 1 t stepped ended
-      leaving = leaves b dated t x c busy a i h
+      leaving = leaves b dated t x c busy r
 
       off : (u : ℕ) (d : Call) → ended .pending u ≡ some d → u ≢ t
-      off u d j q = ended-idle b dated t x c busy a i h d (rw q at j)
+      off u d j q = ended-idle b dated t x c busy r d (rw q at j)
 
       was-pending : (u : ℕ) (d : Call) → ended .pending u ≡ some d → stepped .pending u ≡ some d
       was-pending u d j = sym (leaving .others u (off u d j)) ∙ j
@@ -239,7 +242,7 @@ module _ {values : ℕ → ℕ} (g : Ghost) {b : Calls} {past : ℕ → ℕ → 
           ends = K .ends;
           firmed = λ e z j. firmed e z (split e z j);
           bound = K .bound;
-          marked = rw (ended-finished b dated t x c busy a i h) (record { call = refl; answer = refl; begun = low; stepped = high; sided = sided }, K .marked);
+          marked = rw (ended-finished b dated t x c busy r) (record { call = refl; answer = refl; begun = low; stepped = high; sided = sided }, K .marked);
           stands = λ u d j p. K .stands u d (was-pending u d j) p;
           lates = λ j u q. let p = K .lates j u q in
               record { call = p .call; busy = leaving .others u (λ e. unlate j (rw e at q)) ∙ p .busy; on = p .on; begun = p .begun; stepped = p .stepped; unplaced = p .unplaced };

@@ -6,7 +6,7 @@ use mathlib.Core.List.{_∷_}
 use Prim.Native.Nat.{ℕ, suc, _+_, _≤_, _<_}
 use native.Mathlib.Omega.{arith}
 use Rattle.history.specs.Basics.{_∈_}
-use Rattle.history.specs.History.{Op, Action, begin, step, Event, refused, begun, going, answered, Answer, Begin, Call, Finished, Calls, called, advance, advanced, closed, enter}
+use Rattle.history.specs.History.{Op, Action, begin, step, taskOf, Event, refused, accepted, answered, Report, Begin, Call, Finished, Calls, called, advance, advanced, closed, enter}
 use Rattle.history.specs.History.{CallOf, finished, pending}
 use Rattle.history.proofs.Basics.{either, upd-same, upd-off}
 use Rattle.history.proofs.Tracks.{clash, some-inj, Change, refuses, starts, goes, ends}
@@ -95,20 +95,16 @@ module _ {slack t : ℕ} {b b' : Calls} (m : MovesOne slack t b b') where
 
 -- WHAT THE ACTIONS MOVE
 
-abbrev pub taskOf : Action → ℕ
-taskOf (begin t op) = t
-taskOf (step t) = t
-
 module _ (b : Calls) (dated : Dated b) where
   -- a call becomes longer by a step
   module _ (t x : ℕ) (c : Call) (busy : b .pending t ≡ some c) where
     pub steps-on : Onward c (advance b x c)
     steps-on = record { start = refl; last = omega (arith, dated .past t c busy .1) }
 
-    pub going-pending : enter b (step t) (going x) .pending t ≡ some (advance b x c)
+    pub going-pending : enter b (step t) (accepted x) .pending t ≡ some (advance b x c)
     going-pending = upd-same (b .pending) t (advanced b x (b .pending t)) ∙ ap (advanced b x) busy
 
-    pub goes-on : MovesOne 0 t b (enter b (step t) (going x))
+    pub goes-on : MovesOne 0 t b (enter b (step t) (accepted x))
     goes-on = record {
       later = omega arith;
       others = upd-off (b .pending) t (advanced b x (b .pending t));
@@ -117,23 +113,23 @@ module _ (b : Calls) (dated : Dated b) where
       from = λ d h. rw (some-inj h going-pending) (omega (arith, dated .past t c busy .0), omega arith, inl (c, busy, steps-on));
     }
 
-    module _ (a : Answer) (n h : ℕ) where
+    module _ (r : Report) where
       abbrev pub last-one : Finished
-      last-one = record { call = advance b x c; answer = a; steps = n; hard = h }
+      last-one = record { call = advance b x c; report = r }
 
-      pub ended-finished : enter b (step t) (answered x a n h) .finished ≡ last-one ∷ b .finished
-      ended-finished = ap (λ o. closed (advanced b x o) a n h (b .finished)) busy
+      pub ended-finished : enter b (step t) (answered x r) .finished ≡ last-one ∷ b .finished
+      ended-finished = ap (λ o. closed (advanced b x o) r (b .finished)) busy
 
-      pub ended-last : CallOf (enter b (step t) (answered x a n h)) (advance b x c) (b .now)
+      pub ended-last : CallOf (enter b (step t) (answered x r)) (advance b x c) (b .now)
       ended-last = finished last-one (rw ended-finished (inl refl))
 
-      pub ended-idle : (d : Call) → enter b (step t) (answered x a n h) .pending t ≡ some d → ⊥
+      pub ended-idle : (d : Call) → enter b (step t) (answered x r) .pending t ≡ some d → ⊥
       ended-idle d i = clash (upd-same (b .pending) t none) i
 
-      ended-kept : (f : Finished) → f ∈ b .finished → f ∈ enter b (step t) (answered x a n h) .finished
+      ended-kept : (f : Finished) → f ∈ b .finished → f ∈ enter b (step t) (answered x r) .finished
       ended-kept f i = rw ended-finished (inr i)
 
-      pub ends-on : MovesOne 0 t b (enter b (step t) (answered x a n h))
+      pub ends-on : MovesOne 0 t b (enter b (step t) (answered x r))
       ends-on = record {
         later = omega arith;
         others = upd-off (b .pending) t none;
@@ -143,7 +139,7 @@ module _ (b : Calls) (dated : Dated b) where
       }
 
       -- the last step as one more step after which the call leaves
-      pub leaves : MovesOne 1 t (enter b (step t) (going x)) (enter b (step t) (answered x a n h))
+      pub leaves : MovesOne 1 t (enter b (step t) (accepted x)) (enter b (step t) (answered x r))
       leaves = record {
         later = omega arith;
         others = λ u q. upd-off (b .pending) t none u q ∙ sym (upd-off (b .pending) t (advanced b x (b .pending t)) u q);
@@ -152,7 +148,7 @@ module _ (b : Calls) (dated : Dated b) where
         from = λ d i. absurd (ended-idle d i);
       }
 
-  pub starts-on : (t : ℕ) (op : Op) → b .pending t ≡ none → MovesOne 0 t b (enter b (begin t op) begun)
+  pub starts-on : (t : ℕ) (op : Op) → b .pending t ≡ none → MovesOne 0 t b (enter b (begin t op) (accepted 0))
   starts-on t op idle = record {
     later = omega arith;
     others = upd-off (b .pending) t (some (called b t op));
@@ -174,4 +170,4 @@ module _ (b : Calls) (dated : Dated b) where
   moves-one (refuses {a} q) = passes-on (taskOf a)
   moves-one (starts {t} {op} idle) = starts-on t op idle
   moves-one (goes {t} {x} c busy) = goes-on t x c busy
-  moves-one (ends {t} {x} {a} {n} {h} c busy p q r) = ends-on t x c busy a n h
+  moves-one (ends {t} {x} {r} c busy p q) = ends-on t x c busy r

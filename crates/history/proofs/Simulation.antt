@@ -7,7 +7,7 @@ use mathlib.Core.Option.{Option, none, some}
 use Prim.Native.Nat.{ℕ, suc, _+_, _≤_, _<_}
 use lib.Dec.{T}
 use Rattle.history.specs.Basics.{upd}
-use Rattle.history.specs.History.{Op, cellOf, Action, begin, step, Event, refused, begun, going, answered, Answer, Yes}
+use Rattle.history.specs.History.{Op, cellOf, kindOf, Action, begin, step, Event, refused, accepted, answered, Answer, Yes, Report}
 use Rattle.history.specs.Linearization.{reply, after, apply}
 use Rattle.history.specs.Demand3.{most, mostHard, Unequal}
 use Rattle.history.specs.Moments.{before, itself, Spot, changes, Names, beside}
@@ -88,29 +88,30 @@ module _ {S : Type 0} (doing : S → ℕ → Option Tally) where
     pub was : doing s t ≡ some now
     pub rest : (u : ℕ) → doing s' u ≡ upd (doing s) t (some (further now x)) u
 
-  pub record Ends (s s' : S) (t x n h : ℕ) : Type 0 where
+  pub record Ends (s s' : S) (t x : ℕ) (r : Report) : Type 0 where
     pub now : Tally
     pub was : doing s t ≡ some now
     pub rest : (u : ℕ) → doing s' u ≡ upd (doing s) t none u
-    pub steps : n ≡ suc (now .steps)
-    pub hard : h ≡ now .hard + x
-    pub few : h ≤ mostHard (now .op)
+    pub kind : r .kind ≡ kindOf (now .op)
+    pub cell : r .cell ≡ cellOf (now .op)
+    pub steps : r .steps ≡ suc (now .steps)
+    pub hard : r .hard ≡ now .hard + x
+    pub few : r .hard ≤ mostHard (now .op)
 
-  pub record Starts (size : ℕ) (s s' : S) (t : ℕ) (op : Op) : Type 0 where
+  pub record Starts (size : ℕ) (s s' : S) (t : ℕ) (op : Op) (x : ℕ) : Type 0 where
     pub idle : doing s t ≡ none
     pub cell : cellOf op < size
     pub rest : (u : ℕ) → doing s' u ≡ upd (doing s) t (some (first op)) u
+    pub untried : x ≡ 0
 
   -- a refused action changes nothing; a step is refused only where no call is pending
   abbrev pub Follows : ℕ → S → Action → S → Event → Type 0
-  Follows size s (begin t op) s' (refused r) = s' ≡ s
-  Follows size s (begin t op) s' begun = Starts size s s' t op
-  Follows size s (begin t op) s' (going x) = ⊥
-  Follows size s (begin t op) s' (answered x a n h) = ⊥
-  Follows size s (step t) s' (refused r) = (s' ≡ s) × (doing s t ≡ none)
-  Follows size s (step t) s' begun = ⊥
-  Follows size s (step t) s' (going x) = Goes s s' t x
-  Follows size s (step t) s' (answered x a n h) = Ends s s' t x n h
+  Follows size s (begin t op) s' (refused n) = s' ≡ s
+  Follows size s (begin t op) s' (accepted x) = Starts size s s' t op x
+  Follows size s (begin t op) s' (answered x r) = ⊥
+  Follows size s (step t) s' (refused n) = (s' ≡ s) × (doing s t ≡ none)
+  Follows size s (step t) s' (accepted x) = Goes s s' t x
+  Follows size s (step t) s' (answered x r) = Ends s s' t x r
 
   -- FORWARD SIMULATION: what an action makes of the ghost
 
@@ -129,9 +130,9 @@ module _ {S : Type 0} (doing : S → ℕ → Option Tally) where
   abbrev pub Free : S → ℕ → Type 0
   Free s k = (u : ℕ) (n : Tally) → doing s u ≡ some n → Unequal (n .op) → cellOf (n .op) ≢ k
 
-  module _ (active : S → ℕ → Type 0) (Quiet : S → ℕ → Type 0) where
+  module _ (clear : S → ℕ → Type 0) (Quiet : S → ℕ → Type 0) where
     pub record QuietStarts (s s' : S) (t : ℕ) (op : Op) : Type 0 where
-      pub new : active s (cellOf op) → Free s (cellOf op) → Quiet s' t
+      pub new : clear s (cellOf op) → Free s (cellOf op) → Quiet s' t
       pub others : (u : ℕ) (n : Tally) → doing s u ≡ some n → (Unequal op → cellOf op ≢ cellOf (n .op)) → Quiet s u → Quiet s' u
 
     pub record QuietSteps (s s' : S) (t x : ℕ) : Type 0 where
@@ -139,13 +140,11 @@ module _ {S : Type 0} (doing : S → ℕ → Option Tally) where
       pub kept : (u : ℕ) (n : Tally) → doing s' u ≡ some n → Quiet s u → Quiet s' u
 
     abbrev pub Quietly : S → Action → S → Event → Type 0
-    Quietly s a s' (refused r) = Unit {0}
-    Quietly s (begin t op) s' begun = QuietStarts s s' t op
-    Quietly s (begin t op) s' (going x) = ⊥
-    Quietly s (begin t op) s' (answered x a n h) = ⊥
-    Quietly s (step t) s' begun = ⊥
-    Quietly s (step t) s' (going x) = QuietSteps s s' t x
-    Quietly s (step t) s' (answered x a n h) = QuietSteps s s' t x
+    Quietly s a s' (refused n) = Unit {0}
+    Quietly s (begin t op) s' (accepted x) = QuietStarts s s' t op
+    Quietly s (begin t op) s' (answered x r) = ⊥
+    Quietly s (step t) s' (accepted x) = QuietSteps s s' t x
+    Quietly s (step t) s' (answered x r) = QuietSteps s s' t x
 
 -- never before an action, and who changes its cell at the action itself
 pub record Sided (op : Op) (a : Answer) (p : Spot) : Type 0 where
@@ -186,13 +185,11 @@ module _ {X : Type 0} (doing : X → ℕ → Option Tally) (clock : X → ℕ) (
       pub sided : Sided (moves .now .op) a (names .ending x t a)
 
     abbrev pub Forward : X → Ghost → Knowledge → Action → X → Event → Type 1
-    Forward x g κ a x' (refused r) = Keeps x x' g κ
-    Forward x g κ (begin t op) x' begun = Keeps x x' (unplaced g t) κ
-    Forward x g κ (begin t op) x' (going y) = Lift {0, 1} ⊥
-    Forward x g κ (begin t op) x' (answered y a n h) = Lift {0, 1} ⊥
-    Forward x g κ (step t) x' begun = Lift {0, 1} ⊥
-    Forward x g κ (step t) x' (going y) = Moves x x' g κ t
-    Forward x g κ (step t) x' (answered y a n h) = Answers x x' g κ t a
+    Forward x g κ a x' (refused n) = Keeps x x' g κ
+    Forward x g κ (begin t op) x' (accepted y) = Keeps x x' (unplaced g t) κ
+    Forward x g κ (begin t op) x' (answered y r) = Lift {0, 1} ⊥
+    Forward x g κ (step t) x' (accepted y) = Moves x x' g κ t
+    Forward x g κ (step t) x' (answered y r) = Answers x x' g κ t (r .answer)
 
 -- a pending swap that took effect is named, with its moment
 pub record Named (names : Option Spot) (when : ℕ) : Type 0 where
@@ -204,7 +201,7 @@ pub record Named (names : Option Spot) (when : ℕ) : Type 0 where
 -- ALL OF IT, of a machine with notes beside it
 
 pub record Simulation {S N : Type 0} (machine : S → Action → S × Event) (note : N → S → Action → Event → N) (names : Names (S × N)) (start : S) (blank : N)
-    (active : S → ℕ → Type 0) (tasks size : ℕ) (values : ℕ → ℕ) : Type 1 where
+    (clear : S → ℕ → Type 0) (tasks size : ℕ) (values : ℕ → ℕ) : Type 1 where
   pub doing : S → ℕ → Option Tally
   pub clock : S × N → ℕ
   pub Inv : S × N → Ghost → Knowledge → Type 0
@@ -217,7 +214,7 @@ pub record Simulation {S N : Type 0} (machine : S → Action → S × Event) (no
   pub follows : (x : S × N) (g : Ghost) (κ : Knowledge) → Inv x g κ → (a : Action) → Follows doing size (x .0) a (machine (x .0) a .0) (machine (x .0) a .1)
   pub forward : (x : S × N) (g : Ghost) (κ : Knowledge) → Inv x g κ → (a : Action) →
       Forward (λ (y : S × N). doing (y .0)) clock names Inv x g κ a (beside machine note x a .0) (machine (x .0) a .1)
-  pub quietly : (x : S × N) (g : Ghost) (κ : Knowledge) → Inv x g κ → (a : Action) → Quietly doing active Quiet (x .0) a (machine (x .0) a .0) (machine (x .0) a .1)
+  pub quietly : (x : S × N) (g : Ghost) (κ : Knowledge) → Inv x g κ → (a : Action) → Quietly doing clear Quiet (x .0) a (machine (x .0) a .0) (machine (x .0) a .1)
   -- where the pending swaps of the tasks are named
   pub low : (x : S × N) (g : Ghost) (κ : Knowledge) → Inv x g κ → (t : ℕ) (n : Tally) → doing (x .0) t ≡ some n → t < tasks
   pub listed : (x : S × N) (g : Ghost) (κ : Knowledge) → Inv x g κ → (t : ℕ) (n : Tally) → doing (x .0) t ≡ some n → T (g .placed t) → Named (names .standing x t) (g .when t)

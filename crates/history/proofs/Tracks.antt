@@ -5,8 +5,8 @@ use mathlib.Core.Option.{Option, none, some}
 use Prim.Native.Nat.{ℕ, suc, _+_, _≤_}
 use native.Mathlib.Omega.{arith}
 use Rattle.history.specs.Basics.{upd}
-use Rattle.history.specs.History.{Op, Action, begin, step, Event, refused, begun, going, answered, Answer, Call, Calls, called, advanced, enter, IsBusy, Allowed}
-use Rattle.history.specs.Demand3.{mostHard}
+use Rattle.history.specs.History.{Op, cellOf, kindOf, Action, begin, step, Event, refused, accepted, answered, Report, Call, Calls, called, advance, advanced, enter, IsBusy, Allowed}
+use Rattle.history.specs.Demand3.{mostHard, Reports}
 use Rattle.history.proofs.Basics.{either, upd-at, upd-off}
 use Rattle.history.proofs.Simulation.{Tally, first, further, Follows}
 
@@ -59,10 +59,9 @@ Tracks doing s b = (t : ℕ) → doing s t ≡ tallyOf (b .pending t)
 -- what an action did: it was refused, or a call began, went on, or ended
 pub data Change {S : Type 0} (s s' : S) (b : Calls) : Action → Event → Type 0 where
   refuses : {a : Action} {r : ℕ} → s' ≡ s → Change s s' b a (refused r)
-  starts : {t : ℕ} {op : Op} → b .pending t ≡ none → Change s s' b (begin t op) begun
-  goes : {t x : ℕ} (c : Call) → b .pending t ≡ some c → Change s s' b (step t) (going x)
-  ends : {t x : ℕ} {a : Answer} {n h : ℕ} (c : Call) → b .pending t ≡ some c → n ≡ suc (c .steps) → h ≡ c .hard + x → h ≤ mostHard (c .start .op) →
-      Change s s' b (step t) (answered x a n h)
+  starts : {t : ℕ} {op : Op} {x : ℕ} → b .pending t ≡ none → Change s s' b (begin t op) (accepted x)
+  goes : {t x : ℕ} (c : Call) → b .pending t ≡ some c → Change s s' b (step t) (accepted x)
+  ends : {t x : ℕ} {r : Report} (c : Call) → b .pending t ≡ some c → Reports (advance b x c) r → r .hard ≤ mostHard (c .start .op) → Change s s' b (step t) (answered x r)
 
 pub record Tracked {S : Type 0} (doing : S → ℕ → Option Tally) (size : ℕ) (s s' : S) (b : Calls) (a : Action) (e : Event) : Type 0 where
   pub allowed : Allowed size b a e
@@ -75,22 +74,23 @@ module _ {S : Type 0} (doing : S → ℕ → Option Tally) (size : ℕ) (s s' : 
   changed t n o e rest u = rest u ∙ (ap (λ m. upd (doing s) t m u) e ∙ upd-map tallyOf (doing s) (b .pending) same t o u)
 
   pub tracked : (a : Action) (e : Event) → Follows doing size s a s' e → Tracked doing size s s' b a e
-  tracked (begin t op) (refused r) f = record { allowed = tt; change = refuses f; tracks = rw f same }
-  tracked (begin t op) begun f =
+  tracked (begin t op) (refused n) f = record { allowed = tt; change = refuses f; tracks = rw f same }
+  tracked (begin t op) (accepted x) f =
       let idle : b .pending t ≡ none = idle-of (b .pending t) (sym (same t) ∙ f .idle) in
-      record { allowed = (idle, f .cell); change = starts idle; tracks = changed t (some (first op)) (some (called b t op)) refl (f .rest) }
-  tracked (step t) (refused r) f = record { allowed = idle-of (b .pending t) (sym (same t) ∙ f .1); change = refuses (f .0); tracks = rw (f .0) same }
-  tracked (step t) (going x) f =
+      record { allowed = (idle, f .cell, f .untried); change = starts idle; tracks = changed t (some (first op)) (some (called b t op)) refl (f .rest) }
+  tracked (step t) (refused n) f = record { allowed = idle-of (b .pending t) (sym (same t) ∙ f .1); change = refuses (f .0); tracks = rw (f .0) same }
+  tracked (step t) (accepted x) f =
       let c = call-of (b .pending t) (f .now) (sym (same t) ∙ f .was) in
       record {
         allowed = is-busy (c .1);
         change = goes (c .0) (c .1);
         tracks = changed t (some (further (f .now) x)) (advanced b x (b .pending t)) (ap (λ n. some (further n x)) (sym (c .2)) ∙ sym (ap (λ o. tallyOf (advanced b x o)) (c .1))) (f .rest);
       }
-  tracked (step t) (answered x a n h) f =
+  tracked (step t) (answered x r) f =
       let c = call-of (b .pending t) (f .now) (sym (same t) ∙ f .was) in
       record {
         allowed = is-busy (c .1);
-        change = ends {x = x} {n = n} {h = h} (c .0) (c .1) (cc (c .2)) (cc (c .2)) (subst (λ (n : Tally). h ≤ mostHard (n .op)) (sym (c .2)) (f .few));
+        change = ends {x = x} {r = r} (c .0) (c .1) (record { kind = f .kind ∙ ap (λ (n : Tally). kindOf (n .op)) (sym (c .2)); cell = f .cell ∙ ap (λ (n : Tally). cellOf (n .op)) (sym (c .2)); steps = cc (c .2); hard = cc (c .2) })
+            (subst (λ (n : Tally). r .hard ≤ mostHard (n .op)) (sym (c .2)) (f .few));
         tracks = changed t none none refl (f .rest);
       }

@@ -6,7 +6,7 @@ use mathlib.Core.List.{List, _++_}
 use Prim.Native.Nat.{ℕ, _≤_, _<_}
 use lib.ListN.{replicate}
 use Rattle.history.specs.Basics.{_∈_}
-use Rattle.history.specs.History.{Op, read, swap, cellOf, Action, step, Event, history, run, Call, Finished, Calls, noCalls, callsOf, CallOf, WellFormed}
+use Rattle.history.specs.History.{Op, read, swap, cellOf, kindOf, Report, Action, step, Event, history, run, Call, Finished, Calls, noCalls, callsOf, CallOf, WellFormed}
 use Rattle.history.specs.Linearization.{Point, Linearizes}
 
 -- BOUNDS
@@ -19,9 +19,16 @@ abbrev pub mostHard : Op → ℕ
 mostHard (read k) = 1
 mostHard (swap k e n) = 3
 
+-- the kind and cell that a call reports are as begun, its counts those of the history
+pub record Reports (c : Call) (r : Report) : Type 0 where
+  pub kind : r .kind ≡ kindOf (c .start .op)
+  pub cell : r .cell ≡ cellOf (c .start .op)
+  pub steps : r .steps ≡ c .steps
+  pub hard : r .hard ≡ c .hard
+
 pub record Bounds (b : Calls) : Type 0 where
   pub ended : (f : Finished) → f ∈ b .finished → (f .call .steps ≤ most (f .call .start .op)) × (f .call .hard ≤ mostHard (f .call .start .op))
-  pub reported : (f : Finished) → f ∈ b .finished → (f .steps ≡ f .call .steps) × (f .hard ≡ f .call .hard)
+  pub reported : (f : Finished) → f ∈ b .finished → Reports (f .call) (f .report)
   pub unended : (t : ℕ) (c : Call) → b .pending t ≡ some c → (c .steps < most (c .start .op)) × (c .hard ≤ mostHard (c .start .op))
 
 -- NO HARDWARE CAS WITHOUT CONTENTION
@@ -35,28 +42,32 @@ abbrev pub Alone : Calls → Call → ℕ → Type 0
 Alone b c end = (d : Call) (n : ℕ) → CallOf b d n → Unequal (d .start .op) → cellOf (d .start .op) ≡ cellOf (c .start .op) →
     d .start .at ≢ c .start .at → (n ≤ c .start .at) ⊎ (end ≤ d .start .at)
 
--- `Active l k`: cell k's block is active in the figure that was fed the actions l
+-- `Clear l k`: nothing that was left in cell k by the accepted actions l makes a call attempt a hardware CAS
 abbrev pub NoHardware : (List Action → ℕ → Type 0) → Calls → Type 0
-NoHardware Active b = (c : Call) (n : ℕ) → CallOf b c n → Active (c .start .before) (cellOf (c .start .op)) → Alone b c n → c .hard ≡ 0
+NoHardware Clear b = (c : Call) (n : ℕ) → CallOf b c n → Clear (c .start .before) (cellOf (c .start .op)) → Alone b c n → c .hard ≡ 0
 
--- cell k's block is active in the machine that was fed the actions l
-abbrev pub activeAfter : {S : Type 0} → (S → Action → S × Event) → S → (S → ℕ → Type 0) → List Action → ℕ → Type 0
-activeAfter machine start active l k = active (run machine start l) k
+-- by the machine that was fed the actions l
+abbrev pub clearAfter : {S : Type 0} → (S → Action → S × Event) → S → (S → ℕ → Type 0) → List Action → ℕ → Type 0
+clearAfter machine start clear l k = clear (run machine start l) k
 
 -- DEMAND 3. It speaks of histories alone. A machine that refuses every begin meets it, and so does one that acts at once and then idles:
 -- demand 1 ties refusals to the questions, and demand 2 each step to a line. `tried` is the machine's own word: in `pool` and `figure` it
 -- is read off the access of the step's line.
 
-pub record Demand3 (Active : List Action → ℕ → Type 0) (size : ℕ) (values : ℕ → ℕ) (h : List (Action × Event)) : Type 0 where
-  pub well-formed : WellFormed size noCalls h
+-- of the calls alone
+pub record RightCalls (Clear : List Action → ℕ → Type 0) (values : ℕ → ℕ) (b : Calls) : Type 0 where
   pub linearization : List Point
-  pub linearizes : Linearizes values (callsOf h) linearization
-  pub bounds : Bounds (callsOf h)
-  pub no-hardware : NoHardware Active (callsOf h)
+  pub linearizes : Linearizes values b linearization
+  pub bounds : Bounds b
+  pub no-hardware : NoHardware Clear b
+
+pub record Demand3 (Clear : List Action → ℕ → Type 0) (size : ℕ) (values : ℕ → ℕ) (h : List (Action × Event)) : Type 0 where
+  pub well-formed : WellFormed size noCalls h
+  pub calls : RightCalls Clear values (callsOf h)
 
 -- a machine meets it from a state: every list of actions
 abbrev pub Meets : {S : Type 0} → (S → Action → S × Event) → S → (List Action → ℕ → Type 0) → ℕ → (ℕ → ℕ) → Type 0
-Meets act s Active size values = (l : List Action) → Demand3 Active size values (history act s l)
+Meets machine start Clear size values = (l : List Action) → Demand3 Clear size values (history machine start l)
 
 -- WHAT A PLANNER READS FROM IT
 

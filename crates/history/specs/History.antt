@@ -16,20 +16,39 @@ abbrev pub cellOf : Op → ℕ
 cellOf (read k) = k
 cellOf (swap k e n) = k
 
+pub data Kind : Type 0 where
+  aRead aSwap : Kind
+
+abbrev pub kindOf : Op → Kind
+kindOf (read k) = aRead
+kindOf (swap k e n) = aSwap
+
 pub data Action : Type 0 where
   begin : (task : ℕ) → Op → Action
   step : (task : ℕ) → Action
+
+abbrev pub taskOf : Action → ℕ
+taskOf (begin t op) = t
+taskOf (step t) = t
 
 pub data Answer : Type 0 where
   Value : ℕ → Answer
   Yes No : Answer
 
--- what an action gave. `tried`: the hardware CAS attempts of this step; `steps`, `hard`: the counts that a last step reports
+-- what a call's last step reports
+pub record Report : Type 0 where
+  pub kind : Kind
+  pub cell : ℕ
+  pub answer : Answer
+  pub steps : ℕ
+  pub hard : ℕ
+
+-- what an action gave: the number of a refusal; that it was accepted, and its call goes on; that its call is finished. `tried`: the hardware
+-- CAS attempts of this action
 pub data Event : Type 0 where
   refused : (number : ℕ) → Event
-  begun : Event
-  going : (tried : ℕ) → Event
-  answered : (tried : ℕ) → Answer → (steps hard : ℕ) → Event
+  accepted : (tried : ℕ) → Event
+  answered : (tried : ℕ) → Report → Event
 
 -- each action gets the state as the one before left it
 abbrev pub history : {S : Type 0} → (S → Action → S × Event) → S → List Action → List (Action × Event)
@@ -60,9 +79,7 @@ pub record Call : Type 0 where
 -- a finished call, and what its last step reported
 pub record Finished : Type 0 where
   pub call : Call
-  pub answer : Answer
-  pub steps : ℕ
-  pub hard : ℕ
+  pub report : Report
 
 -- the calls of a history: the next action's number, the accepted actions, each task's pending call, the finished calls.
 -- Document 01 says unfinished for pending; a pending call whose task takes no further step has halted.
@@ -85,9 +102,9 @@ abbrev pub advanced : Calls → ℕ → Option Call → Option Call
 advanced b x none = none
 advanced b x (some c) = some (advance b x c)
 
-abbrev pub closed : Option Call → Answer → ℕ → ℕ → List Finished → List Finished
-closed none a n h l = l
-closed (some c) a n h l = record { call = c; answer = a; steps = n; hard = h } ∷ l
+abbrev pub closed : Option Call → Report → List Finished → List Finished
+closed none r l = l
+closed (some c) r l = record { call = c; report = r } ∷ l
 
 -- an action that moves no call
 abbrev pub passed : Calls → Calls
@@ -98,12 +115,10 @@ moved b a pending finished = record { now = suc (b .now); accepted = b .accepted
 
 abbrev pub enter : Calls → Action → Event → Calls
 enter b a (refused r) = passed b
-enter b (begin t op) begun = moved b (begin t op) (upd (b .pending) t (some (called b t op))) (b .finished)
-enter b (begin t op) (going x) = passed b
-enter b (begin t op) (answered x a n h) = passed b
-enter b (step t) begun = passed b
-enter b (step t) (going x) = moved b (step t) (upd (b .pending) t (advanced b x (b .pending t))) (b .finished)
-enter b (step t) (answered x a n h) = moved b (step t) (upd (b .pending) t none) (closed (advanced b x (b .pending t)) a n h (b .finished))
+enter b (begin t op) (accepted x) = moved b (begin t op) (upd (b .pending) t (some (called b t op))) (b .finished)
+enter b (begin t op) (answered x r) = passed b
+enter b (step t) (accepted x) = moved b (step t) (upd (b .pending) t (advanced b x (b .pending t))) (b .finished)
+enter b (step t) (answered x r) = moved b (step t) (upd (b .pending) t none) (closed (advanced b x (b .pending t)) r (b .finished))
 
 abbrev pub enterAll : Calls → List (Action × Event) → Calls
 enterAll b [] = b
@@ -123,17 +138,15 @@ abbrev pub IsBusy : Option Call → Type 0
 IsBusy none = ⊥
 IsBusy (some c) = Unit {0}
 
--- an event that its action may give: a task has one call at a time, on a cell that there is; a step of a pending call is never
--- refused, and no other step goes on or answers
+-- an event that its action may give: a task has one call at a time, on a cell that there is, and a begin attempts no hardware CAS; a step of a
+-- pending call is never refused, and no other step goes on or answers
 abbrev pub Allowed : ℕ → Calls → Action → Event → Type 0
-Allowed size b (begin t op) (refused r) = Unit {0}
-Allowed size b (begin t op) begun = (b .pending t ≡ none) × (cellOf op < size)
-Allowed size b (begin t op) (going x) = ⊥
-Allowed size b (begin t op) (answered x a n h) = ⊥
-Allowed size b (step t) (refused r) = b .pending t ≡ none
-Allowed size b (step t) begun = ⊥
-Allowed size b (step t) (going x) = IsBusy (b .pending t)
-Allowed size b (step t) (answered x a n h) = IsBusy (b .pending t)
+Allowed size b (begin t op) (refused n) = Unit {0}
+Allowed size b (begin t op) (accepted x) = (b .pending t ≡ none) × (cellOf op < size) × (x ≡ 0)
+Allowed size b (begin t op) (answered x r) = ⊥
+Allowed size b (step t) (refused n) = b .pending t ≡ none
+Allowed size b (step t) (accepted x) = IsBusy (b .pending t)
+Allowed size b (step t) (answered x r) = IsBusy (b .pending t)
 
 abbrev pub WellFormed : ℕ → Calls → List (Action × Event) → Type 0
 WellFormed size b [] = Unit {0}

@@ -53,4 +53,4 @@ pub record Linearizes (values : ℕ → ℕ) (b : Calls) (l : List Point) : Type
   pub placed : (e : Point) → e ∈ l → Placed b e
   pub once : Once (map (λ e. e .call .at) l)
   pub answers : (f : Finished) → f ∈ b .finished →
-      (e : Point) × (e .call ≡ f .call .start) × (f .call .start .at < e .moment) × (e .moment ≤ f .call .last) × ((e, f .answer) ∈ replies values l)
+      (e : Point) × (e .call ≡ f .call .start) × (f .call .start .at < e .moment) × (e .moment ≤ f .call .last) × ((e, f .report .answer) ∈ replies values l)

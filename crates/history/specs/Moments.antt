@@ -5,7 +5,7 @@ use mathlib.Core.Option.{Option, none, some}
 use mathlib.Core.List.{List, [], _∷_, _++_}
 use Prim.Native.Nat.{ℕ, zero, suc}
 use lib.Dec.{eqb, leb}
-use Rattle.history.specs.History.{Op, read, swap, Action, begin, step, Event, refused, begun, going, answered, Answer, Value, Yes, No, Begin, Call, Calls, noCalls, enter}
+use Rattle.history.specs.History.{Op, read, swap, Action, begin, step, Event, refused, accepted, answered, Answer, Value, Yes, No, Begin, Call, Calls, noCalls, enter}
 use Rattle.history.specs.Linearization.{Point}
 
 -- MARKS
@@ -90,10 +90,9 @@ module _ {S : Type 0} (machine : S → Action → S × Event) (names : Names S) 
   -- the mark of a call that the action ends
   abbrev pub marked : S → Calls → Action → Event → List Mark
   marked s b (begin t op) e = []
-  marked s b (step t) (refused r) = []
-  marked s b (step t) begun = []
-  marked s b (step t) (going x) = []
-  marked s b (step t) (answered x a n h) = markOf (b .pending t) a (names .ending s t a)
+  marked s b (step t) (refused n) = []
+  marked s b (step t) (accepted x) = []
+  marked s b (step t) (answered x r) = markOf (b .pending t) (r .answer) (names .ending s t (r .answer))
 
   abbrev pub markOfPending : Option Spot → Option Call → List Mark
   markOfPending none o = []

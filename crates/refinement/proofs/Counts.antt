@@ -9,12 +9,12 @@ use Rattle.questions.specs.Questions.{refusal, openQuestions}
 use Rattle.history.specs.Basics.{_∈_}
 use Rattle.history.specs.History.{Action, history, callsOf}
 use Rattle.figure.specs.Figure.{opening}
-use Rattle.figure.specs.Paths.{Traced, Trace, noTrace, Counted}
+use Rattle.figure.specs.Paths.{Traced, Trace, noTrace, Counted, finishedReport, tracedReport}
 use Rattle.figure.proofs.Records.{figureTraces}
 use Rattle.figure.proofs.Paths.{calls-on-paths, row}
 use Rattle.figure.proofs.Ninth.{never-ninth, one-of-twelve}
-use Rattle.figure.proofs.TracedCalls.{finishedReport, tracedReport, same-calls}
-use Rattle.refinement.specs.Pool.{pool}
+use Rattle.figure.proofs.TracedCalls.{same-calls}
+use Rattle.cells.specs.Machine.{pool}
 use Rattle.refinement.specs.Terms.{start}
 use Rattle.refinement.specs.Traces.{nextLine, trace}
 use Rattle.refinement.proofs.Traces.{same-trace}

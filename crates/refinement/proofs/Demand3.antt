@@ -15,11 +15,11 @@ use Rattle.lines.specs.Record.{noValue}
 use Rattle.questions.specs.Questions.{refusal, hasNone, openQuestions}
 use Rattle.questions.proofs.Tests.{nth, answers, all-yes, none-of}
 use Rattle.history.specs.History.{Action, Event, history, Call, callsOf}
-use Rattle.history.specs.Demand3.{most, Demand3, Meets, Finishes, activeAfter}
+use Rattle.history.specs.Demand3.{most, Demand3, Meets, Finishes, clearAfter}
 use Rattle.history.proofs.EndsWithin.{ends-within}
-use Rattle.figure.specs.Figure.{figure, opening, active}
+use Rattle.figure.specs.Figure.{figure, opening, clear}
 use Rattle.figure.proofs.Simulation.{figure-meets-demand-3}
-use Rattle.refinement.specs.Pool.{pool}
+use Rattle.cells.specs.Machine.{pool}
 use Rattle.refinement.specs.Terms.{start}
 use Rattle.refinement.proofs.Refines.{same-history}
 
@@ -53,9 +53,9 @@ module _ (s : State) (p : List ℕ) (n v b : ℕ) (vs : List ℕ) (ok : refusal 
   -- every one after its begin and no later than its last step; a read ends within 6 own steps with at most 1 hardware CAS, a swap within
   -- 17 with at most 3; and a call attempts none if its cell's block was active at its begin and no other swap of unequal values is
   -- pending on that cell from its begin to its end.
-  pub cells-meet-demand-3 : Meets pool (start s p n v b vs) (activeAfter figure (opening n v vs) active) v (λ k. getD vs k 0)
+  pub cells-meet-demand-3 : Meets pool (start s p n v b vs) (clearAfter figure (opening n v vs) clear) v (λ k. getD vs k 0)
   cells-meet-demand-3 l =
-      subst (λ (h : List (Action × Event)). Demand3 (activeAfter figure (opening n v vs) active) v (λ k. getD vs k 0) h) (sym (same-history s p n v b vs ok l))
+      subst (λ (h : List (Action × Event)). Demand3 (clearAfter figure (opening n v vs) clear) v (λ k. getD vs k 0) h) (sym (same-history s p n v b vs ok l))
       (figure-meets-demand-3 n v vs starting-values l)
 
   -- From anywhere in any list, at most 6 further steps of its task finish a read, and at most 17 a swap.

@@ -19,12 +19,13 @@ use Rattle.questions.specs.Questions.{refusal, openQuestions}
 use Rattle.lines.specs.Record.{firstRead}
 use Rattle.cells.specs.Look.{looked, shown, shownValue}
 use Rattle.history.specs.Basics.{upd}
-use Rattle.history.specs.History.{Action, begin, step, read, Value, Event, begun, going, answered, history, run}
+use Rattle.history.specs.History.{Action, begin, step, read, Value, Event, accepted, answered, history, run}
 use Rattle.history.proofs.Basics.{upd-same, upd-off, upd-cases}
-use Rattle.figure.specs.Figure.{Cell, World, withBoth, store, perform, recordAfter, outcomeOf, stepEvent, tried, figure}
+use Rattle.figure.specs.Figure.{Cell, World, withBoth, store, perform, recordAfter, outcomeOf, figure}
+use Rattle.cells.specs.Events.{eventOf, tried}
 use Rattle.figure.specs.Figure
-use Rattle.refinement.specs.Pool.{Pool, pool}
-use Rattle.refinement.specs.Terms.{start, isActive, loneRead, lastEvent}
+use Rattle.cells.specs.Machine.{Pool, pool}
+use Rattle.refinement.specs.Terms.{start, isActive, loneRead, lastEvent, readReport}
 use Rattle.refinement.proofs.Agree.{upd-own}
 use Rattle.refinement.proofs.Refines.{Together, together, histories, looks, same-words}
 
@@ -44,7 +45,7 @@ module _ (t : ℕ) where
   nextCell m q = perform m (accessOf t q) .cell
 
   abbrev event : Cell → Record → Event
-  event m q = stepEvent (tried t q) (outcomeOf (next m q))
+  event m q = eventOf (tried t q) (outcomeOf (next m q))
 
   abbrev alone : ℕ → Cell → Record → List (Action × Event)
   alone zero m q = []
@@ -71,15 +72,15 @@ module _ (t : ℕ) where
     -- A READ ALONE
 
     reads-alone : (k i : ℕ) → k < w .cells → isIdle (w .records t) ≡ true → Pending k i (w .cell k) (firstRead k)
-        → history figure w (loneRead t k i) ≡ (begin t (read k), begun) ∷ alone i (w .cell k) (firstRead k)
+        → history figure w (loneRead t k i) ≡ (begin t (read k), accepted 0) ∷ alone i (w .cell k) (firstRead k)
     unfolding Figure.begins
     reads-alone k i h idle pending =
         rw (lt-ltb t (w .tasks) l, lt-ltb k (w .cells) h, idle)
-        (ap (λ (x : List (Action × Event)). (begin t (read k), begun) ∷ x) (rw (upd-own (w .cell) k) at (runs-alone k i (w .cell k) (firstRead k) pending)))
+        (ap (λ (x : List (Action × Event)). (begin t (read k), accepted 0) ∷ x) (rw (upd-own (w .cell) k) at (runs-alone k i (w .cell k) (firstRead k) pending)))
 
   -- of a call at q, the last of i steps answers x, after h hardware CAS
   abbrev Answers : (k i h x : ℕ) → Cell → Record → Type 0
-  Answers k i h x m q = Pending k i m q × (lastEvent (alone i m q) ≡ some (answered 0 (Value x) i h))
+  Answers k i h x m q = Pending k i m q × (lastEvent (alone i m q) ≡ some (answered 0 (readReport k x i h)))
 
   -- where C is false, three steps
   active-read : (k : ℕ) (m : Cell) → eqb (m .c (m .current)) 0 ≡ true → Answers k 3 0 (shows m) m (firstRead k)
@@ -94,13 +95,13 @@ module _ (t : ℕ) where
   decided m b x false = refl
 
   decides : (k : ℕ) (m : Cell) → let b = m .current in
-      Pending k 3 m (wanting13 k m) × (lastEvent (alone 3 m (wanting13 k m)) ≡ some (answered 0 (Value (cond (eqb (m .d b) noValue) (m .v b) (m .d b))) 6 1))
+      Pending k 3 m (wanting13 k m) × (lastEvent (alone 3 m (wanting13 k m)) ≡ some (answered 0 (readReport k (cond (eqb (m .d b) noValue) (m .v b) (m .d b)) 6 1)))
   decides k m =
       let b = m .current in
-      ((refl, refl, (refl, refl, (refl, refl, tt))), ap (λ (x : ℕ). some (answered 0 (Value x) 6 1)) (decided m b (m .v b) (eqb (m .d b) noValue)))
+      ((refl, refl, (refl, refl, (refl, refl, tt))), ap (λ (x : ℕ). some (answered 0 (readReport k x 6 1))) (decided m b (m .v b) (eqb (m .d b) noValue)))
 
   module _ (k i : ℕ) (m : Cell) (e : eqb (m .c (m .current)) 0 ≡ false) where
-    to-line-13 : alone (suc (suc (suc i))) m (firstRead k) ≡ (step t, going 0) ∷ (step t, going 0) ∷ (step t, going 0) ∷ alone i m (wanting13 k m)
+    to-line-13 : alone (suc (suc (suc i))) m (firstRead k) ≡ (step t, accepted 0) ∷ (step t, accepted 0) ∷ (step t, accepted 0) ∷ alone i m (wanting13 k m)
     to-line-13 = rw e
 
     pending-to-13 : Pending k i m (wanting13 k m) → Pending k (suc (suc (suc i))) m (firstRead k)
@@ -109,10 +110,10 @@ module _ (t : ℕ) where
   decided-read : (k : ℕ) (m : Cell) → eqb (m .c (m .current)) 0 ≡ false → Answers k 6 1 (shows m) m (firstRead k)
   decided-read k m e =
       let value : shows m ≡ cond (eqb (m .d (m .current)) noValue) (m .v (m .current)) (m .d (m .current)) = rw e in
-      (pending-to-13 k 3 m e (decides k m .0), ap lastEvent (to-line-13 k 3 m e) ∙ decides k m .1 ∙ ap (λ (x : ℕ). some (answered 0 (Value x) 6 1)) (sym value))
+      (pending-to-13 k 3 m e (decides k m .0), ap lastEvent (to-line-13 k 3 m e) ∙ decides k m .1 ∙ ap (λ (x : ℕ). some (answered 0 (readReport k x 6 1))) (sym value))
 
 lone-read : (t k : ℕ) (w : World) → t < w .tasks → k < w .cells → isIdle (w .records t) ≡ true → (c : Bool) → eqb (w .cell k .c (w .cell k .current)) 0 ≡ c
-    → lastEvent (history figure w (loneRead t k (cond c 3 6))) ≡ some (answered 0 (Value (shows (w .cell k))) (cond c 3 6) (cond c 0 1))
+    → lastEvent (history figure w (loneRead t k (cond c 3 6))) ≡ some (answered 0 (readReport k (shows (w .cell k)) (cond c 3 6) (cond c 0 1)))
 lone-read t k w l h idle true e = let r = active-read t k (w .cell k) e in ap lastEvent (reads-alone t w l k 3 h idle (r .0)) ∙ r .1
 lone-read t k w l h idle false e = let r = decided-read t k (w .cell k) e in ap lastEvent (reads-alone t w l k 6 h idle (r .0)) ∙ r .1
 
@@ -127,7 +128,7 @@ shown-by k y w = go (ltb k (w .cells)) refl
 -- IN THE POOL
 
 reads-what-it-shows : {n v : ℕ} {x : Pool} {w : World} → Together n v x w → (t k y : ℕ) → t < n → isIdle (recordAt (x .0 .records) t) ≡ true → looked (x .0) (x .1) k ≡ Shown y
-    → (c : Bool) → isActive x k ≡ c → lastEvent (history pool x (loneRead t k (cond c 3 6))) ≡ some (answered 0 (Value y) (cond c 3 6) (cond c 0 1))
+    → (c : Bool) → isActive x k ≡ c → lastEvent (history pool x (loneRead t k (cond c 3 6))) ≡ some (answered 0 (readReport k y (cond c 3 6) (cond c 0 1)))
 reads-what-it-shows {n} {v} {x} {w} g t k y l idle look c e =
     let sizes = g .agree .sizes in
     let by = shown-by k y w (sym (looks g k) ∙ look) in
@@ -135,11 +136,11 @@ reads-what-it-shows {n} {v} {x} {w} g t k y l idle look c e =
     let free : isIdle (w .records t) ≡ true = sym (ap isIdle (g .agree .records t l .same)) ∙ idle in
     ap lastEvent (histories (loneRead t k (cond c 3 6)) g)
     ∙ lone-read t k w (rw (sizes .tasks-too) l) (by .0) free c (ap (λ (x : ℕ). eqb x 0) (sym same) ∙ e)
-    ∙ ap (λ (y : ℕ). some (answered 0 (Value y) (cond c 3 6) (cond c 0 1))) (by .1)
+    ∙ ap (λ (y : ℕ). some (answered 0 (readReport k y (cond c 3 6) (cond c 0 1)))) (by .1)
 
 -- What look shows, a read returns that an idle task begins now and runs alone: with its third step, no hardware CAS attempted, where C of the
 -- cell's current block is false; otherwise with its sixth, having attempted one.
 pub look-is-a-lone-read : (s : State) (p : List ℕ) (n v b : ℕ) (vs : List ℕ) → refusal (openQuestions (length p) n v b vs) ≡ none
     → (l : List Action) (t k y : ℕ) → let x = run pool (start s p n v b vs) l in t < n → isIdle (recordAt (x .0 .records) t) ≡ true → looked (x .0) (x .1) k ≡ Shown y
-    → let c = isActive x k in lastEvent (history pool x (loneRead t k (cond c 3 6))) ≡ some (answered 0 (Value y) (cond c 3 6) (cond c 0 1))
+    → let c = isActive x k in lastEvent (history pool x (loneRead t k (cond c 3 6))) ≡ some (answered 0 (readReport k y (cond c 3 6) (cond c 0 1)))
 look-is-a-lone-read s p n v b vs ok l t k y h idle look = reads-what-it-shows (together s p n v b vs ok l) t k y h idle look (isActive (run pool (start s p n v b vs) l) k) refl

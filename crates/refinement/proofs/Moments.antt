@@ -18,7 +18,7 @@ use Rattle.questions.specs.declared.State.{State}
 use Rattle.questions.specs.Questions.{refusal, openQuestions}
 use Rattle.cells.specs.Pool.{word}
 use Rattle.cells.specs.Step.{current}
-use Rattle.history.specs.History.{Action, begin, step, Answer, Value, Yes, No, Event, refused, begun, going, answered, history, run, Calls, noCalls, callsOf}
+use Rattle.history.specs.History.{Action, begin, step, Answer, Value, Yes, No, Event, refused, accepted, answered, history, run, Calls, noCalls, callsOf}
 use Rattle.history.specs.Basics.{_∈_}
 use Rattle.history.specs.Linearization.{replies, Linearizes}
 use Rattle.history.specs.Moments.{before, Spot, Mark, pointOf, replyOf, markOf, markOfPending, marked, pendingMarks, marks, sort}
@@ -26,7 +26,7 @@ use Rattle.figure.specs.Figure.{World, wordOf, figure, opening}
 use Rattle.figure.specs.Moments.{holdsBlock, Sight, Notes, noNotes, nothingNoted, noteStep, note, noting, names, ruled, stands, sees, moments}
 use Rattle.figure.proofs.Records.{WellRecord}
 use Rattle.figure.proofs.Simulation.{moments-linearize, moments-answers, never-before}
-use Rattle.refinement.specs.Pool.{Pool, pool}
+use Rattle.cells.specs.Machine.{Pool, pool}
 use Rattle.refinement.specs.Terms.{start, named}
 use Rattle.refinement.specs.Moments.{seesPool, poolMoments}
 use Rattle.refinement.proofs.Memory as Memory
@@ -45,9 +45,8 @@ notesOf u o = record { now = o .now; loaded = λ _. o .loaded u; stored = λ _. 
 -- a task's next notes are made of its own part
 own-part : (u : ℕ) (e : Event) (o : Notes) (t : ℕ) (x : Sight) → notesOf u (noteStep e o t x) ≡ notesOf u (noteStep e (notesOf u o) t (sightOf u x))
 own-part u (refused r) o t x = refl
-own-part u begun o t x = refl
-own-part u (going y) o t x = refl
-own-part u (answered y a n h) o t x = refl
+own-part u (accepted y) o t x = refl
+own-part u (answered y r) o t x = refl
 
 -- the notes of n tasks are the same
 abbrev Alike : ℕ → Notes → Notes → Type 0
@@ -154,9 +153,8 @@ module _ {n v : ℕ} {x : Pool} {w : World} (g : Together n v x w) where
 
     step-mark : (b : Calls) (t : ℕ) → t < n → (e : Event) → SameMark b (step t) e
     step-mark b t l (refused r) = refl
-    step-mark b t l begun = refl
-    step-mark b t l (going y) = refl
-    step-mark b t l (answered y a i h) = ap (markOf (noting figure sees) (names figure sees) (b .pending t) a) (same-ending t a l)
+    step-mark b t l (accepted y) = refl
+    step-mark b t l (answered y r) = ap (markOf (noting figure sees) (names figure sees) (b .pending t) (r .answer)) (same-ending t (r .answer) l)
 
     next-mark : (b : Calls) (a : Action) → SameMark b a (figure w a .1)
     next-mark b (begin t op) = refl

@@ -21,8 +21,9 @@ use Rattle.questions.specs.Questions.{refusal, openQuestions, lookQuestions}
 use Rattle.cells.specs.Step.{current}
 use Rattle.cells.specs.Look.{looked, shown, shownValue}
 use Rattle.history.specs.Basics.{_∈_}
-use Rattle.history.specs.History.{Op, Action, begin, step, Answer, Value, Yes, No, Event, refused, begun, going, answered, history, run, Call, Calls, Finished, noCalls, advanced, closed, enter, enterAll, callsOf}
-use Rattle.figure.specs.Figure.{Cell, World, After, perform, answerOf, outcomeOf, ran, beginEvent, stepEvent, tried, figure, opening}
+use Rattle.history.specs.History.{Op, Action, begin, step, Answer, Value, Yes, No, Report, Event, refused, accepted, answered, history, run, Call, Calls, Finished, noCalls, advanced, closed, enter, enterAll, callsOf}
+use Rattle.figure.specs.Figure.{Cell, World, After, perform, outcomeOf, ran, figure, opening}
+use Rattle.cells.specs.Events.{answerOf, eventOf, tried}
 use Rattle.figure.specs.Figure
 use Rattle.figure.proofs.Records.{Begun, starts, begin-cases, Stepped, runs, step-cases, with-first}
 use Rattle.figure.proofs.Invariant as Invariant
@@ -31,7 +32,7 @@ use Rattle.figure.proofs.Steps.{Change, Reason, acts, acted, reads, declines, O
 use Rattle.figure.proofs.Views.{view}
 use Rattle.figure.proofs.Worlds.{known, κ⁺, out}
 use Rattle.figure.proofs.Reachable.{trivial, Reachable, next-reachable, opening-reachable, reachable}
-use Rattle.refinement.specs.Pool.{Pool, pool}
+use Rattle.cells.specs.Machine.{Pool, pool}
 use Rattle.refinement.specs.Terms.{start}
 use Rattle.refinement.proofs.Refines.{together, same-history, same-look, same-words}
 use Rattle.refinement.proofs.Traces.{same-event}
@@ -44,9 +45,8 @@ Proper a = a ≢ Value noValue
 
 abbrev ProperEvent : Event → Type 0
 ProperEvent (refused n) = Unit {0}
-ProperEvent begun = Unit {0}
-ProperEvent (going x) = Unit {0}
-ProperEvent (answered x a n h) = Proper a
+ProperEvent (accepted x) = Unit {0}
+ProperEvent (answered x r) = Proper (r .answer)
 
 yes-proper : Proper Yes
 yes-proper e = let z : _≡_ {A = ℕ} 0 1 = cc in omega arith
@@ -67,16 +67,16 @@ reason-proper s κ t a (reads v saw other swaps e placed late) = let P : Code.An
     rw e (by-test P (eqb (s .task t .kind) 2) _ _ (λ k. by-test P (eqb v (s .task t .expected)) _ _ (λ y. yes-proper) (λ y. no-proper)) (λ k. value-proper v other))
 
 module _ (v : ℕ) (w : World) (i : Reachable v w) where
-  begin-proper : (t : ℕ) (op : Op) {f : After} → Begun w t op f → ProperEvent (beginEvent (f .outcome))
+  begin-proper : (t : ℕ) (op : Op) {f : After} → Begun w t op f → ProperEvent (eventOf 0 (f .outcome))
   begin-proper t op (Begun.refuses n) = tt
   begin-proper t op (starts a) = tt
 
-  step-proper : (t : ℕ) (did : List Line) {f : After} → Stepped w t did f → ProperEvent (stepEvent (tried t (w .records t)) (f .outcome))
+  step-proper : (t : ℕ) (did : List Line) {f : After} → Stepped w t did f → ProperEvent (eventOf (tried t (w .records t)) (f .outcome))
   unfolding ran
   step-proper t did (Stepped.refuses n e) = tt
   step-proper t did (runs l o) = let m = perform (w .cell (w .records t .cell)) (accessOf t (w .records t)) in go (m .cell) (nextOf t (w .records t) (m .value)) (out w (i .notes) (i .ghost) trivial (i .holds .good) t did o)
     where
-      go : (c : Cell) (n : Next) → Out (view w (i .ghost) (w .records t .cell)) (known (i .notes) trivial) (κ⁺ w (i .notes) (i .ghost) trivial (i .holds .good) t did o) t c n → ProperEvent (stepEvent (tried t (w .records t)) (outcomeOf n))
+      go : (c : Cell) (n : Next) → Out (view w (i .ghost) (w .records t .cell)) (known (i .notes) trivial) (κ⁺ w (i .notes) (i .ghost) trivial (i .holds .good) t did o) t c n → ProperEvent (eventOf (tried t (w .records t)) (outcomeOf n))
       go c (Go q) x = tt
       go c (Done f) x = reason-proper (view w (i .ghost) (w .records t .cell)) (known (i .notes) trivial) t (f .answer) (x .1)
 
@@ -86,20 +86,18 @@ module _ (v : ℕ) (w : World) (i : Reachable v w) where
 
 -- so no finished call of a history does
 abbrev ProperCalls : Calls → Type 0
-ProperCalls b = (f : Finished) → f ∈ b .finished → Proper (f .answer)
+ProperCalls b = (f : Finished) → f ∈ b .finished → Proper (f .report .answer)
 
 enter-proper : (b : Calls) (a : Action) (e : Event) → ProperEvent e → ProperCalls b → ProperCalls (enter b a e)
 enter-proper b a (refused n) p h = h
-enter-proper b (begin t op) begun p h = h
-enter-proper b (begin t op) (going x) p h = h
-enter-proper b (begin t op) (answered x a n k) p h = h
-enter-proper b (step t) begun p h = h
-enter-proper b (step t) (going x) p h = h
-enter-proper b (step t) (answered x a n k) p h = go (advanced b x (b .pending t))
+enter-proper b (begin t op) (accepted x) p h = h
+enter-proper b (begin t op) (answered x r) p h = h
+enter-proper b (step t) (accepted x) p h = h
+enter-proper b (step t) (answered x r) p h = go (advanced b x (b .pending t))
   where
-    go : (o : Option Call) (f : Finished) → f ∈ closed o a n k (b .finished) → Proper (f .answer)
+    go : (o : Option Call) (f : Finished) → f ∈ closed o r (b .finished) → Proper (f .report .answer)
     go none = h
-    go (some c) = with-first (λ (f : Finished). Proper (f .answer)) _ (b .finished) p h
+    go (some c) = with-first (λ (f : Finished). Proper (f .report .answer)) _ (b .finished) p h
 
 history-proper : (v : ℕ) (l : List Action) (w : World) → Reachable v w → (b : Calls) → ProperCalls b → ProperCalls (enterAll b (history figure w l))
 history-proper v [] w i b h = h
@@ -136,12 +134,11 @@ module _ (s : State) (p : List ℕ) (n v b : ℕ) (vs : List ℕ) (ok : refusal 
   reached = reachable n v vs (starting-values s p n v b vs ok) l
 
   -- The next step of a task, whichever it is, does not answer none.
-  pub no-step-answers-none : (t tried steps hard : ℕ) → pool x (step t) .1 ≢ answered tried (Value noValue) steps hard
-  no-step-answers-none t tried steps hard e =
-      subst ProperEvent (sym (same-event (together s p n v b vs ok l) (step t)) ∙ e) (act-proper v w reached (step t)) refl
+  pub no-step-answers-none : (t y : ℕ) (r : Report) → pool x (step t) .1 ≡ answered y r → r .answer ≢ Value noValue
+  no-step-answers-none t y r e = subst ProperEvent (sym (same-event (together s p n v b vs ok l) (step t)) ∙ e) (act-proper v w reached (step t))
 
   -- No finished call answered none.
-  pub no-call-answers-none : (f : Finished) → f ∈ callsOf (history pool (start s p n v b vs) l) .finished → f .answer ≢ Value noValue
+  pub no-call-answers-none : (f : Finished) → f ∈ callsOf (history pool (start s p n v b vs) l) .finished → f .report .answer ≢ Value noValue
   no-call-answers-none = subst (λ h. ProperCalls (callsOf h)) (sym (same-history s p n v b vs ok l))
       (history-proper v l (opening n v vs) (opening-reachable n v vs (starting-values s p n v b vs ok)) noCalls (λ f i. absurd i))
 

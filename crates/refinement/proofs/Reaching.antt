@@ -9,7 +9,7 @@ use Rattle.questions.specs.declared.State.{State}
 use Rattle.questions.specs.Questions.{refusal, fit, openQuestions}
 use Rattle.history.specs.History.{Action, run}
 use Rattle.history.proofs.AllActions.{run-snoc}
-use Rattle.refinement.specs.Pool.{Pool, pool}
+use Rattle.cells.specs.Machine.{Pool, pool}
 use Rattle.refinement.specs.Terms.{start}
 use Rattle.refinement.specs.Reached.{Reached}
 use Rattle.refinement.proofs.Refines.{always-fit}

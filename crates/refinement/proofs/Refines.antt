@@ -19,7 +19,7 @@ use Rattle.cells.specs.Look.{looked, shown, shownValue}
 use Rattle.history.specs.History.{Action, begin, step, Event, history, run}
 use Rattle.figure.specs.Figure.{World, figure, opening, wordOf}
 use Rattle.figure.specs.Figure
-use Rattle.refinement.specs.Pool.{Pool, pool}
+use Rattle.cells.specs.Machine.{Pool, pool}
 use Rattle.refinement.specs.Terms.{start, named}
 use Rattle.figure.proofs.Records.{WellRecord, well}
 use Rattle.refinement.proofs.Agree.{Links, Agree}

@@ -24,9 +24,10 @@ use Rattle.questions.proofs.Tests.{nth, answers, all-yes}
 use Rattle.questions.proofs.Numbers.{number, at-number}
 use Rattle.blocks.proofs.Unused.{one-is-unused}
 use Rattle.history.specs.History.{Op, read, swap, begin, step, Event}
-use Rattle.figure.specs.Figure.{Cell, World, withBoth, leaving, recordAfter, outcomeOf, beginEvent, stepEvent, tried, figure}
+use Rattle.figure.specs.Figure.{Cell, World, withBoth, leaving, recordAfter, outcomeOf, figure}
+use Rattle.cells.specs.Events.{eventOf, tried}
 use Rattle.figure.specs.Figure
-use Rattle.refinement.specs.Pool.{Pool, pool}
+use Rattle.cells.specs.Machine.{Pool, pool}
 use Rattle.refinement.specs.Terms.{named}
 use Rattle.figure.proofs.Records.{Busy, WellRecord}
 use Rattle.refinement.proofs.Agree.{Links, Agree, Task, holdsAt, installsAt, no-blocks, records-change}
@@ -48,7 +49,7 @@ figureGives e r = (r .world, e (r .outcome))
 
 -- what follows a line, in the pool and in the figure
 finishes : {n v : ℕ} {R : Links} (m : Memory) (w : World) (k t x : ℕ) (c : Cell) {X Y : Next} → Agree n v R (m .state) (m .pool) (withCell w k c) → t < n → Nexts R X Y
-    → Same n v (gives (stepEvent x) (followed m t X)) (figureGives (stepEvent x) (leaving (withBoth w k c t (recordAfter Y)) (outcomeOf Y)))
+    → Same n v (gives (eventOf x) (followed m t X)) (figureGives (eventOf x) (leaving (withBoth w k c t (recordAfter Y)) (outcomeOf Y)))
 finishes {R = R} m w k t x c a l (going {r} {q} e) = record { R = R; agree = records-change a t r q l e; event = refl }
 finishes {R = R} m w k t x c a l ended = record { R = R; agree = records-change a t idle idle l (no-blocks idle tt); event = refl }
 
@@ -95,7 +96,7 @@ module _ {n v : ℕ} {R : Links} {s : State} {p : List ℕ} {w : World} (a : Agr
   -- A STEP
 
   module _ (l : t < n) (h k : ℕ) (e : r ≡ named q h k) (y : Busy v q) where
-    busy-step : Same n v (gives (stepEvent (tried t (named q h k))) (ran s p t (named q h k))) (figureGives (stepEvent (tried t q)) (Figure.ran w t q))
+    busy-step : Same n v (gives (eventOf (tried t (named q h k))) (ran s p t (named q h k))) (figureGives (eventOf (tried t q)) (Figure.ran w t q))
     unfolding ran Figure.ran
     busy-step =
         let at = at-number q (y .line) in
@@ -119,18 +120,18 @@ module _ {n v : ℕ} {R : Links} {s : State} {p : List ℕ} {w : World} (a : Agr
   busy (inl e) g = absurd (false≢true (rw e at g))
   busy (inr y) g = y
 
-  step-acts : t < n → not (isIdle q) ≡ true → Same n v (gives (stepEvent (tried t r)) (ran s p t r)) (figureGives (stepEvent (tried t q)) (Figure.ran w t q))
+  step-acts : t < n → not (isIdle q) ≡ true → Same n v (gives (eventOf (tried t r)) (ran s p t r)) (figureGives (eventOf (tried t q)) (Figure.ran w t q))
   step-acts l g =
       let e = a .records t l .same in
-      subst (λ (r : Record). Same n v (gives (stepEvent (tried t r)) (ran s p t r)) (figureGives (stepEvent (tried t q)) (Figure.ran w t q))) (sym e) (busy-step l (r .held) (r .taken) e (busy (well t) g))
+      subst (λ (r : Record). Same n v (gives (eventOf (tried t r)) (ran s p t r)) (figureGives (eventOf (tried t q)) (Figure.ran w t q))) (sym e) (busy-step l (r .held) (r .taken) e (busy (well t) g))
 
   pub steps : Same n v (pool (s, p) (step t)) (figure w (step t))
   unfolding stepped Figure.stepped
-  steps = asked (λ v i. (11, not i) ∷ []) (stepEvent (tried t r)) (stepEvent (tried t q)) (ran s p t r) (Figure.ran w t q) (λ _. refl) (λ l g. step-acts l (nth (ltb t n ∷ not (isIdle q) ∷ []) g 1))
+  steps = asked (λ v i. (11, not i) ∷ []) (eventOf (tried t r)) (eventOf (tried t q)) (ran s p t r) (Figure.ran w t q) (λ _. refl) (λ l g. step-acts l (nth (ltb t n ∷ not (isIdle q) ∷ []) g 1))
 
   -- A BEGIN
 
-  begun : (r : Record) → T (not (holdsAt (r .line))) → t < n → Same n v (gives beginEvent (started s p t r)) (figureGives beginEvent (leaving (Figure.withRecord w t r) Acted))
+  begun : (r : Record) → T (not (holdsAt (r .line))) → t < n → Same n v (gives (eventOf 0) (started s p t r)) (figureGives (eventOf 0) (leaving (Figure.withRecord w t r) Acted))
   begun r x l = record { R = R; agree = records-change a t r r l (no-blocks r x); event = refl }
 
   at-first : (c : Bool) → T (not (holdsAt (cond c 10 15)))
@@ -139,5 +140,5 @@ module _ {n v : ℕ} {R : Links} {s : State} {p : List ℕ} {w : World} (a : Agr
 
   pub begins : (op : Op) → Same n v (pool (s, p) (begin t op)) (figure w (begin t op))
   unfolding readBegun swapBegun Figure.begins
-  begins (read k) = asked (λ v i. (8, ltb k v) ∷ (9, i) ∷ []) beginEvent beginEvent _ _ (λ _. refl) (λ l _. begun (firstRead k) tt l)
-  begins (swap k e x) = asked (λ v i. (8, ltb k v) ∷ (9, i) ∷ (10, not (eqb e noValue) && not (eqb x noValue)) ∷ []) beginEvent beginEvent _ _ (λ _. refl) (λ l _. begun (firstSwap k e x) (at-first (eqb e x)) l)
+  begins (read k) = asked (λ v i. (8, ltb k v) ∷ (9, i) ∷ []) (eventOf 0) (eventOf 0) _ _ (λ _. refl) (λ l _. begun (firstRead k) tt l)
+  begins (swap k e x) = asked (λ v i. (8, ltb k v) ∷ (9, i) ∷ (10, not (eqb e noValue) && not (eqb x noValue)) ∷ []) (eventOf 0) (eventOf 0) _ _ (λ _. refl) (λ l _. begun (firstSwap k e x) (at-first (eqb e x)) l)

@@ -10,11 +10,11 @@ use borrow.Author.Tests.{le-ltb}
 use Rattle.questions.specs.declared.State.{State}
 use Rattle.lines.specs.Lines.{Line, lineOf}
 use Rattle.questions.specs.Questions.{refusal, openQuestions}
-use Rattle.history.specs.History.{Action, begin, step, Event, refused, begun, going, answered, run}
+use Rattle.history.specs.History.{Action, begin, step, Event, refused, accepted, answered, run}
 use Rattle.figure.specs.Figure.{World, figure, opening, stepped}
 use Rattle.figure.specs.Paths.{Trace, noTrace, enterLine, traces}
 use Rattle.figure.proofs.Records.{figureTraces}
-use Rattle.refinement.specs.Pool.{Pool, pool}
+use Rattle.cells.specs.Machine.{Pool, pool}
 use Rattle.refinement.specs.Terms.{start}
 use Rattle.refinement.specs.Traces.{nextLine, trace}
 use Rattle.refinement.proofs.Refines.{Together, histories, together}
@@ -27,16 +27,14 @@ module _ (f g : ℕ → Line) (r : Trace) where
 
   enters : (a : Action) (e : Event) → Alike a → enterLine f r a e ≡ enterLine g r a e
   enters a (refused n) h = refl
-  enters (begin t op) begun h = refl
-  enters (begin t op) (going x) h = refl
-  enters (begin t op) (answered x a n k) h = refl
-  enters (step t) begun h = refl
-  enters (step t) (going x) h = rw h
-  enters (step t) (answered x a n k) h = rw h
+  enters (begin t op) (accepted x) h = refl
+  enters (begin t op) (answered x y) h = refl
+  enters (step t) (accepted x) h = rw h
+  enters (step t) (answered x y) h = rw h
 
 module _ {n v : ℕ} {x : Pool} {w : World} (g : Together n v x w) where
   pub same-event : (a : Action) → pool x a .1 ≡ figure w a .1
-  same-event a = ap (λ (h : List (Action × Event)). getD h 0 (a, begun) .1) (histories (a ∷ []) g)
+  same-event a = ap (λ (h : List (Action × Event)). getD h 0 (a, accepted 0) .1) (histories (a ∷ []) g)
 
   -- the step of a task that is not there is refused, whatever its record
   pub no-task : (t : ℕ) → n ≤ t → figure w (step t) .1 ≡ refused 7

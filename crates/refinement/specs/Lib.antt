@@ -1,4 +1,3 @@
-pub mod Pool
 pub mod Terms
 pub mod Traces
 pub mod Reached

@@ -8,7 +8,7 @@ use Rattle.cells.specs.Step.{current}
 use Rattle.history.specs.History.{Action}
 use Rattle.history.specs.Moments.{Mark, linearized}
 use Rattle.figure.specs.Moments.{Sight, sight, noNotes, noting, names}
-use Rattle.refinement.specs.Pool.{Pool, pool}
+use Rattle.cells.specs.Machine.{Pool, pool}
 
 abbrev pub seesPool : Pool → ℕ → Sight
 seesPool x t = sight (recordAt (x .0 .records)) (current (x .0)) (λ k. word (x .1)) t

@@ -7,7 +7,7 @@ use lib.ListN.{length}
 use Rattle.questions.specs.declared.State.{State}
 use Rattle.questions.specs.Questions.{refusal, openQuestions}
 use Rattle.history.specs.History.{Action, run}
-use Rattle.refinement.specs.Pool.{pool}
+use Rattle.cells.specs.Machine.{pool}
 use Rattle.refinement.specs.Terms.{start}
 
 pub record Reached (tasks cells : ℕ) (s : State) (p : List ℕ) : Type 0 where

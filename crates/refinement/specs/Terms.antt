@@ -11,8 +11,8 @@ use Rattle.lines.specs.declared.Field.the-variants.{C}
 use Rattle.cells.specs.Pool.{word}
 use Rattle.cells.specs.Open.{opened}
 use Rattle.cells.specs.Step.{current}
-use Rattle.history.specs.History.{Action, begin, step, read, Event}
-use Rattle.refinement.specs.Pool.{Pool}
+use Rattle.history.specs.History.{Action, begin, step, read, aRead, Value, Report, Event}
+use Rattle.cells.specs.Machine.{Pool}
 
 abbrev pub start : State → List ℕ → (tasks cells blocks : ℕ) → List ℕ → Pool
 start s p n v b vs = let r = opened s p n v b vs in (r .state, r .pool)
@@ -28,6 +28,10 @@ isActive x k = eqb (word (x .1) (current (x .0) k) C) 0
 -- a read of the cell, and so many steps of it
 abbrev pub loneRead : (task cell steps : ℕ) → List Action
 loneRead t k i = begin t (read k) ∷ replicate i (step t)
+
+-- what a read of cell k reports that found v
+abbrev pub readReport : (cell value steps hard : ℕ) → Report
+readReport k v n h = record { kind = aRead; cell = k; answer = Value v; steps = n; hard = h }
 
 abbrev pub lastEvent : List (Action × Event) → Option Event
 lastEvent [] = none

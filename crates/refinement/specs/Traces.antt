@@ -5,7 +5,7 @@ use Rattle.lines.specs.Record.{recordAt}
 use Rattle.lines.specs.Lines.{Line, lineOf}
 use Rattle.history.specs.History.{Action}
 use Rattle.figure.specs.Paths.{Trace, noTrace, traces}
-use Rattle.refinement.specs.Pool.{Pool, pool}
+use Rattle.cells.specs.Machine.{Pool, pool}
 
 -- the line that a task's next step runs
 abbrev pub nextLine : Pool → ℕ → Line
