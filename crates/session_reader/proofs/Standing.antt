@@ -8,7 +8,7 @@ use native.Mathlib.Omega.{arith}
 use lib.ListN.{length, take, drop, getD, set, length-set, length-append, take-append-drop}
 use lib.Seq.{length-take-le, getD-at, drop-append-add}
 use Rattle.text.specs.Append.{Appended}
-use Rattle.text.proofs.Appending.{nothing, one, then, front, behind}
+use Rattle.text.proofs.Appending.{nothing, one, then, stored-then, front, behind}
 use Rattle.session_file.specs.Session.{Act, times}
 use Rattle.session_reader.specs.Reading.{acted, actAt}
 use Rattle.session_reader.specs.Answers.{Told, untold, told, Far, Kept, kept, Stands}
@@ -20,8 +20,8 @@ pub stands-nothing : (F A : List ℕ) (f n : ℕ) → 5 * f ≤ length F → n �
 stands-nothing F A f n g h = record {
   table = [];
   words = [];
-  forms = nothing F (5 * f);
-  acts = nothing A n;
+  forms = nothing F (5 * f) .stored;
+  acts = nothing A n .stored;
   fits = g;
   room = h;
   far = (omega arith, untold);
@@ -38,8 +38,8 @@ pub stands-join : {F G H A B C : List ℕ} {f n : ℕ} {b d : Kept} {i j : ℕ} 
 stands-join {A = A} {B = B} {n = n} {b = b} {d = d} {i = i} {j = j} {k = k} {l = l} e q x y = record {
   table = x .table ++ y .table;
   words = x .words ++ y .words;
-  forms = then (x .forms) (y .forms);
-  acts = then (x .acts) (y .acts);
+  forms = stored-then (x .forms) (y .forms);
+  acts = stored-then (x .acts) (y .acts);
   fits = omega (arith, y .fits);
   room = omega (arith, y .room);
   far = far-join (length A) n (b .actions) (d .actions) i j _ _ (y .table) (x .words) (y .words) k l (y .forms .words) (b .over) (d .over) (x .far) (rw q at (y .far));
@@ -94,12 +94,12 @@ module _ {F G A B : List ℕ} {f n : ℕ} {b : Kept} {k : ℕ} {l : List Act} (x
           let copies : Appended B C n to (times c (x .words)) = rw (behind low (x .acts)) at y in
           let long : length (x .words) ≡ k = omega (arith, x .acts .next, just .0) in
           let same : b .actions - n ≡ k = omega (arith, just .0) in
-          let end : to ≡ n + c * k = rw long at (copies .next ∙ ap (λ (i : ℕ). n + i) (length-times c (x .words))) in
+          let end : to ≡ n + c * k = rw long at (copies .stored .next ∙ ap (λ (i : ℕ). n + i) (length-times c (x .words))) in
           record {
             table = x .table;
             words = times c (x .words);
             forms = x .forms;
-            acts = then (front low (x .acts)) copies;
+            acts = stored-then (front low (x .acts)) (copies .stored);
             fits = x .fits;
             room = rw (end, ← same) h;
             far = (end, told-times c (just .1));
@@ -118,7 +118,7 @@ next-one {b = b} i x y e h = then (rw e at y) (one b i x h)
 -- one form kept, and an action of it
 module _ (F A : List ℕ) (f n kind : ℕ) (numbers : List ℕ) (g : 5 * f + 5 ≤ length F) (h : n ≤ length A) where
   pub keep-over : length A ≤ n → (l : List Act) → Stands F F A A f n (kept true f n) 1 l
-  keep-over k l = record { table = []; words = []; forms = nothing F (5 * f); acts = nothing A n; fits = omega arith; room = h; far = omega arith }
+  keep-over k l = record { table = []; words = []; forms = nothing F (5 * f) .stored; acts = nothing A n .stored; fits = omega arith; room = h; far = omega arith }
 
   abbrev filled : List ℕ
   filled =
@@ -149,9 +149,9 @@ module _ (F A : List ℕ) (f n kind : ℕ) (numbers : List ℕ) (g : 5 * f + 5 �
       record {
         table = five;
         words = f ∷ [];
-        forms = five-kept;
-        acts = one A n f k;
+        forms = five-kept .stored;
+        acts = one A n f k .stored;
         fits = omega arith;
         room = omega arith;
-        far = (refl, rw (five-kept .words) (told {i = f} (omega (arith, p, length-append (take (5 * f) F) five)) (made (take (5 * f) F) p) untold));
+        far = (refl, rw (five-kept .stored .words) (told {i = f} (omega (arith, p, length-append (take (5 * f) F) five)) (made (take (5 * f) F) p) untold));
       }

@@ -10,6 +10,7 @@ use lib.ListN.{length, take, drop, getD, replicate, drop-of-length-le, length-ma
 use lib.Seq.{length-take-le}
 use Rattle.io.specs.Counts.{Counts}
 use Rattle.text.specs.Append.{Appended}
+use Rattle.text.proofs.Appending.{whole}
 use Rattle.questions.specs.declared.State.{State}
 use Rattle.lines.specs.declared.Finished.{Finished}
 use Rattle.cells.specs.declared.Outcome.{Outcome}
@@ -94,11 +95,15 @@ unfolding printedWithin printed
 with-room s n h = rw (le-leb 2400000 n h)
 
 -- the reader's answer, printed
-pub whole : (s : List ℕ) (n : ℕ) {a b c r : ℕ} {v : Verdict} {old new : List ℕ} → Appended old new 0 r (shown v) → v ≡ judged a b c s → a ≡ 32768 → b ≡ 40960 → c ≡ 65535 → 2400000 ≤ n → take r new ≡ printedWithin n s
-whole s n {a} {b} {c} x e p q r h = x .words ∙ ap shown (e ∙ right-sizes a b c s p q r) ∙ with-room s n h
+pub answer : (s : List ℕ) (n : ℕ) {a b c : ℕ} {v : Verdict} → v ≡ judged a b c s → a ≡ 32768 → b ≡ 40960 → c ≡ 65535 → 2400000 ≤ n → shown v ≡ printedWithin n s
+answer s n {a} {b} {c} e p q r h = ap shown (e ∙ right-sizes a b c s p q r) ∙ with-room s n h
 
 -- what is appended from the start lies within the buffer
-pub counts : {old new : List ℕ} {r : ℕ} {t : List ℕ} → Appended old new 0 r t → Counts r new
+counts : {old new : List ℕ} {r : ℕ} {t : List ℕ} → Appended old new 0 r t → Counts r new
 counts {old} {new} {r} x =
-    let h : r ≤ length new = omega (arith, length-take r new, ap length (x .words), x .next) in
+    let h : r ≤ length new = omega (arith, length-take r new, ap length (x .stored .words), x .stored .next) in
     (h, sym (length-take-le r new h))
+
+-- a text at the start of the buffer, and nothing else in it changed
+pub entire : {old new : List ℕ} {r : ℕ} {t u : List ℕ} → Appended old new 0 r t → t ≡ u → (new ≡ u ++ drop r old) × ((r ≡ length u) × Counts r new)
+entire {old} {r = r} x e = (whole x ∙ ap (λ (l : List ℕ). l ++ drop r old) e, (omega (arith, x .stored .next, ap length e), counts x))

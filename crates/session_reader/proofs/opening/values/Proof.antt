@@ -28,7 +28,7 @@ slice-write-out : tie.Need-slice-write-out Inv-loop μ-loop
 slice-write-out c = let a = c .before .before .before .before .before .before .before .before .before .args in let x = number-at a.s.now a.at number 1 (c .before .first .given .1) (c .before .before .before .number .ensures) in omega (arith, x .past, x .within)
 
 loop-holds : tie.Need-loop-holds Inv-loop μ-loop
-loop-holds c = let a = c .before .before .before .before .before .before .before .before .before .args in let x = number-at a.s.now a.at number 1 (c .before .first .given .1) (c .before .before .before .number .ensures) in (x .past, omega (arith, x .past), search needs, rw (one a.out.now 0 _ (omega (arith, x .past, x .within)) .words, values-first a.s.now a.at (place-no a.s.now a.at specs.close 1 (c .before .before .before .before .enum-told .given .1) (c .before .before .before .before .before .before .close .ensures)) x) (turn-start specs.snoc specs.item specs.close a.s.now _ _ (x .within)))
+loop-holds c = let a = c .before .before .before .before .before .before .before .before .before .args in let x = number-at a.s.now a.at number 1 (c .before .first .given .1) (c .before .before .before .number .ensures) in (x .past, omega (arith, x .past), search needs, rw (one a.out.now 0 _ (omega (arith, x .past, x .within)) .stored .words, values-first a.s.now a.at (place-no a.s.now a.at specs.close 1 (c .before .before .before .before .enum-told .given .1) (c .before .before .before .before .before .before .close .ensures)) x) (turn-start specs.snoc specs.item specs.close a.s.now _ _ (x .within)))
 
 close-requires-2 : tie.Need-close-requires-2 Inv-loop μ-loop
 close-requires-2 c κs = c .loop .inv .3 .within
@@ -55,7 +55,7 @@ loop-less : tie.Need-loop-less Inv-loop μ-loop
 loop-less c = let l = c .before .before .before .before .before .before .before .loop in let a = c .before .before .before .before .before .before .before .before .before .before .before .before .before .before .before .before .before .args in let x = number-at a.s.now l.i specs.item 2 (c .before .read .given .1) (c .before .before .before .item .ensures) in omega (arith, x .past, x .within)
 
 loop-again : tie.Need-loop-again Inv-loop μ-loop
-loop-again c = let l = c .before .before .before .before .before .before .before .loop in let a = c .before .before .before .before .before .before .before .before .before .before .before .before .before .before .before .before .before .args in let x = number-at a.s.now l.i specs.item 2 (c .before .read .given .1) (c .before .before .before .item .ensures) in let same : length l.out ≡ length a.out.now = l.inv .2 ∙ simp length-set in (l.inv .0, omega (arith, x .past, l.inv .1), search needs, rw (one l.out l.n _ (omega (arith, x .past, x .within)) .words) (turn-more specs.snoc specs.item specs.close (l.inv .3) (place-no a.s.now l.i specs.close 1 (c .before .before .before .before .enum-told3 .given .1) (c .before .before .before .before .before .before .close2 .ensures)) (x .finds) (omega (arith, x .past)) (x .within)))
+loop-again c = let l = c .before .before .before .before .before .before .before .loop in let a = c .before .before .before .before .before .before .before .before .before .before .before .before .before .before .before .before .before .args in let x = number-at a.s.now l.i specs.item 2 (c .before .read .given .1) (c .before .before .before .item .ensures) in let same : length l.out ≡ length a.out.now = l.inv .2 ∙ simp length-set in (l.inv .0, omega (arith, x .past, l.inv .1), search needs, rw (one l.out l.n _ (omega (arith, x .past, x .within)) .stored .words) (turn-more specs.snoc specs.item specs.close (l.inv .3) (place-no a.s.now l.i specs.close 1 (c .before .before .before .before .enum-told3 .given .1) (c .before .before .before .before .before .before .close2 .ensures)) (x .finds) (omega (arith, x .past)) (x .within)))
 
 pub values-spec : {M : Type 1} → statement M
 values-spec =
