@@ -145,6 +145,8 @@ fn again(
     Got::At(next, false, g, to)
 }
 
+// Form and list call each other: depth left, at most 8, and bytes left fall.
+
 // The form that starts at `at`, at most `depth` deep: f forms and n actions are kept before it.
 fn form(
     s: &[u8],
@@ -155,6 +157,7 @@ fn form(
     actions: &mut [u32],
     n: usize,
 ) -> Got
+    requires { ⌜ depth ≤ 8 ⌝ }
     requires { ⌜ Ready (now s) at (now forms) f (now actions) n ⌝ }
     ensures { λ r. ⌜ GotIs count «actionsOf1» («formOf» depth) (now (s .entry)) at 8 (now (forms .entry)) (now (forms .exit)) (now (actions .entry)) (now (actions .exit)) f n r ⌝ }
 {
@@ -190,6 +193,7 @@ fn list(
     actions: &mut [u32],
     n: usize,
 ) -> Got
+    requires { ⌜ depth ≤ 8 ⌝ }
     requires { ⌜ Ready (now s) at (now forms) f (now actions) n ⌝ }
     ensures { λ r. ⌜ GotIs counts actionsOf («listOf» («formOf» depth)) (now (s .entry)) at 1 (now (forms .entry)) (now (forms .exit)) (now (actions .entry)) (now (actions .exit)) f n r ⌝ }
 {

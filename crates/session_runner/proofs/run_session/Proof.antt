@@ -1,24 +1,20 @@
-use Rattle.text.proofs.Appending.{nothing}
-use Rattle.session_runner.proofs.Playing.{no-room, answer, entire}
+use Rattle.session_runner.proofs.Playing.{none-printed, all-printed}
 use native.Mathlib.Omega.{arith}
-use lib.ListN.{length}
 use borrow.Author.Needs.{needs}
 use Rattle.session_runner.proofs.run_session.Statement.{statement}
 use Rattle.session_runner.proofs.run_session.Tie as tie
 
 returns : tie.Need-returns
-returns c = let a = c .before .before .before .args in entire (nothing a.out.now 0) (no-room a.file.now (length a.out.now) (c .if1 .taken))
+returns c = none-printed _ _ (omega arith)
 
 print-requires : tie.Need-print-requires
 print-requires c κs = let r = c .before .before .before .before .before .before .before .read-session in (r .ensures .1, (omega (arith, c .before .before .before .before .before .before .before .before .before .before .before .action-space .ensures .1, r .kept), search needs))
 
 returns-2 : tie.Need-returns-2
 returns-2 c =
-    let a = c .before .before .before .before .before .before .before .before .before .before .before .before .before .before .before .before .before .before .before .before .args in
     let s = c .before .before .before .before .before .before .before .before .before .before .before .before .before .before in
-    entire (c .before .before .print .ensures)
-    (answer a.file.now (length a.out.now) (c .before .before .before .before .before .before .before .before .before .before .read-session .ensures .0)
-    (s .before .before .value-space .ensures .1) (s .before .form-space .ensures .1) (s .action-space .ensures .1) (s .before .before .before .if1 .left))
+    all-printed _ _ _ _ (c .before .before .print .ensures) (c .before .before .before .before .before .before .before .before .before .before .read-session .ensures .0)
+    (s .before .before .value-space .ensures .1) (s .before .form-space .ensures .1) (s .action-space .ensures .1) (s .before .before .before .if1 .left)
 
 pub run-session-spec : {M : Type 1} → statement M
 run-session-spec =

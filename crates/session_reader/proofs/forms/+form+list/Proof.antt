@@ -28,11 +28,12 @@ use Rattle.session_reader.proofs.items.space.Reads as space-reads
 use Rattle.session_reader.proofs.forms.+form+list.{statement}
 use Rattle.session_reader.proofs.forms.+form+list.Tie.{close}
 
+-- depth left and bytes left, together
 abbrev μ-form : Measures 3 form-kinds.ps ℕ
-μ-form κs a = a .1 .1 .0 + a .1 .1 .0
+μ-form κs a = a .1 .1 .0 + (length (a .0 .now) - a .1 .0)
 
 abbrev μ-list : Measures 3 list-kinds.ps ℕ
-μ-list κs a = a .1 .1 .0 + a .1 .1 .0 + 1
+μ-list κs a = a .1 .1 .0 + (length (a .0 .now) - a .1 .0)
 
 abbrev form-at : ℕ → In 3 form-kinds.ps
 form-at t = and 3 form-kinds.ps (is 3 form-kinds.ps μ-form t) form.Pre
@@ -93,7 +94,7 @@ module _ (t : ℕ) where
   form-returns c = form-none _ _ (c .if1 .taken)
 
   form-head-requires : form-lts.Need-head-requires (form-claims t) (form-at t) form.Post
-  form-head-requires c κs = (c .before .before .before .before .before .pre .1 .here, search needs)
+  form-head-requires c κs = (c .before .before .before .before .before .pre .1 .1 .here, search needs)
 
   form-returns-2 : form-lts.Need-returns-2 (form-claims t) (form-at t) form.Post
   form-returns-2 c =
@@ -104,7 +105,7 @@ module _ (t : ℕ) where
   form-list-requires c κs =
       let x = head-read (c .before .before .before .before) in
       let e = entered (c .before .before .before .before) .pre in
-      (omega (arith, e .0, c .before .before .before .before .before .before .before .before .before .if1 .left), ready-later (e .1) (omega (arith, x .2 .past)) (x .2 .within))
+      (omega (arith, e .0, x .2 .past, x .2 .within), (omega (arith, e .1 .0), ready-later (e .1 .1) (omega (arith, x .2 .past)) (x .2 .within)))
 
   form-returns-3 : form-lts.Need-returns-3 (form-claims t) (form-at t) form.Post
   form-returns-3 c =
@@ -115,7 +116,7 @@ module _ (t : ℕ) where
 
   form-again-requires : form-lts.Need-again-requires (form-claims t) (form-at t) form.Post
   form-again-requires c κs =
-      let p = entered (c .before .before .before .before .before .before .before .before .before .before .before .before .before) .pre .1 in
+      let p = entered (c .before .before .before .before .before .before .before .before .before .before .before .before .before) .pre .1 .1 in
       let y = inner-read (c .before .before) in
       let same = c .before .before .before .before .before .before .before .before .list .kept .1 .1 .1 .1 .1 .0 in
       (omega (arith, y .2 .forms .next), ((omega (arith, y .2 .acts .next), omega (arith, y .2 .room)), omega (arith, p .limit)))
@@ -143,7 +144,7 @@ module _ (t : ℕ) where
 
   form-keep-requires : form-lts.Need-keep-requires (form-claims t) (form-at t) form.Post
   form-keep-requires c κs =
-      let p = entered (c .before .before .before .before .before .before .before .before .before) .pre .1 in
+      let p = entered (c .before .before .before .before .before .before .before .before .before) .pre .1 .1 in
       let x = head-read (c .before .before .before .before .before .before .before .before .before) in
       let y = end-read (c .before .before .before .before) in
       (omega (arith, x .2 .past, y .past, y .within, p .few, p .table), (omega (arith, p .few, p .here, p .small), (p .room, search needs)))
@@ -152,7 +153,7 @@ module _ (t : ℕ) where
   unfolding specs.count specs.actions
   form-returns-6 c =
       let a = entered (c .before .before .before .before .before .before .before .before .before .before .before .before .before .before) .args in
-      let p = entered (c .before .before .before .before .before .before .before .before .before .before .before .before .before .before) .pre .1 in
+      let p = entered (c .before .before .before .before .before .before .before .before .before .before .before .before .before .before) .pre .1 .1 in
       let x = head-read (c .before .before .before .before .before .before .before .before .before .before .before .before .before .before) in
       let y = end-read (c .before .before .before .before .before .before .before .before .before) in
       let k = c .before .before .before .before .keep in
@@ -190,7 +191,7 @@ module _ (t : ℕ) where
   list-loop-holds : list-lts.Need-loop-holds (list-claims t) (list-at t) list.Post list-Inv-loop list-μ-loop
   list-loop-holds c =
       let a = c .before .before .before .args in
-      walk-start (specs.space >> specs.form a.depth) specs.close a.s.now a.at a.forms.now a.actions.now a.f a.n (c .before .before .before .pre .1)
+      walk-start (specs.space >> specs.form a.depth) specs.close a.s.now a.at a.forms.now a.actions.now a.f a.n (c .before .before .before .pre .1 .1)
 
   list-close-requires : list-lts.Need-close-requires (list-claims t) (list-at t) list.Post list-Inv-loop list-μ-loop
   list-close-requires c κs = c .loop .inv .ready .here
@@ -214,7 +215,8 @@ module _ (t : ℕ) where
   list-form-requires c κs =
       let l = tested (spaced (c .before .before .before)) in
       let x = gap-read (c .before .before .before) in
-      (omega (arith, l .before .before .before .before .pre .0), ready-later (l.loop .inv .ready) (omega (arith, x .past)) (x .within))
+      let p = l .before .before .before .before .pre in
+      (omega (arith, p .0, l.loop .inv .turn .from, x .past, x .within), (p .1 .0, ready-later (l.loop .inv .ready) (omega (arith, x .past)) (x .within)))
 
   list-returns-3 : list-lts.Need-returns-3 (list-claims t) (list-at t) list.Post list-Inv-loop list-μ-loop
   list-returns-3 c =
