@@ -12,6 +12,12 @@ use Rattle.text.specs.Append.{Stored, Appended}
 pub whole : {o p : List ℕ} {r : ℕ} {t : List ℕ} → Appended o p 0 r t → p ≡ t ++ drop r o
 whole {o} {p} {r} {t} x = sym (take-append-drop r p) ∙ ap (λ (l : List ℕ). l ++ drop r p) (x .stored .words) ∙ ap (λ (l : List ℕ). t ++ l) (x .rest)
 
+-- what is the same from q on is the same from any later place on
+pub later : (a b : List ℕ) (q r : ℕ) → q ≤ r → drop q b ≡ drop q a → drop r b ≡ drop r a
+later a b q r h e =
+    let d : q + (r - q) ≡ r = omega arith in
+    rw d at (sym (drop-drop (r - q) q b) ∙ ap (drop (r - q)) e ∙ drop-drop (r - q) q a)
+
 -- nothing appended
 pub nothing : (o : List ℕ) (at : ℕ) → Appended o o at at []
 nothing o at = record { stored = record { words = sym (append-nil (take at o)); next = omega arith }; rest = refl }
@@ -28,12 +34,10 @@ stored-then {a} {b} {c} {p} {q} {r} {s} {t} x y = record {
 }
 
 pub then : {a b c : List ℕ} {p q r : ℕ} {s t : List ℕ} → Appended a b p q s → Appended b c q r t → Appended a c p r (s ++ t)
-then {a} {b} {c} {p} {q} {r} {s} {t} x y =
-    let e : q + (r - q) ≡ r = omega (arith, y .stored .next) in
-    record {
-      stored = stored-then (x .stored) (y .stored);
-      rest = y .rest ∙ rw e at (sym (drop-drop (r - q) q b) ∙ ap (drop (r - q)) (x .rest) ∙ drop-drop (r - q) q a);
-    }
+then {a} {b} {q = q} {r = r} x y = record {
+  stored = stored-then (x .stored) (y .stored);
+  rest = y .rest ∙ later a b q r (omega (arith, y .stored .next)) (x .rest);
+}
 
 -- the first i words of a text, and one more
 pub more : {o o₀ : List ℕ} (t : List ℕ) (at i : ℕ) → Appended o₀ o at (at + i) (take i t) → at + i < length o → i < length t → Appended o₀ (set o (at + i) (getD t i 0)) at (at + (i + 1)) (take (i + 1) t)

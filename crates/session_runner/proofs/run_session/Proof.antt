@@ -8,7 +8,7 @@ returns : tie.Need-returns
 returns c = none-printed _ _ (omega arith)
 
 print-requires : tie.Need-print-requires
-print-requires c κs = let r = c .before .before .before .before .before .before .before .read-session in (r .ensures .1, (omega (arith, c .before .before .before .before .before .before .before .before .before .before .before .action-space .ensures .1, r .kept), search needs))
+print-requires c κs = let r = c .before .before .before .before .before .before .before .read-session in (r .ensures .1 .0, (omega (arith, c .before .before .before .before .before .before .before .before .before .before .before .action-space .ensures .1, r .kept), search needs))
 
 returns-2 : tie.Need-returns-2
 returns-2 c =
