@@ -90,6 +90,9 @@ pub record Stands (F F′ A A′ : List ℕ) (f n : ℕ) (b : Kept) (k : ℕ) (l
   pub fits : 5 * b .forms ≤ length F
   pub room : b .actions ≤ length A
   pub far : Far (b .over) (length A) n (b .actions) k (take (5 * b .forms) F′) words l
+  -- nothing stored where there is no room, nor behind what is kept where all fits
+  pub still : length A ≤ n → (F′ ≡ F) × (A′ ≡ A)
+  pub rest : b .over ≡ false → (drop (5 * b .forms) F′ ≡ drop (5 * b .forms) F) × (drop (b .actions) A′ ≡ drop (b .actions) A)
 
 -- the same of an answer, which hands on the place next and keeps at most so many forms
 abbrev pub KeptIs : (F F′ A A′ : List ℕ) → (f n next most k : ℕ) → List Act → Got → Type 0

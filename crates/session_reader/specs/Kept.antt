@@ -32,8 +32,15 @@ abbrev pub Within : Reading → (values forms actions : List ℕ) → Type 0
 Within (reading.Bad n) v f a = Unit {0}
 Within (reading.Session t c b i n) v f a = Held v f a i n
 
--- the buffers before and after: as they were where a question before 14 is answered no; the words behind the values as they
--- were where a session was read
+-- behind the values, the actions and the forms that these name the buffers are as they were
+pub record Behind (values values′ forms forms′ actions actions′ : List ℕ) (i n : ℕ) : Type 0 where
+  pub those : drop i values′ ≡ drop i values
+  pub kept : ℕ
+  pub named : Named (5 * kept) (take n actions′)
+  pub unkept : drop (5 * kept) forms′ ≡ drop (5 * kept) forms
+  pub undone : drop n actions′ ≡ drop n actions
+
+-- the buffers before and after; a question before 14 that is answered no changes nothing
 abbrev pub Left : Reading → (values values′ forms forms′ actions actions′ : List ℕ) → Type 0
 Left (reading.Bad n) v v′ f f′ a a′ = n < 14 → (v′ ≡ v) × (f′ ≡ f) × (a′ ≡ a)
-Left (reading.Session t c b i n) v v′ f f′ a a′ = drop i v′ ≡ drop i v
+Left (reading.Session t c b i n) v v′ f f′ a a′ = Behind v v′ f f′ a a′ i n

@@ -63,8 +63,8 @@ fn read(file: &[u8], values: &mut [u32], kept: &mut [u32], actions: &mut [u32]) 
 }
 
 // The session's values, its forms of five words (kind 1 read, 2 swap, 3 step; then its numbers) and its actions, each
-// the number of its form, are left in the buffers. Open is what nobody reads: which form has which number, a form that no
-// action names, a word behind the last action, and all three buffers after 14 or 15.
+// the number of its form, are left in the buffers. Open is only what nobody reads: how forms are numbered, the words that a
+// form's kind does not have, and all three buffers after 14 or 15.
 pub fn read_session(
     file: &[u8],
     values: &mut [u32],

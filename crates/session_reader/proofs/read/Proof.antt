@@ -9,9 +9,9 @@ use Rattle.session_file.specs.Session as specs
 use Rattle.session_reader.specs.Answers.{OpenedIs, GotIs}
 use Rattle.session_reader.specs.declared.opening.Opened.the-variants as opened
 use Rattle.session_reader.specs.declared.forms.Got.the-variants as got
-use lib.ListN.{length}
+use lib.ListN.{length, length-take}
 use borrow.Author.Tests.{not-true, not-false}
-use Prim.Native.Nat.{ℕ, _≤_, _<_}
+use Prim.Native.Nat.{ℕ, _*_, _≤_, _<_}
 use mathlib.Core.Bool.{true}
 use mathlib.Core.List.{List}
 use mathlib.Core.Path.{_≡_, refl, sym, ap, _∙_}
@@ -68,10 +68,13 @@ returns-6 : tie.Need-returns-6
 returns-6 c =
     let e = c .before .before .before .before .before .before .before .before .before .before .before .before .before .before .before .before .before .before in
     let y = rest-read (c .before .before) in
-    let z = whole (y .2) refl (c .if3 .left) in
+    let o = c .if3 .left in
+    let g = c .before .before .rest .given .0 .1 .1 .0 in
+    let cut = length-take (5 * g) (c .before .before .before .before .before .before .before .before .lines .last .1 .1 .0) in
+    let z = whole (y .2) refl o in
     let few : specs.counts (y .0) ≤ 65535 = omega (arith, z .0, y .2 .room) in
     let kept = rw (c .before .before .before .before .before .before .before .before .before .before .before .before .first .given .1) at (c .before .before .before .before .before .before .before .before .before .before .before .before .before .before .before .before .opening .ensures .1) in
-    (rw (z .1) (sym (is-session (file e) (short e) (shaped e) (first-read (c .before .before .before .before .before .before .before .before .before .before .before .before)) (y .1) few)), (record { some = kept .0; many = omega (arith, y .2 .room); named = stands-named (y .2) (c .if3 .left) }, kept .1))
+    (rw (z .1) (sym (is-session (file e) (short e) (shaped e) (first-read (c .before .before .before .before .before .before .before .before .before .before .before .before)) (y .1) few)), (record { some = kept .0; many = omega (arith, y .2 .room); named = stands-named (y .2) o _ (omega (arith, cut)) }, record { those = kept .1; kept = g; named = stands-named (y .2) o _ (omega (arith, cut)); unkept = y .2 .rest o .0; undone = y .2 .rest o .1 }))
 
 pub read-spec : {M : Type 1} → statement M
 read-spec =
