@@ -1,4 +1,5 @@
 // Reading and writing for programs: a call that fails gives one line on standard error, which says what failed and why.
+// No contract can say which bytes the system's calls read or write.
 ghost use Prim.Native.Nat.{_-_, _≤_};
 ghost use Rattle.io.specs.Counts.{Counts};
 use libc::EINTR;

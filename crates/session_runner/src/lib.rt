@@ -52,7 +52,7 @@ fn blank() -> State
     }
 }
 
-// Opens on a lent pool, and plays where that is not refused.
+// Opens on a lent pool, and plays where that is not refused. What is left in the pool is open: it is the session's own.
 fn start(
     out: &mut [u8],
     pool: &mut [u32],
