@@ -1,4 +1,5 @@
 // Reads a session from standard input and writes what it prints.
+use libc::STDIN_FILENO;
 use libc::STDOUT_FILENO;
 use session_runner::file_space;
 use session_runner::run_session;
@@ -6,8 +7,20 @@ use session_runner::text_space;
 
 fn main() {
     let mut file = file_space();
-    let n = io::read_full(0, &mut file);
+    let read = report::read_all(
+        STDIN_FILENO,
+        &mut file,
+        b"session: cannot read standard input",
+    );
+    if !read.whole {
+        return;
+    }
+    let n = read.count;
     let mut out = text_space();
     let end = run_session(&file[..n], &mut out);
-    io::write_all(STDOUT_FILENO, &out[..end]);
+    report::write_all(
+        STDOUT_FILENO,
+        &out[..end],
+        b"session: cannot write standard output",
+    );
 }

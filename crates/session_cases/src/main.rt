@@ -20,11 +20,15 @@ fn run_one(i: usize) {
         return;
     }
     let mut file = file_space();
-    let n = io::read_full(fd, &mut file);
+    let read = report::read_all(fd, &mut file, &name[..length]);
     libc::close(fd);
+    if !read.whole {
+        return;
+    }
+    let n = read.count;
     let mut out = text_space();
     let end = run_session(&file[..n], &mut out);
-    io::write_all(STDOUT_FILENO, &out[..end]);
+    report::write_all(STDOUT_FILENO, &out[..end], b"output");
 }
 
 fn main() {

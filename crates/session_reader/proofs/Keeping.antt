@@ -2,9 +2,9 @@
 use mathlib.Core.Path.{_≡_}
 use mathlib.Core.Bool.{false}
 use mathlib.Core.List.{List}
-use Prim.Native.Nat.{ℕ, zero, suc, _+_, _*_}
+use Prim.Native.Nat.{ℕ, zero, suc, _+_, _*_, _≤_}
 use native.Mathlib.Omega.{arith}
-use lib.ListN.{length, take, length-take}
+use lib.ListN.{length, take}
 use Rattle.session_file.specs.Session.{Act}
 use Rattle.session_reader.specs.Answers.{Told, untold, told, Kept, Stands}
 use Rattle.session_reader.specs.Kept.{Named}
@@ -14,8 +14,8 @@ told-named untold j h = absurd (omega arith)
 told-named (told h e x) zero k = h
 told-named (told h e x) (suc j) k = told-named x j (omega arith)
 
-pub stands-named : {F G A B : List ℕ} {f : ℕ} {b : Kept} {k : ℕ} {l : List Act} → Stands F G A B f 0 b k l → b .over ≡ false → Named (length G) (take (b .actions) B)
-stands-named {G = G} {B = B} {b = b} {k = k} {l = l} x e =
+pub stands-named : {F G A B : List ℕ} {f : ℕ} {b : Kept} {k : ℕ} {l : List Act} → Stands F G A B f 0 b k l → b .over ≡ false → (m : ℕ) → length (take (5 * b .forms) G) ≤ m → Named m (take (b .actions) B)
+stands-named {G = G} {B = B} {b = b} {k = k} {l = l} x e m h =
     let all : take (b .actions) B ≡ x .words = x .acts .words in
     let far : (b .actions ≡ 0 + k) × Told (take (5 * b .forms) G) (x .words) l = rw e at (x .far) in
-    rw all (λ j h. omega (arith, told-named (far .1) j h, length-take (5 * b .forms) G))
+    rw all (λ j i. omega (arith, told-named (far .1) j i))

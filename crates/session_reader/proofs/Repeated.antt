@@ -57,8 +57,11 @@ module _ (old : List ℕ) (n m c : ℕ) (h : n ≤ m) (g : m ≤ length old) (po
       ap (λ (k : ℕ). take (m - n) (times k block)) (sym e) ∙ ap (take (m - n)) (times-more (c - 1) block)
       ∙ take-at block (times (c - 1) block) (m - n) block-length in
       record {
-        words = ap (λ (k : ℕ). take k old) (sym b) ∙ take-add n (m - n) old ∙ ap (λ (x : List ℕ). take n old ++ x) (sym first);
-        next = omega (arith, ap length first, block-length);
+        stored = record {
+          words = ap (λ (k : ℕ). take k old) (sym b) ∙ take-add n (m - n) old ∙ ap (λ (x : List ℕ). take n old ++ x) (sym first);
+          next = omega (arith, ap length first, block-length);
+        };
+        rest = refl;
       }
 
   all : length (times c block) ≡ c * (m - n)
@@ -79,7 +82,7 @@ module _ (old : List ℕ) (n m c : ℕ) (h : n ≤ m) (g : m ≤ length old) (po
         let there : length (take n old) + i ≡ to - (m - n) = omega arith in
         let far : length block + i ≡ to - n = omega arith in
         let fits : i < (c - 1) * length block = rw b (omega (arith, suc-mul (c - 1) (m - n), ap (λ (j : ℕ). j * (m - n)) e)) in
-        sym (getD-take to new (to - (m - n)) 0 (omega arith)) ∙ ap (λ (l : List ℕ). getD l (to - (m - n)) 0) (x .words)
+        sym (getD-take to new (to - (m - n)) 0 (omega arith)) ∙ ap (λ (l : List ℕ). getD l (to - (m - n)) 0) (x .stored .words)
         ∙ ap (λ (j : ℕ). getD (take n old ++ take (to - n) (times c block)) j 0) (sym there)
         ∙ getD-append-add (take n old) (take (to - n) (times c block)) i 0 ∙ getD-take (to - n) (times c block) i 0 (omega arith)
         ∙ rw (e, far) at (sym (again-same (c - 1) i block fits))

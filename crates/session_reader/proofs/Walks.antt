@@ -5,7 +5,8 @@ use mathlib.Core.List.{List}
 use mathlib.Core.Option.{Option, none, some}
 use Prim.Native.Nat.{ℕ, _+_, _*_, _≤_, _<_}
 use native.Mathlib.Omega.{arith}
-use lib.ListN.{length, drop, drop-of-length-le}
+use lib.ListN.{length, take, drop, drop-of-length-le}
+use lib.Seq.{length-take-le}
 use Rattle.text.proofs.Reading.{drop-byte}
 use Rattle.text.specs.Readers.{Reader, Reads}
 use Rattle.session_file.specs.Session.{Act, Form, Forms, empty, with, many, finish, count, counts, actions, actionsOf}
@@ -30,6 +31,12 @@ module _ {X : Type 0} (count : X → ℕ) (acts : X → List Act) (p : Reader X)
 
 pub ready-later : {s : List ℕ} {at j : ℕ} {F : List ℕ} {f : ℕ} {A : List ℕ} {n : ℕ} → Ready s at F f A n → at ≤ j → j ≤ length s → Ready s j F f A n
 ready-later r h k = record { here = k; small = r .small; table = r .table; few = omega (arith, r .few); room = r .room; limit = r .limit }
+
+-- also with no room for more actions
+pub ready-part : {s : List ℕ} {at : ℕ} {F : List ℕ} {f : ℕ} {A : List ℕ} {n : ℕ} → Ready s at F f A n → Ready s at F f (take n A) n
+ready-part {A = A} {n = n} r =
+    let e : length (take n A) ≡ n = length-take-le n A (r .room) in
+    record { here = r .here; small = r .small; table = r .table; few = r .few; room = omega arith; limit = omega (arith, r .room, r .limit) }
 
 module _ (each : Reader Form) (end : Reader (Unit {0})) (s : List ℕ) (at : ℕ) (F A : List ℕ) (f n : ℕ) where
   abbrev whole : Option (Forms × List ℕ)

@@ -5,7 +5,7 @@ use mathlib.Core.List.{List, [], _∷_}
 use mathlib.Core.Option.{none}
 use Prim.Native.Nat.{ℕ, _+_, _*_, _≤_, _<_}
 use lib.ListN.{length, take, drop}
-use Rattle.text.specs.Append.{Appended}
+use Rattle.text.specs.Append.{Stored}
 use Rattle.text.specs.Bytes.{bytes}
 use Rattle.text.specs.Readers.{Reader, Reads, word as literal}
 use Rattle.text.specs.declared.Place.{Place}
@@ -85,11 +85,14 @@ kept o f n = record { over = o; forms = f; actions = n }
 pub record Stands (F F′ A A′ : List ℕ) (f n : ℕ) (b : Kept) (k : ℕ) (l : List Act) : Type 0 where
   pub table : List ℕ
   pub words : List ℕ
-  pub forms : Appended F F′ (5 * f) (5 * b .forms) table
-  pub acts : Appended A A′ n (b .actions) words
+  pub forms : Stored F F′ (5 * f) (5 * b .forms) table
+  pub acts : Stored A A′ n (b .actions) words
   pub fits : 5 * b .forms ≤ length F
   pub room : b .actions ≤ length A
   pub far : Far (b .over) (length A) n (b .actions) k (take (5 * b .forms) F′) words l
+  -- nothing stored where there is no room, nor behind what is kept where all fits
+  pub still : length A ≤ n → (F′ ≡ F) × (A′ ≡ A)
+  pub rest : b .over ≡ false → (drop (5 * b .forms) F′ ≡ drop (5 * b .forms) F) × (drop (b .actions) A′ ≡ drop (b .actions) A)
 
 -- the same of an answer, which hands on the place next and keeps at most so many forms
 abbrev pub KeptIs : (F F′ A A′ : List ℕ) → (f n next most k : ℕ) → List Act → Got → Type 0

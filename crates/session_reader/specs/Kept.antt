@@ -1,7 +1,8 @@
--- A session's values and actions lie within the buffers, and each action numbers a form that was kept.
+-- A session's values and actions lie within the buffers, and each action numbers a form that was kept; what else the buffers hold.
+use mathlib.Core.Path.{_≡_}
 use mathlib.Core.List.{List}
 use Prim.Native.Nat.{ℕ, _+_, _*_, _≤_, _<_}
-use lib.ListN.{length, take, getD}
+use lib.ListN.{length, take, drop, getD}
 use Rattle.session_reader.specs.declared.Reading.{Reading}
 use Rattle.session_reader.specs.declared.Reading.the-variants as reading
 use Rattle.session_reader.specs.declared.opening.Listed.{Listed}
@@ -9,14 +10,14 @@ use Rattle.session_reader.specs.declared.opening.Listed.the-variants as 
 use Rattle.session_reader.specs.declared.opening.Opened.{Opened}
 use Rattle.session_reader.specs.declared.opening.Opened.the-variants as opened
 
--- the count of values fits their buffer
-abbrev pub ListedWithin : (room : ℕ) → Listed → Type 0
-ListedWithin m listed.Wrong = Unit {0}
-ListedWithin m (listed.Read n next) = n ≤ m
+-- so many values fit their buffer, and what stands behind them is what stood there
+abbrev pub ListedWithin : (old new : List ℕ) → Listed → Type 0
+ListedWithin o p listed.Wrong = Unit {0}
+ListedWithin o p (listed.Read n next) = (n ≤ length p) × (drop n p ≡ drop n o)
 
-abbrev pub OpenedWithin : (room : ℕ) → Opened → Type 0
-OpenedWithin m opened.Wrong = Unit {0}
-OpenedWithin m (opened.Read t c b n next) = n ≤ m
+abbrev pub OpenedWithin : (old new : List ℕ) → Opened → Type 0
+OpenedWithin o p opened.Wrong = Unit {0}
+OpenedWithin o p (opened.Read t c b n next) = (n ≤ length p) × (drop n p ≡ drop n o)
 
 -- each of the actions numbers a form of a table of so many words
 abbrev pub Named : (words : ℕ) → (actions : List ℕ) → Type 0
@@ -30,3 +31,16 @@ pub record Held (values forms actions : List ℕ) (i n : ℕ) : Type 0 where
 abbrev pub Within : Reading → (values forms actions : List ℕ) → Type 0
 Within (reading.Bad n) v f a = Unit {0}
 Within (reading.Session t c b i n) v f a = Held v f a i n
+
+-- behind the values, the actions and the forms that these name the buffers are as they were
+pub record Behind (values values′ forms forms′ actions actions′ : List ℕ) (i n : ℕ) : Type 0 where
+  pub those : drop i values′ ≡ drop i values
+  pub kept : ℕ
+  pub named : Named (5 * kept) (take n actions′)
+  pub unkept : drop (5 * kept) forms′ ≡ drop (5 * kept) forms
+  pub undone : drop n actions′ ≡ drop n actions
+
+-- the buffers before and after; a question before 14 that is answered no changes nothing
+abbrev pub Left : Reading → (values values′ forms forms′ actions actions′ : List ℕ) → Type 0
+Left (reading.Bad n) v v′ f f′ a a′ = n < 14 → (v′ ≡ v) × (f′ ≡ f) × (a′ ≡ a)
+Left (reading.Session t c b i n) v v′ f f′ a a′ = Behind v v′ f f′ a a′ i n

@@ -115,7 +115,7 @@ fn repeat(words: &mut [u32], n: usize, m: usize, c: usize) -> usize
 }
 
 // What is kept where forms, read once up to `next`, stand c times. Before them f forms and n actions were kept, and with
-// them g and m. None of them where c is 0.
+// them g and m.
 fn again(
     actions: &mut [u32],
     f: usize,
@@ -126,14 +126,11 @@ fn again(
     g: usize,
     m: usize,
 ) -> Got
-    requires { ⌜ f ≤ g ⌝ }
+    requires { ⌜ (0 < c) × (f ≤ g) ⌝ }
     requires { ⌜ (n ≤ m) × (m ≤ length (now actions)) ⌝ }
     requires { ⌜ length (now actions) ≤ 65535 ⌝ }
     ensures { λ r. ⌜ ((F F′ A : List ℕ) (k : ℕ) (l : List Act) → length A ≡ length (now (actions .entry)) → Stands F F′ A (now (actions .entry)) f n (kept over g m) k l → KeptIs F F′ A (now (actions .exit)) f n next g (c * k) (times c l) r) ⌝ }
 {
-    if c == 0 {
-        return Got::At(next, false, f, n);
-    }
     if over {
         return Got::At(next, over, g, m);
     }
@@ -145,6 +142,8 @@ fn again(
     Got::At(next, false, g, to)
 }
 
+// Form and list call each other: depth left, at most 8, and bytes left fall.
+
 // The form that starts at `at`, at most `depth` deep: f forms and n actions are kept before it.
 fn form(
     s: &[u8],
@@ -155,6 +154,7 @@ fn form(
     actions: &mut [u32],
     n: usize,
 ) -> Got
+    requires { ⌜ depth ≤ 8 ⌝ }
     requires { ⌜ Ready (now s) at (now forms) f (now actions) n ⌝ }
     ensures { λ r. ⌜ GotIs count «actionsOf1» («formOf» depth) (now (s .entry)) at 8 (now (forms .entry)) (now (forms .exit)) (now (actions .entry)) (now (actions .exit)) f n r ⌝ }
 {
@@ -167,6 +167,14 @@ fn form(
         return Got::Bad;
     };
     if kind == 4 {
+        // Of forms that stand no times nothing is kept: they are read with no room for an action.
+        if numbers[0] == 0 {
+            let none = list(s, a, depth - 1, forms, f, &mut actions[..n], n);
+            let Got::At(next, _, _, _) = none else {
+                return Got::Bad;
+            };
+            return Got::At(next, false, f, n);
+        }
         let inner = list(s, a, depth - 1, forms, f, actions, n);
         let Got::At(next, over, g, m) = inner else {
             return Got::Bad;
@@ -190,6 +198,7 @@ fn list(
     actions: &mut [u32],
     n: usize,
 ) -> Got
+    requires { ⌜ depth ≤ 8 ⌝ }
     requires { ⌜ Ready (now s) at (now forms) f (now actions) n ⌝ }
     ensures { λ r. ⌜ GotIs counts actionsOf («listOf» («formOf» depth)) (now (s .entry)) at 1 (now (forms .entry)) (now (forms .exit)) (now (actions .entry)) (now (actions .exit)) f n r ⌝ }
 {

@@ -7,7 +7,7 @@ ghost use mathlib.Core.Path.{_≡_};
 ghost use lib.ListN.{length};
 ghost use Rattle.session_file.specs.Session.{verdict};
 ghost use Rattle.session_reader.specs.Reading.{verdictOf, judged};
-ghost use Rattle.session_reader.specs.Kept.{Within};
+ghost use Rattle.session_reader.specs.Kept.{Within, Left};
 
 pub enum Reading {
     // The question's number; 0 for buffers of other sizes.
@@ -34,6 +34,7 @@ fn read(file: &[u8], values: &mut [u32], kept: &mut [u32], actions: &mut [u32]) 
     requires { ⌜ length (now actions) ≡ 65535 ⌝ }
     ensures { λ r. ⌜ verdictOf r (now (values .exit)) (now (kept .exit)) (now (actions .exit)) ≡ verdict (now (file .entry)) ⌝ }
     ensures { λ r. ⌜ Within r (now (values .exit)) (now (kept .exit)) (now (actions .exit)) ⌝ }
+    ensures { λ r. ⌜ Left r (now (values .entry)) (now (values .exit)) (now (kept .entry)) (now (kept .exit)) (now (actions .entry)) (now (actions .exit)) ⌝ }
 {
     if 65536 < file.len() {
         return Reading::Bad(12);
@@ -62,7 +63,8 @@ fn read(file: &[u8], values: &mut [u32], kept: &mut [u32], actions: &mut [u32]) 
 }
 
 // The session's values, its forms of five words (kind 1 read, 2 swap, 3 step; then its numbers) and its actions, each
-// the number of its form, are left in the buffers.
+// the number of its form, are left in the buffers. Open is only what nobody reads: how forms are numbered, the words that a
+// form's kind does not have, and all three buffers after 14 or 15.
 pub fn read_session(
     file: &[u8],
     values: &mut [u32],
@@ -71,6 +73,7 @@ pub fn read_session(
 ) -> Reading
     ensures { λ r. ⌜ verdictOf r (now (values .exit)) (now (forms .exit)) (now (actions .exit)) ≡ judged (length (now (values .entry))) (length (now (forms .entry))) (length (now (actions .entry))) (now (file .entry)) ⌝ }
     ensures { λ r. ⌜ Within r (now (values .exit)) (now (forms .exit)) (now (actions .exit)) ⌝ }
+    ensures { λ r. ⌜ Left r (now (values .entry)) (now (values .exit)) (now (forms .entry)) (now (forms .exit)) (now (actions .entry)) (now (actions .exit)) ⌝ }
 {
     if (values.len() == VALUES) & ((forms.len() == FORMS) & (actions.len() == ACTIONS)) {
         return read(file, values, forms, actions);

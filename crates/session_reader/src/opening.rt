@@ -24,7 +24,7 @@ fn values(s: &[u8], at: usize, out: &mut [u32]) -> Listed
     requires { ⌜ (1 ≤ at) × (at ≤ length (now s)) ⌝ }
     requires { ⌜ length (now s) ≤ 2 * length (now out) ⌝ }
     ensures { λ r. ⌜ ValuesAre (now (s .entry)) at (now (out .exit)) r ⌝ }
-    ensures { λ r. ⌜ ListedWithin (length (now (out .exit))) r ⌝ }
+    ensures { λ r. ⌜ ListedWithin (now (out .entry)) (now (out .exit)) r ⌝ }
 {
     let shut = items::close(s, at);
     if let Place::At(next) = shut {
@@ -71,7 +71,7 @@ fn lead(s: &[u8], out: &mut [u32]) -> Place
 pub fn opening(s: &[u8], out: &mut [u32]) -> Opened
     requires { ⌜ length (now s) ≤ 2 * length (now out) ⌝ }
     ensures { λ r. ⌜ OpenedIs (now (s .entry)) (now (out .exit)) r ⌝ }
-    ensures { λ r. ⌜ OpenedWithin (length (now (out .exit))) r ⌝ }
+    ensures { λ r. ⌜ OpenedWithin (now (out .entry)) (now (out .exit)) r ⌝ }
 {
     let mut n = [0u32; 4];
     let start = lead(s, &mut n);

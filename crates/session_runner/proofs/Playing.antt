@@ -10,6 +10,7 @@ use lib.ListN.{length, take, drop, getD, replicate, drop-of-length-le, length-ma
 use lib.Seq.{length-take-le}
 use Rattle.io.specs.Counts.{Counts}
 use Rattle.text.specs.Append.{Appended}
+use Rattle.text.proofs.Appending.{nothing, whole}
 use Rattle.questions.specs.declared.State.{State}
 use Rattle.lines.specs.declared.Finished.{Finished}
 use Rattle.cells.specs.declared.Outcome.{Outcome}
@@ -85,7 +86,7 @@ pool-length {l} {w} e h = let d : length l ≡ 640 = ap length e ∙ length-repl
 pub taken : {n m : ℕ} (l : List ℕ) → n ≤ length l → length l ≤ m → length (take n l) ≤ m
 taken {n} {m} l h k = omega (arith, length-take-le n l h)
 
-pub no-room : (s : List ℕ) (n : ℕ) → n < 2400000 → [] ≡ printedWithin n s
+no-room : (s : List ℕ) (n : ℕ) → n < 2400000 → [] ≡ printedWithin n s
 unfolding printedWithin
 no-room s n h = rw (lt-leb 2400000 n h)
 
@@ -94,11 +95,28 @@ unfolding printedWithin printed
 with-room s n h = rw (le-leb 2400000 n h)
 
 -- the reader's answer, printed
-pub whole : (s : List ℕ) (n : ℕ) {a b c r : ℕ} {v : Verdict} {old new : List ℕ} → Appended old new 0 r (shown v) → v ≡ judged a b c s → a ≡ 32768 → b ≡ 40960 → c ≡ 65535 → 2400000 ≤ n → take r new ≡ printedWithin n s
-whole s n {a} {b} {c} x e p q r h = x .words ∙ ap shown (e ∙ right-sizes a b c s p q r) ∙ with-room s n h
+answer : (s : List ℕ) (n : ℕ) {a b c : ℕ} {v : Verdict} → v ≡ judged a b c s → a ≡ 32768 → b ≡ 40960 → c ≡ 65535 → 2400000 ≤ n → shown v ≡ printedWithin n s
+answer s n {a} {b} {c} e p q r h = ap shown (e ∙ right-sizes a b c s p q r) ∙ with-room s n h
 
 -- what is appended from the start lies within the buffer
-pub counts : {old new : List ℕ} {r : ℕ} {t : List ℕ} → Appended old new 0 r t → Counts r new
+counts : {old new : List ℕ} {r : ℕ} {t : List ℕ} → Appended old new 0 r t → Counts r new
 counts {old} {new} {r} x =
-    let h : r ≤ length new = omega (arith, length-take r new, ap length (x .words), x .next) in
+    let h : r ≤ length new = omega (arith, length-take r new, ap length (x .stored .words), x .stored .next) in
     (h, sym (length-take-le r new h))
+
+-- the text of the file s, r bytes at the start of the buffer, and nothing else changed
+module _ (s old new : List ℕ) (r : ℕ) where
+  abbrev text : List ℕ
+  text = printedWithin (length old) s
+
+  abbrev Entire : Type 0
+  Entire = (new ≡ text ++ drop r old) × ((r ≡ length text) × Counts r new)
+
+  entire : {t : List ℕ} → Appended old new 0 r t → t ≡ text → Entire
+  entire x e = (whole x ∙ ap (λ (l : List ℕ). l ++ drop r old) e, (omega (arith, x .stored .next, ap length e), counts x))
+
+  pub all-printed : {a b c : ℕ} {v : Verdict} → Appended old new 0 r (shown v) → v ≡ judged a b c s → a ≡ 32768 → b ≡ 40960 → c ≡ 65535 → 2400000 ≤ length old → Entire
+  all-printed x e p q u h = entire x (answer s (length old) e p q u h)
+
+pub none-printed : (s old : List ℕ) → length old < 2400000 → Entire s old old 0
+none-printed s old h = entire s old old 0 (nothing old 0) (no-room s (length old) h)

@@ -9,14 +9,15 @@ use lines::records::idle;
 use questions::State;
 use session_reader::Reading;
 ghost use mathlib.Core.Path.{_≡_};
-ghost use mathlib.Core.List.{map};
+ghost use mathlib.Core.List.{_++_, map};
 ghost use Prim.Native.Nat.{_≤_};
-ghost use lib.ListN.{length, take, replicate};
+ghost use lib.ListN.{length, drop, replicate};
 ghost use Rattle.io.specs.Counts.{Counts};
 ghost use Rattle.text.specs.Append.{Appended};
 ghost use Rattle.cells.specs.Open.{opened};
 ghost use Rattle.session_reader.specs.Reading.{actAt, verdictOf};
 ghost use Rattle.session_reader.specs.Kept.{Named, Within};
+ghost use Rattle.session_runner.specs.Space.{zeros};
 ghost use Rattle.session_text.specs.Printed.{started, blank as «blankOf», poolWords, run as «runOf», shown, printedWithin};
 
 // Enough for 65,535 lines of 36 bytes, one of each cell and the end.
@@ -24,12 +25,14 @@ const ROOM: usize = 2400000;
 
 // One byte more than a session may have, to tell a longer one.
 pub fn file_space() -> [u8; 65537]
+    ensures { λ r. ⌜ r ≡ zeros 65537 ⌝ }
     ensures { λ r. ⌜ 65537 ≡ length r ⌝ }
 {
     [0; 65537]
 }
 
 pub fn text_space() -> [u8; ROOM]
+    ensures { λ r. ⌜ r ≡ zeros 2400000 ⌝ }
     ensures { λ r. ⌜ 2400000 ≡ length r ⌝ }
 {
     [0; ROOM]
@@ -49,7 +52,7 @@ fn blank() -> State
     }
 }
 
-// Opens on a lent pool, and plays where that is not refused.
+// Opens on a lent pool, and plays where that is not refused. What is left in the pool is open: it is the session's own.
 fn start(
     out: &mut [u8],
     pool: &mut [u32],
@@ -150,26 +153,28 @@ fn print(out: &mut [u8], found: Reading, values: &[u32], forms: &[u32], actions:
 }
 
 fn value_space() -> [u32; 32768]
-    ensures { λ r. ⌜ length r ≡ 32768 ⌝ }
+    ensures { λ r. ⌜ (r ≡ replicate 32768 0) × (length r ≡ 32768) ⌝ }
 {
     [0; 32768]
 }
 
 fn form_space() -> [u32; 40960]
-    ensures { λ r. ⌜ length r ≡ 40960 ⌝ }
+    ensures { λ r. ⌜ (r ≡ replicate 40960 0) × (length r ≡ 40960) ⌝ }
 {
     [0; 40960]
 }
 
 fn action_space() -> [u32; 65535]
-    ensures { λ r. ⌜ length r ≡ 65535 ⌝ }
+    ensures { λ r. ⌜ (r ≡ replicate 65535 0) × (length r ≡ 65535) ⌝ }
 {
     [0; 65535]
 }
 
-// Prints what a session file prints at the start of out, and returns its length; nothing where out has no ROOM.
+// Prints what a session file prints at the start of out, and returns its length; nothing where out has no ROOM. The bytes
+// after the text are as they were.
 pub fn run_session(file: &[u8], out: &mut [u8]) -> usize
-    ensures { λ r. ⌜ take r (now (out .exit)) ≡ printedWithin (length (now (out .entry))) (now (file .entry)) ⌝ }
+    ensures { λ r. ⌜ now (out .exit) ≡ printedWithin (length (now (out .entry))) (now (file .entry)) ++ drop r (now (out .entry)) ⌝ }
+    ensures { λ r. ⌜ r ≡ length (printedWithin (length (now (out .entry))) (now (file .entry))) ⌝ }
     ensures { λ r. ⌜ Counts r (now (out .exit)) ⌝ }
 {
     if out.len() < ROOM {

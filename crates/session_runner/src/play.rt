@@ -118,7 +118,8 @@ fn finish(
     printing::put_end(out, a, z.finished, unfinished, z.hard)
 }
 
-// Every action, and what is printed after the last. What the opening left stays fit, so question 6 is not asked again.
+// Every action, and what is printed after the last. What the opening left stays fit, so question 6 is not asked again. What
+// is left in the pool is open: it is the session's own.
 pub fn play(
     out: &mut [u8],
     tasks: u32,

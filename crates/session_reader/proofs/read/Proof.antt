@@ -9,9 +9,9 @@ use Rattle.session_file.specs.Session as specs
 use Rattle.session_reader.specs.Answers.{OpenedIs, GotIs}
 use Rattle.session_reader.specs.declared.opening.Opened.the-variants as opened
 use Rattle.session_reader.specs.declared.forms.Got.the-variants as got
-use lib.ListN.{length}
+use lib.ListN.{length, length-take}
 use borrow.Author.Tests.{not-true, not-false}
-use Prim.Native.Nat.{ℕ, _≤_, _<_}
+use Prim.Native.Nat.{ℕ, _*_, _≤_, _<_}
 use mathlib.Core.Bool.{true}
 use mathlib.Core.List.{List}
 use mathlib.Core.Path.{_≡_, refl, sym, ap, _∙_}
@@ -37,15 +37,15 @@ rest-read : (c : tie.After-rest) → let a = c .before .before .before .before .
 rest-read c = got-at specs.counts specs.actionsOf specs.lines _ _ 0 _ _ _ _ 0 0 (c .rest .given .1) (c .before .before .before .before .before .before .lines .ensures)
 
 returns : tie.Need-returns
-returns c = (sym (is-12 (c .before .before .before .before .before .args .file .now) (c .if1 .taken)), tt)
+returns c = (sym (is-12 (c .before .before .before .before .before .args .file .now) (c .if1 .taken)), (tt, λ _. (refl, refl, refl)))
 
 returns-2 : tie.Need-returns-2
-returns-2 c = (sym (is-13 (c .before .before .before .before .before .before .before .args .file .now) (c .before .before .if1 .left) (sym (c .before .shaped .ensures) ∙ not-true (c .before .shaped .result) (c .if2 .taken))), tt)
+returns-2 c = (sym (is-13 (c .before .before .before .before .before .before .before .args .file .now) (c .before .before .if1 .left) (sym (c .before .shaped .ensures) ∙ not-true (c .before .shaped .result) (c .if2 .taken))), (tt, λ _. (refl, refl, refl)))
 
 returns-3 : tie.Need-returns-3
 returns-3 c =
     let e = c .before .before .before .before .before .before in
-    (sym (unopened (file e) (short e) (shaped e) (opened-no _ _ (c .enum-told .given .1) (c .before .before .before .before .opening .ensures .0))), tt)
+    (sym (unopened (file e) (short e) (shaped e) (opened-no _ _ (c .enum-told .given .1) (c .before .before .before .before .opening .ensures .0))), (tt, λ h. absurd (omega arith)))
 
 lines-requires : tie.Need-lines-requires
 lines-requires c κs =
@@ -55,23 +55,26 @@ returns-4 : tie.Need-returns-4
 returns-4 c =
     let e = c .before .before .before .before .before .before .before .before .before .before .before .before .before .before .before .before in
     let bad = got-no specs.counts specs.actionsOf specs.lines _ _ 0 _ _ _ _ 0 0 (c .enum-told2 .given .1) (c .before .before .before .before .before .before .lines .ensures) in
-    (sym (unformed (file e) (short e) (shaped e) (first-read (c .before .before .before .before .before .before .before .before .before .before)) bad), tt)
+    (sym (unformed (file e) (short e) (shaped e) (first-read (c .before .before .before .before .before .before .before .before .before .before)) bad), (tt, λ h. absurd (omega arith)))
 
 returns-5 : tie.Need-returns-5
 returns-5 c =
     let e = c .before .before .before .before .before .before .before .before .before .before .before .before .before .before .before .before .before .before in
     let y = rest-read (c .before .before) in
     let many : 65535 < specs.counts (y .0) = omega (arith, spilled (y .2) (c .if3 .taken)) in
-    (sym (is-15 (file e) (short e) (shaped e) (first-read (c .before .before .before .before .before .before .before .before .before .before .before .before)) (y .1) many), tt)
+    (sym (is-15 (file e) (short e) (shaped e) (first-read (c .before .before .before .before .before .before .before .before .before .before .before .before)) (y .1) many), (tt, λ h. absurd (omega arith)))
 
 returns-6 : tie.Need-returns-6
 returns-6 c =
     let e = c .before .before .before .before .before .before .before .before .before .before .before .before .before .before .before .before .before .before in
     let y = rest-read (c .before .before) in
-    let z = whole (y .2) refl (c .if3 .left) in
+    let o = c .if3 .left in
+    let g = c .before .before .rest .given .0 .1 .1 .0 in
+    let cut = length-take (5 * g) (c .before .before .before .before .before .before .before .before .lines .last .1 .1 .0) in
+    let z = whole (y .2) refl o in
     let few : specs.counts (y .0) ≤ 65535 = omega (arith, z .0, y .2 .room) in
     let kept = rw (c .before .before .before .before .before .before .before .before .before .before .before .before .first .given .1) at (c .before .before .before .before .before .before .before .before .before .before .before .before .before .before .before .before .opening .ensures .1) in
-    (rw (z .1) (sym (is-session (file e) (short e) (shaped e) (first-read (c .before .before .before .before .before .before .before .before .before .before .before .before)) (y .1) few)), record { some = kept; many = omega (arith, y .2 .room); named = stands-named (y .2) (c .if3 .left) })
+    (rw (z .1) (sym (is-session (file e) (short e) (shaped e) (first-read (c .before .before .before .before .before .before .before .before .before .before .before .before)) (y .1) few)), (record { some = kept .0; many = omega (arith, y .2 .room); named = stands-named (y .2) o _ (omega (arith, cut)) }, record { those = kept .1; kept = g; named = stands-named (y .2) o _ (omega (arith, cut)); unkept = y .2 .rest o .0; undone = y .2 .rest o .1 }))
 
 pub read-spec : {M : Type 1} → statement M
 read-spec =

@@ -1,4 +1,5 @@
 use borrow.Author.Needs.{needs}
+use mathlib.Core.Path.{refl}
 use Rattle.session_reader.proofs.Verdicts.{sizes-told}
 use Rattle.session_reader.specs.Reading.{judged}
 use Rattle.session_reader.proofs.read_session.Statement.{statement}
@@ -13,7 +14,7 @@ returns c = (rw (c .before .before .before .before .before .before .before .befo
 
 returns-2 : tie.Need-returns-2
 unfolding judged
-returns-2 c = (rw (c .if1 .left), tt)
+returns-2 c = (rw (c .if1 .left), (tt, λ _. (refl, refl, refl)))
 
 pub read-session-spec : {M : Type 1} → statement M
 read-session-spec =

@@ -1,18 +1,20 @@
-use Rattle.session_runner.proofs.Playing.{no-room, whole, counts}
+use Rattle.session_runner.proofs.Playing.{none-printed, all-printed}
 use native.Mathlib.Omega.{arith}
-use lib.ListN.{length}
 use borrow.Author.Needs.{needs}
 use Rattle.session_runner.proofs.run_session.Statement.{statement}
 use Rattle.session_runner.proofs.run_session.Tie as tie
 
 returns : tie.Need-returns
-returns c = (no-room (c .before .before .before .args .file .now) (length (c .before .before .before .args .out .now)) (c .if1 .taken), search needs)
+returns c = none-printed _ _ (omega arith)
 
 print-requires : tie.Need-print-requires
-print-requires c κs = let r = c .before .before .before .before .before .before .before .read-session in (r .ensures .1, (omega (arith, c .before .before .before .before .before .before .before .before .before .before .before .action-space .ensures, r .kept), search needs))
+print-requires c κs = let r = c .before .before .before .before .before .before .before .read-session in (r .ensures .1 .0, (omega (arith, c .before .before .before .before .before .before .before .before .before .before .before .action-space .ensures .1, r .kept), search needs))
 
 returns-2 : tie.Need-returns-2
-returns-2 c = let a = c .before .before .before .before .before .before .before .before .before .before .before .before .before .before .before .before .before .before .before .before .args in let p = c .before .before .print .ensures in (whole a.file.now (length a.out.now) p (c .before .before .before .before .before .before .before .before .before .before .read-session .ensures .0) (c .before .before .before .before .before .before .before .before .before .before .before .before .before .before .before .before .value-space .ensures) (c .before .before .before .before .before .before .before .before .before .before .before .before .before .before .before .form-space .ensures) (c .before .before .before .before .before .before .before .before .before .before .before .before .before .before .action-space .ensures) (c .before .before .before .before .before .before .before .before .before .before .before .before .before .before .before .before .before .if1 .left), counts p)
+returns-2 c =
+    let s = c .before .before .before .before .before .before .before .before .before .before .before .before .before .before in
+    all-printed _ _ _ _ (c .before .before .print .ensures) (c .before .before .before .before .before .before .before .before .before .before .read-session .ensures .0)
+    (s .before .before .value-space .ensures .1) (s .before .form-space .ensures .1) (s .action-space .ensures .1) (s .before .before .before .if1 .left)
 
 pub run-session-spec : {M : Type 1} → statement M
 run-session-spec =

@@ -73,11 +73,11 @@ digits-slice-write-out-2 : (t : ℕ) → digits-lts.Need-slice-write-out-2 (
   digits-below t,
   digits.Post,
 ) (digits-at t) digits.Post
-digits-slice-write-out-2 t c = let a = c .before .before .before .before .before .before .before .args in omega (arith, c .before .before .digits .ensures .next, digits-room a.k a.n (c .before .before .before .before .before .if1 .left) (c .before .before .before .before .if2 .left))
+digits-slice-write-out-2 t c = let a = c .before .before .before .before .before .before .before .args in omega (arith, c .before .before .digits .ensures .stored .next, digits-room a.k a.n (c .before .before .before .before .before .if1 .left) (c .before .before .before .before .if2 .left))
 
 digits-add-result-2 :
     (t : ℕ) → digits-lts.Need-add-result-2 (digits-below t, digits.Post) (digits-at t) digits.Post
-digits-add-result-2 t c = let a = c .before .before .before .before .before .before .before .args in omega (arith, c .before .before .digits .ensures .next, digits-room a.k a.n (c .before .before .before .before .before .if1 .left) (c .before .before .before .before .if2 .left))
+digits-add-result-2 t c = let a = c .before .before .before .before .before .before .before .args in omega (arith, c .before .before .digits .ensures .stored .next, digits-room a.k a.n (c .before .before .before .before .before .if1 .left) (c .before .before .before .before .if2 .left))
 
 digits-same-length-2 :
     (t : ℕ) →
@@ -86,7 +86,7 @@ digits-same-length-2 t c = search needs
 
 digits-returns-3 :
     (t : ℕ) → digits-lts.Need-returns-3 (digits-below t, digits.Post) (digits-at t) digits.Post
-digits-returns-3 t c = let d = c .before .before .digits in let a = c .before .before .before .before .before .before .before .args in rw (digits-more a.k a.n (c .before .before .before .before .before .if1 .left) (omega arith)) (then (d .ensures) (one (d .last .0) (d .result) _ (omega (arith, d .ensures .next, digits-room a.k a.n (c .before .before .before .before .before .if1 .left) (c .before .before .before .before .if2 .left)))))
+digits-returns-3 t c = let d = c .before .before .digits in let a = c .before .before .before .before .before .before .before .args in rw (digits-more a.k a.n (c .before .before .before .before .before .if1 .left) (omega arith)) (then (d .ensures) (one (d .last .0) (d .result) _ (omega (arith, d .ensures .stored .next, digits-room a.k a.n (c .before .before .before .before .before .if1 .left) (c .before .before .before .before .if2 .left)))))
 
 pub +digits-spec : {M : Type 1} → statement M
 +digits-spec =

@@ -1,6 +1,7 @@
 use borrow.Author.Needs.{needs}
 use native.Mathlib.Omega.{arith}
-use Rattle.session_reader.proofs.Walks.{got-at, got-no, kept-got, ready-later, Walk, walk-start, walk-end, walk-stop, walk-more}
+use Rattle.session_reader.proofs.Standing.{again-none}
+use Rattle.session_reader.proofs.Walks.{got-at, got-no, kept-got, ready-later, ready-part, Walk, walk-start, walk-end, walk-stop, walk-more}
 use Rattle.session_reader.proofs.Forming.{head-at, head-no, actions-again, form-none, form-no, again-no, again-at, act-no, act-at}
 use Rattle.session_file.specs.Session as specs
 use Rattle.session_reader.specs.Answers.{HeadIs, GotIs}
@@ -8,7 +9,8 @@ use Rattle.session_reader.specs.declared.forms.Start.the-variants as sta
 use Rattle.session_reader.specs.declared.forms.Got.the-variants as got
 use Rattle.text.proofs.Reading.{place-at, place-no}
 use Rattle.text.specs.Readers.{_>>_, Reads}
-use lib.ListN.{length, drop, getD}
+use lib.ListN.{length, take, drop, getD}
+use lib.Seq.{length-take-le}
 use Prim.Native.Nat.{ℕ, _+_, _-_, _<_}
 use mathlib.Core.Path.{_≡_, sym, _∙_}
 use mathlib.Core.Option.{none}
@@ -28,11 +30,12 @@ use Rattle.session_reader.proofs.items.space.Reads as space-reads
 use Rattle.session_reader.proofs.forms.+form+list.{statement}
 use Rattle.session_reader.proofs.forms.+form+list.Tie.{close}
 
+-- depth left and bytes left, together
 abbrev μ-form : Measures 3 form-kinds.ps ℕ
-μ-form κs a = a .1 .1 .0 + a .1 .1 .0
+μ-form κs a = a .1 .1 .0 + (length (a .0 .now) - a .1 .0)
 
 abbrev μ-list : Measures 3 list-kinds.ps ℕ
-μ-list κs a = a .1 .1 .0 + a .1 .1 .0 + 1
+μ-list κs a = a .1 .1 .0 + (length (a .0 .now) - a .1 .0)
 
 abbrev form-at : ℕ → In 3 form-kinds.ps
 form-at t = and 3 form-kinds.ps (is 3 form-kinds.ps μ-form t) form.Pre
@@ -80,10 +83,10 @@ module _ (t : ℕ) where
   head-read c = head-at _ _ _ (c .start .given .1) (c .before .before .before .head .ensures)
 
   -- the forms of again were read
-  inner-read : (c : form-lts.After-inner (form-claims t) (form-at t) form.Post) → let a = entered (c .before .before .before .before .before .before .before .before .before .before .before) .args in let l = c .before .before .before .before .before .before .list .last .1 .1 .1 in let g = c .inner .given .0 in GotIs specs.counts specs.actionsOf (specs.list (specs.form (a.depth - 1))) a.s.now (c .before .before .before .before .before .before .before .before .before .before .before .start .given .0 .1 .0) 1 a.forms.now (l .0) a.actions.now (l .1 .1 .0) a.f a.n (got.At (g .0) (g .1 .0) (g .1 .1 .0) (g .1 .1 .1 .0))
+  inner-read : (c : form-lts.After-inner (form-claims t) (form-at t) form.Post) → let a = entered (c .before .before .before .before .before .before .before .before .before .before .before .before) .args in let l = c .before .before .before .before .before .before .list2 .last .1 .1 .1 in let g = c .inner .given .0 in GotIs specs.counts specs.actionsOf (specs.list (specs.form (a.depth - 1))) a.s.now (c .before .before .before .before .before .before .before .before .before .before .before .before .start .given .0 .1 .0) 1 a.forms.now (l .0) a.actions.now (l .1 .1 .0) a.f a.n (got.At (g .0) (g .1 .0) (g .1 .1 .0) (g .1 .1 .1 .0))
   inner-read c =
-      let a = entered (c .before .before .before .before .before .before .before .before .before .before .before) .args in
-      got-at specs.counts specs.actionsOf (specs.list (specs.form (a.depth - 1))) _ _ 1 _ _ _ _ _ _ (c .inner .given .1) (c .before .before .before .before .before .before .list .ensures)
+      let a = entered (c .before .before .before .before .before .before .before .before .before .before .before .before) .args in
+      got-at specs.counts specs.actionsOf (specs.list (specs.form (a.depth - 1))) _ _ 1 _ _ _ _ _ _ (c .inner .given .1) (c .before .before .before .before .before .before .list2 .ensures)
 
   -- the bracket of an action was read
   end-read : (c : form-lts.After-end (form-claims t) (form-at t) form.Post) → Reads specs.close (entered (c .before .before .before .before .before) .args .s .now) (c .before .before .before .before .before .start .given .0 .1 .0) 1 tt (c .end .given .0 .0)
@@ -93,66 +96,96 @@ module _ (t : ℕ) where
   form-returns c = form-none _ _ (c .if1 .taken)
 
   form-head-requires : form-lts.Need-head-requires (form-claims t) (form-at t) form.Post
-  form-head-requires c κs = (c .before .before .before .before .before .pre .1 .here, search needs)
+  form-head-requires c κs = (c .before .before .before .before .before .pre .1 .1 .here, search needs)
 
   form-returns-2 : form-lts.Need-returns-2 (form-claims t) (form-at t) form.Post
   form-returns-2 c =
       let a = c .before .before .before .before .before .before .before .before .before .args in
       form-no a.s.now a.at a.depth (c .before .before .before .before .before .if1 .left) (head-no a.s.now a.at _ (c .enum-told .given .1) (c .before .before .before .head .ensures))
 
+  -- in both calls the list starts after the head, one deeper
   form-list-requires : form-lts.Need-list-requires (form-claims t) (form-at t) form.Post
   form-list-requires c κs =
-      let x = head-read (c .before .before .before .before) in
-      let e = entered (c .before .before .before .before) .pre in
-      (omega (arith, e .0, c .before .before .before .before .before .before .before .before .before .if1 .left), ready-later (e .1) (omega (arith, x .2 .past)) (x .2 .within))
+      let x = head-read (c .before .before .before .before .before) in
+      let e = entered (c .before .before .before .before .before) .pre in
+      (omega (arith, e .0, x .2 .past, x .2 .within), (omega (arith, e .1 .0), ready-part (ready-later (e .1 .1) (omega (arith, x .2 .past)) (x .2 .within))))
+
+  form-slice-aggregate-list : form-lts.Need-slice-aggregate-list (form-claims t) (form-at t) form.Post
+  form-slice-aggregate-list c = sym (length-take-le _ _ (entered (c .before .before .before .before .before) .pre .1 .1 .room))
 
   form-returns-3 : form-lts.Need-returns-3 (form-claims t) (form-at t) form.Post
   form-returns-3 c =
-      let a = entered (c .before .before .before .before .before .before .before .before .before .before .before) .args in
-      let x = head-read (c .before .before .before .before .before .before .before .before .before .before .before) in
-      again-no a.s.now a.at a.depth (c .before .before .before .before .before .before .before .before .before .before .before .before .before .before .before .before .if1 .left) _ (x .2) (sym (x .1) ∙ c .before .before .before .before .before .before .before .before .before .if2 .taken)
+      let a = entered (c .before .before .before .before .before .before .before .before .before .before .before .before) .args in
+      let x = head-read (c .before .before .before .before .before .before .before .before .before .before .before .before) in
+      again-no a.s.now a.at a.depth (c .before .before .before .before .before .before .before .before .before .before .before .before .before .before .before .before .before .if1 .left) _ (x .2) (sym (x .1) ∙ c .before .before .before .before .before .before .before .before .before .before .if2 .taken)
       (got-no specs.counts specs.actionsOf (specs.list (specs.form (a.depth - 1))) _ _ 1 _ _ _ _ _ _ (c .enum-told2 .given .1) (c .before .before .before .before .before .before .list .ensures))
-
-  form-again-requires : form-lts.Need-again-requires (form-claims t) (form-at t) form.Post
-  form-again-requires c κs =
-      let p = entered (c .before .before .before .before .before .before .before .before .before .before .before .before .before) .pre .1 in
-      let y = inner-read (c .before .before) in
-      let same = c .before .before .before .before .before .before .before .before .list .kept .1 .1 .1 .1 .1 .0 in
-      (omega (arith, y .2 .forms .next), ((omega (arith, y .2 .acts .next), omega (arith, y .2 .room)), omega (arith, p .limit)))
 
   form-returns-4 : form-lts.Need-returns-4 (form-claims t) (form-at t) form.Post
   unfolding specs.count
   form-returns-4 c =
-      let a = entered (c .before .before .before .before .before .before .before .before .before .before .before .before .before .before .before .before) .args in
-      let x = head-read (c .before .before .before .before .before .before .before .before .before .before .before .before .before .before .before .before) in
+      let a = entered (c .before .before .before .before .before .before .before .before .before .before .before .before .before) .args in
+      let x = head-read (c .before .before .before .before .before .before .before .before .before .before .before .before .before) in
+      let l = c .before .before .before .before .before .before .before .list in
+      let g = c .before .none .given .0 in
+      let y : GotIs specs.counts specs.actionsOf (specs.list (specs.form (a.depth - 1))) a.s.now _ 1 a.forms.now _ (take a.n a.actions.now) _ a.f a.n (got.At (g .0) (g .1 .0) (g .1 .1 .0) (g .1 .1 .1 .0)) = got-at specs.counts specs.actionsOf (specs.list (specs.form (a.depth - 1))) _ _ 1 _ _ _ _ _ _ (c .before .none .given .1) l.ensures in
+      let p = entered (c .before .before .before .before .before .before .before .before .before .before .before .before .before) .pre .1 .1 in
+      let times = getD (c .before .before .before .before .before .before .before .before .before .before .before .before .before .before .before .before .head .last .1 .1 .0) 0 0 in
+      let whole = again-at a.s.now a.at a.depth (c .before .before .before .before .before .before .before .before .before .before .before .before .before .before .before .before .before .before .if1 .left) _ (x .2) (sym (x .1) ∙ c .before .before .before .before .before .before .before .before .before .before .before .if2 .taken) (y .1) in
+      (specs.again times (y .0), whole, rw (actions-again times (y .0)) (again-none times (y .2) (c .before .before .before .before .before .before .before .before .before .before .if3 .taken) (p .room) (omega (arith, p .here, p .table, p .few))), omega (arith, x .2 .past, y .1 .past, p .few))
+
+  form-list-requires-2 : form-lts.Need-list-requires-2 (form-claims t) (form-at t) form.Post
+  form-list-requires-2 c κs =
+      let x = head-read (c .before .before .before .before .before) in
+      let e = entered (c .before .before .before .before .before) .pre in
+      (omega (arith, e .0, x .2 .past, x .2 .within), (omega (arith, e .1 .0), ready-later (e .1 .1) (omega (arith, x .2 .past)) (x .2 .within)))
+
+  form-returns-5 : form-lts.Need-returns-5 (form-claims t) (form-at t) form.Post
+  form-returns-5 c =
+      let a = entered (c .before .before .before .before .before .before .before .before .before .before .before .before) .args in
+      let x = head-read (c .before .before .before .before .before .before .before .before .before .before .before .before) in
+      again-no a.s.now a.at a.depth (c .before .before .before .before .before .before .before .before .before .before .before .before .before .before .before .before .before .if1 .left) _ (x .2) (sym (x .1) ∙ c .before .before .before .before .before .before .before .before .before .before .if2 .taken)
+      (got-no specs.counts specs.actionsOf (specs.list (specs.form (a.depth - 1))) _ _ 1 _ _ _ _ _ _ (c .enum-told3 .given .1) (c .before .before .before .before .before .before .list2 .ensures))
+
+  form-again-requires : form-lts.Need-again-requires (form-claims t) (form-at t) form.Post
+  form-again-requires c κs =
+      let p = entered (c .before .before .before .before .before .before .before .before .before .before .before .before .before .before) .pre .1 .1 in
+      let y = inner-read (c .before .before) in
+      let same = c .before .before .before .before .before .before .before .before .list2 .kept .1 .1 .1 .1 .1 .0 in
+      (omega (arith, y .2 .forms .next), ((omega (arith, y .2 .acts .next), omega (arith, y .2 .room)), omega (arith, p .limit)))
+
+  form-returns-6 : form-lts.Need-returns-6 (form-claims t) (form-at t) form.Post
+  unfolding specs.count
+  form-returns-6 c =
+      let a = entered (c .before .before .before .before .before .before .before .before .before .before .before .before .before .before .before .before .before) .args in
+      let x = head-read (c .before .before .before .before .before .before .before .before .before .before .before .before .before .before .before .before .before) in
       let y = inner-read (c .before .before .before .before .before) in
       let g = c .before .before .again in
-      let whole = again-at a.s.now a.at a.depth (c .before .before .before .before .before .before .before .before .before .before .before .before .before .before .before .before .before .before .before .before .before .if1 .left) _ (x .2) (sym (x .1) ∙ c .before .before .before .before .before .before .before .before .before .before .before .before .before .before .if2 .taken) (y .1) in
-      let times = getD (c .before .before .before .before .before .before .before .before .before .before .before .before .before .before .before .before .before .before .before .head .last .1 .1 .0) 0 0 in
-      kept-got specs.count specs.actions (specs.form a.depth) a.s.now a.at 8 a.forms.now (c .before .before .before .before .before .before .before .before .before .before .before .list .last .1 .1 .1 .0) a.actions.now (g.last .0) a.f a.n (c .before .before .before .before .before .inner .given .0 .1 .1 .0) (specs.again times (y .0)) whole (y .3) g.result
-      (rw (actions-again times (y .0)) (g.ensures _ _ _ (specs.counts (y .0)) (specs.actionsOf (y .0)) (sym (c .before .before .before .before .before .before .before .before .before .before .before .list .kept .1 .1 .1 .1 .1 .0)) (y .2)))
+      let whole = again-at a.s.now a.at a.depth (c .before .before .before .before .before .before .before .before .before .before .before .before .before .before .before .before .before .before .before .before .before .before .if1 .left) _ (x .2) (sym (x .1) ∙ c .before .before .before .before .before .before .before .before .before .before .before .before .before .before .before .if2 .taken) (y .1) in
+      let times = getD (c .before .before .before .before .before .before .before .before .before .before .before .before .before .before .before .before .before .before .before .before .head .last .1 .1 .0) 0 0 in
+      kept-got specs.count specs.actions (specs.form a.depth) a.s.now a.at 8 a.forms.now (c .before .before .before .before .before .before .before .before .before .before .before .list2 .last .1 .1 .1 .0) a.actions.now (g.last .0) a.f a.n (c .before .before .before .before .before .inner .given .0 .1 .1 .0) (specs.again times (y .0)) whole (y .3) g.result
+      (rw (actions-again times (y .0)) (g.ensures _ _ _ (specs.counts (y .0)) (specs.actionsOf (y .0)) (sym (c .before .before .before .before .before .before .before .before .before .before .before .list2 .kept .1 .1 .1 .1 .1 .0)) (y .2)))
 
   form-close-requires : form-lts.Need-close-requires (form-claims t) (form-at t) form.Post
   form-close-requires c κs = head-read (c .before .before) .2 .within
 
-  form-returns-5 : form-lts.Need-returns-5 (form-claims t) (form-at t) form.Post
-  form-returns-5 c =
+  form-returns-7 : form-lts.Need-returns-7 (form-claims t) (form-at t) form.Post
+  form-returns-7 c =
       let a = entered (c .before .before .before .before .before) .args in
       let x = head-read (c .before .before .before .before .before) in
-      act-no a.s.now a.at a.depth (c .before .before .before .before .before .before .before .before .before .before .if1 .left) _ (x .2) (λ e. c .before .before .before .if2 .left (x .1 ∙ e)) (place-no _ _ specs.close 1 (c .enum-told3 .given .1) (c .before .before .close .ensures))
+      act-no a.s.now a.at a.depth (c .before .before .before .before .before .before .before .before .before .before .if1 .left) _ (x .2) (λ e. c .before .before .before .if2 .left (x .1 ∙ e)) (place-no _ _ specs.close 1 (c .enum-told4 .given .1) (c .before .before .close .ensures))
 
   form-keep-requires : form-lts.Need-keep-requires (form-claims t) (form-at t) form.Post
   form-keep-requires c κs =
-      let p = entered (c .before .before .before .before .before .before .before .before .before) .pre .1 in
+      let p = entered (c .before .before .before .before .before .before .before .before .before) .pre .1 .1 in
       let x = head-read (c .before .before .before .before .before .before .before .before .before) in
       let y = end-read (c .before .before .before .before) in
       (omega (arith, x .2 .past, y .past, y .within, p .few, p .table), (omega (arith, p .few, p .here, p .small), (p .room, search needs)))
 
-  form-returns-6 : form-lts.Need-returns-6 (form-claims t) (form-at t) form.Post
+  form-returns-8 : form-lts.Need-returns-8 (form-claims t) (form-at t) form.Post
   unfolding specs.count specs.actions
-  form-returns-6 c =
+  form-returns-8 c =
       let a = entered (c .before .before .before .before .before .before .before .before .before .before .before .before .before .before) .args in
-      let p = entered (c .before .before .before .before .before .before .before .before .before .before .before .before .before .before) .pre .1 in
+      let p = entered (c .before .before .before .before .before .before .before .before .before .before .before .before .before .before) .pre .1 .1 in
       let x = head-read (c .before .before .before .before .before .before .before .before .before .before .before .before .before .before) in
       let y = end-read (c .before .before .before .before .before .before .before .before .before) in
       let k = c .before .before .before .before .keep in
@@ -190,7 +223,7 @@ module _ (t : ℕ) where
   list-loop-holds : list-lts.Need-loop-holds (list-claims t) (list-at t) list.Post list-Inv-loop list-μ-loop
   list-loop-holds c =
       let a = c .before .before .before .args in
-      walk-start (specs.space >> specs.form a.depth) specs.close a.s.now a.at a.forms.now a.actions.now a.f a.n (c .before .before .before .pre .1)
+      walk-start (specs.space >> specs.form a.depth) specs.close a.s.now a.at a.forms.now a.actions.now a.f a.n (c .before .before .before .pre .1 .1)
 
   list-close-requires : list-lts.Need-close-requires (list-claims t) (list-at t) list.Post list-Inv-loop list-μ-loop
   list-close-requires c κs = c .loop .inv .ready .here
@@ -214,7 +247,8 @@ module _ (t : ℕ) where
   list-form-requires c κs =
       let l = tested (spaced (c .before .before .before)) in
       let x = gap-read (c .before .before .before) in
-      (omega (arith, l .before .before .before .before .pre .0), ready-later (l.loop .inv .ready) (omega (arith, x .past)) (x .within))
+      let p = l .before .before .before .before .pre in
+      (omega (arith, p .0, l.loop .inv .turn .from, x .past, x .within), (p .1 .0, ready-later (l.loop .inv .ready) (omega (arith, x .past)) (x .within)))
 
   list-returns-3 : list-lts.Need-returns-3 (list-claims t) (list-at t) list.Post list-Inv-loop list-μ-loop
   list-returns-3 c =
@@ -249,6 +283,9 @@ pub +form+list-spec : {M : Type 1} → statement M
     (λ c. search needs)
     (form-returns-2 t)
     (λ c. search needs)
+    (λ c. search needs)
+    (λ c. search needs)
+    (form-slice-aggregate-list t)
     (form-list-requires t)
     (λ c. search needs)
     (λ c. search needs)
@@ -256,19 +293,29 @@ pub +form+list-spec : {M : Type 1} → statement M
     (λ c. search needs)
     (form-returns-3 t)
     (λ c. search needs)
-    (form-again-requires t)
-    (λ c. search needs)
     (λ c. search needs)
     (form-returns-4 t)
-    (form-close-requires t)
+    (λ c. search needs)
+    (form-list-requires-2 t)
+    (λ c. search needs)
+    (λ c. search needs)
     (λ c. search needs)
     (λ c. search needs)
     (form-returns-5 t)
     (λ c. search needs)
+    (form-again-requires t)
+    (λ c. search needs)
+    (λ c. search needs)
+    (form-returns-6 t)
+    (form-close-requires t)
+    (λ c. search needs)
+    (λ c. search needs)
+    (form-returns-7 t)
+    (λ c. search needs)
     (form-keep-requires t)
     (λ c. search needs)
     (λ c. search needs)
-    (form-returns-6 t))
+    (form-returns-8 t))
     λ t. list-lts.spec (
       close-reads.Asked,
       close-reads.Learnt,

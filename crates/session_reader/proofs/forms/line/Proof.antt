@@ -15,7 +15,7 @@ form-read : (c : tie.After-got) → let a = c .before .before .before .before .b
 form-read c = got-at specs.count specs.actions (specs.form 8) _ _ 8 _ _ _ _ _ _ (c .got .given .1) (c .before .before .before .before .before .before .form .ensures)
 
 form-requires : tie.Need-form-requires
-form-requires c κs = c .before .before .before .before .before .pre
+form-requires c κs = (omega arith, c .before .before .before .before .before .pre)
 
 returns : tie.Need-returns
 unfolding specs.line

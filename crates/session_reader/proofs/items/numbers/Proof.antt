@@ -24,7 +24,7 @@ returns : tie.Need-returns Inv-loop μ-loop
 returns c = let l = c .before .before .before .before .loop in let a = c .before .before .before .before .before .before .before .args in sym (l.inv .4) ∙ counted.no-number a.s.now (take l.n l.out) a.k l.n l.i (c .before .before .before .loop-test .taken) (number-no a.s.now l.i item 2 (c .enum-told .given .1) (c .before .before .item .ensures))
 
 loop-again : tie.Need-loop-again Inv-loop μ-loop
-loop-again c = let l = c .before .before .before .before .before .loop in let a = c .before .before .before .before .before .before .before .before .args in let x = number-at a.s.now l.i item 2 (c .before .read .given .1) (c .before .before .before .item .ensures) in (omega arith, x .within, omega (arith, x .past), search needs, rw (one l.out l.n _ (omega arith) .words) (sym (counted.one-more a.s.now (take l.n l.out) a.k l.n l.i (c .before .before .before .before .loop-test .taken) x) ∙ l.inv .4))
+loop-again c = let l = c .before .before .before .before .before .loop in let a = c .before .before .before .before .before .before .before .before .args in let x = number-at a.s.now l.i item 2 (c .before .read .given .1) (c .before .before .before .item .ensures) in (omega arith, x .within, omega (arith, x .past), search needs, rw (one l.out l.n _ (omega arith) .stored .words) (sym (counted.one-more a.s.now (take l.n l.out) a.k l.n l.i (c .before .before .before .before .loop-test .taken) x) ∙ l.inv .4))
 
 returns-2 : tie.Need-returns-2 Inv-loop μ-loop
 returns-2 c = let l = c .before .loop in let a = c .before .before .before .before .args in let e : a.k ≡ l.n = omega arith in record { finds = sym (l.inv .4) ∙ counted.all-read (take l.n l.out) a.k l.n _ e ∙ ap (λ j. some (take j l.out, drop l.i a.s.now)) (sym e); past = omega arith; within = omega arith }

@@ -9,7 +9,7 @@ put-line-requires : tie.Need-put-line-requires
 put-line-requires c κs = let h = line-1 (bytes "(bad") (c .before .wide .result) (c .before .wide .ensures .1) in omega (arith, h)
 
 returns : tie.Need-returns
-returns c = let h = line-1 (bytes "(bad") (c .before .before .before .before .wide .result) (c .before .before .before .before .wide .ensures .1) in let p = c .before .before .put-line .ensures in (rw (← (c .before .before .before .before .wide .ensures .0)) p, omega (arith, h, p .next))
+returns c = let h = line-1 (bytes "(bad") (c .before .before .before .before .wide .result) (c .before .before .before .before .wide .ensures .1) in let p = c .before .before .put-line .ensures in (rw (← (c .before .before .before .before .wide .ensures .0)) p, omega (arith, h, p .stored .next))
 
 pub put-bad-spec : {M : Type 1} → statement M
 put-bad-spec =

@@ -10,7 +10,7 @@ put-numbers-requires : tie.Need-put-numbers-requires
 put-numbers-requires c κs = let h = numbers-2 (c .before .before .wide .result) (c .before .wide2 .result) (c .before .before .wide .ensures .1) (c .before .wide2 .ensures .1) in omega (arith, h)
 
 put-requires : tie.Need-put-requires
-put-requires c κs = let h = numbers-2 (c .before .before .before .before .before .before .before .wide .result) (c .before .before .before .before .before .before .wide2 .result) (c .before .before .before .before .before .before .before .wide .ensures .1) (c .before .before .before .before .before .before .wide2 .ensures .1) in omega (arith, h, c .before .before .before .before .put-numbers .ensures .next)
+put-requires c κs = let h = numbers-2 (c .before .before .before .before .before .before .before .wide .result) (c .before .before .before .before .before .before .wide2 .result) (c .before .before .before .before .before .before .before .wide .ensures .1) (c .before .before .before .before .before .before .wide2 .ensures .1) in omega (arith, h, c .before .before .before .before .put-numbers .ensures .stored .next)
 
 returns : tie.Need-returns
 unfolding doneStart
@@ -22,7 +22,7 @@ returns c =
     let n = c .before .before .before .before .before .before .before .put-numbers .ensures in
     let p = c .before .before .put .ensures in (
       rw (← (w .ensures .0), ← (w2 .ensures .0)) (then (then (st .0) n) p),
-      λ z. omega (arith, p .next, done-short a.at _ _ a.task (a .f .cell) (w .result) (w2 .result) (st .1 .1) (n .next) (z .0, z .1, omega (arith, z .2, w .ensures .0), omega (arith, z .3, w2 .ensures .0))),
+      λ z. omega (arith, p .stored .next, done-short a.at _ _ a.task (a .f .cell) (w .result) (w2 .result) (st .1 .1) (n .stored .next) (z .0, z .1, omega (arith, z .2, w .ensures .0), omega (arith, z .3, w2 .ensures .0))),
     )
 
 pub put-done-spec : {M : Type 1} → statement M

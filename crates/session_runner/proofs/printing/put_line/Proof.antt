@@ -9,10 +9,10 @@ put-requires : tie.Need-put-requires
 put-requires c κs = let a = c .before .before .before .before .args in omega (arith, c .before .before .before .before .pre, line-length a.start.now a.l.now)
 
 put-numbers-requires : tie.Need-put-numbers-requires
-put-numbers-requires c κs = let a = c .before .before .before .before .before .before .before .before .args in omega (arith, c .before .before .before .before .before .before .before .before .pre, line-length a.start.now a.l.now, c .before .before .before .put .ensures .next)
+put-numbers-requires c κs = let a = c .before .before .before .before .before .before .before .before .args in omega (arith, c .before .before .before .before .before .before .before .before .pre, line-length a.start.now a.l.now, c .before .before .before .put .ensures .stored .next)
 
 put-requires-2 : tie.Need-put-requires-2
-put-requires-2 c κs = let a = c .before .before .before .before .before .before .before .before .before .before .before .before .before .args in omega (arith, c .before .before .before .before .before .before .before .before .before .before .before .before .before .pre, line-length a.start.now a.l.now, c .before .before .before .before .before .before .before .before .put .ensures .next, c .before .before .before .before .put-numbers .ensures .next)
+put-requires-2 c κs = let a = c .before .before .before .before .before .before .before .before .before .before .before .before .before .args in omega (arith, c .before .before .before .before .before .before .before .before .before .before .before .before .before .pre, line-length a.start.now a.l.now, c .before .before .before .before .before .before .before .before .put .ensures .stored .next, c .before .before .before .before .put-numbers .ensures .stored .next)
 
 returns : tie.Need-returns
 returns c = then (then (c .before .before .before .before .before .before .before .before .before .before .before .put .ensures) (c .before .before .before .before .before .before .before .put-numbers .ensures)) (c .before .before .put2 .ensures)

@@ -22,10 +22,10 @@ put-requires : tie.Need-put-requires Inv-loop μ-loop
 put-requires c κs = let l = c .before .before .before .loop in let a = c .before .before .before .before .before .before .args in let e = numbers-room a.l.now l.i (omega arith) in omega (arith, l.inv .2, e)
 
 put-number-requires : tie.Need-put-number-requires Inv-loop μ-loop
-put-number-requires c κs = let l = c .before .before .before .before .before .before .before .before .loop in let a = c .before .before .before .before .before .before .before .before .before .before .before .args in let e = numbers-room a.l.now l.i (omega arith) in omega (arith, l.inv .2, e, c .before .before .before .before .put .ensures .next)
+put-number-requires c κs = let l = c .before .before .before .before .before .before .before .before .loop in let a = c .before .before .before .before .before .before .before .before .before .before .before .args in let e = numbers-room a.l.now l.i (omega arith) in omega (arith, l.inv .2, e, c .before .before .before .before .put .ensures .stored .next)
 
 loop-again : tie.Need-loop-again Inv-loop μ-loop
-loop-again c = let l = c .before .before .before .before .before .before .before .before .before .before .before .loop in let a = c .before .before .before .before .before .before .before .before .before .before .before .before .before .before .args in let p = c .before .before .before .before .before .before .before .put .ensures in let q = c .before .before .put-number .ensures in let h : l.i < length a.l.now = omega arith in (toward-more (l.inv .0) (then p q) (search needs) (numbers-at a.l.now l.i h), search needs, omega (arith, l.inv .2, numbers-room a.l.now l.i h, p .next, q .next))
+loop-again c = let l = c .before .before .before .before .before .before .before .before .before .before .before .loop in let a = c .before .before .before .before .before .before .before .before .before .before .before .before .before .before .args in let p = c .before .before .before .before .before .before .before .put .ensures in let q = c .before .before .put-number .ensures in let h : l.i < length a.l.now = omega arith in (toward-more (l.inv .0) (then p q) (search needs) (numbers-at a.l.now l.i h), search needs, omega (arith, l.inv .2, numbers-room a.l.now l.i h, p .stored .next, q .stored .next))
 
 returns : tie.Need-returns Inv-loop μ-loop
 returns c = let l = c .before .loop in let a = c .before .before .before .before .args in toward-end (l.inv .0) (numbers-end a.l.now l.i (omega arith))

@@ -17,7 +17,7 @@ returns c =
     let w2 = c .before .before .before .before .wide2 in
     let a = c .before .before .before .before .before .before .before .before .before .args in
     let p = c .before .before .put-line .ensures in
-    (rw (← (w .ensures .0), ← (w2 .ensures .0)) p, omega (arith, line-2 a.start.now (w .result) (w2 .result) (w .ensures .1) (w2 .ensures .1), p .next, c .before .before .before .before .before .before .before .before .before .pre .1))
+    (rw (← (w .ensures .0), ← (w2 .ensures .0)) p, omega (arith, line-2 a.start.now (w .result) (w2 .result) (w .ensures .1) (w2 .ensures .1), p .stored .next, c .before .before .before .before .before .before .before .before .before .pre .1))
 
 pub put-pair-spec : {M : Type 1} → statement M
 put-pair-spec =
