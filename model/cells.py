@@ -146,6 +146,22 @@ class Cells:
         # "It leaves every task's record idle, its other fields 0."
         self.tasks = [Record() for _ in range(n)]
 
+    @classmethod
+    def found(cls, n, v, b, pool, current, last_taken, tasks):
+        """Any state with any pool, as it was found: nothing is asked and
+        nothing set.  "every entry takes any numbers and any state" (demand
+        1), and question 6 is asked before anything else."""
+        state = cls.__new__(cls)
+        state.n = n
+        state.v = v
+        state.b = b
+        state.pool = pool
+        state.ask_fit = True
+        state.current = current
+        state.last_taken = last_taken
+        state.tasks = tasks
+        return state
+
     # ----------------------------------------------------------- the pool
 
     def fill(self, block, value):

@@ -1,7 +1,7 @@
 #!/bin/sh
 # Makes the session cases anew from the model and compares them with the ones
-# kept in crates/session_cases.  Ends with 1, naming the first difference, if
-# data, args or stdout differ.
+# kept in crates/session_cases, and likewise what crates/cells_cases prints.
+# Ends with 1, naming the first difference, if data, args or a stdout differ.
 set -u
 here=$(cd "$(dirname "$0")" && pwd) || exit 1
 kept=$here/../crates/session_cases
@@ -31,4 +31,23 @@ if ! cmp -s "$made/stdout" "$kept/stdout"; then
     echo "  kept:  $(sed -n "${line:-1}p" "$kept/stdout")"
     exit 1
 fi
-echo "check_cases: data, args and stdout are the model's"
+
+# what the entries answer to wrong numbers and unfit states
+kept=$here/../crates/cells_cases
+python3 -B "$here/cells_cases.py" <"$kept/stdin" >"$made/cells" || exit 1
+if ! cmp -s "$made/cells" "$kept/stdout"; then
+    if [ ! -f "$kept/stdout" ]; then
+        echo "check_cases: there is no stdout of cells_cases"
+        exit 1
+    fi
+    # the first line after those that are the same
+    line=$(awk 'NR == FNR { made[++n] = $0; next }
+                same == n || made[same + 1] != $0 { exit }
+                { same++ }
+                END { print same + 1 }' "$made/cells" "$kept/stdout")
+    echo "check_cases: stdout of cells_cases differs at line $line"
+    echo "  model: $(sed -n "${line}p" "$made/cells")"
+    echo "  kept:  $(sed -n "${line}p" "$kept/stdout")"
+    exit 1
+fi
+echo "check_cases: data, args and both stdout are the model's"

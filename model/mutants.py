@@ -11,6 +11,7 @@ import resource
 import sys
 import types
 
+import cells_cases
 import make_cases
 
 HERE = os.path.dirname(os.path.abspath(__file__))
@@ -205,11 +206,153 @@ MISREADINGS = [
      "            self.out.append('(end 0 0 0 0)')\n            return\n"),
 ]
 
+# The same of question 6, which no session breaks: each must print something
+# else for a line of crates/cells_cases/stdin.
+FIT = "open_refusal(self.n, self.v, self.b, self.pool, None)"
+UNFIT_LINE = "elif record.line not in lines:"
+HELD = "if record.holds_a_block and record.held >= self.b:"
+SO_FAR = ("return (record.steps <= MOST_STEPS_SO_FAR\n"
+          "                and record.hard <= MOST_HARD_SO_FAR)")
+IDLE_IS_FIT = "if not record.busy:\n            return True"
+FIT_MISREADINGS = [
+    ("6 leaves out N", FIT, FIT + " not in (0, 1)"),
+    ("6 leaves out V", FIT, FIT + " not in (0, 2)"),
+    ("6 leaves out B and the pool", FIT, FIT + " not in (0, 3)"),
+    ("6 leaves out the pool", FIT, "open_refusal(self.n, self.v, self.b,"
+     " [0] * 5 * min(self.b, 999), None)"),
+    ("6 takes a longer pool", FIT, "open_refusal(self.n, self.v, self.b,"
+     " self.pool[:5 * self.b], None)"),
+    ("6 takes a shorter pool", FIT, "open_refusal(self.n, self.v, self.b,"
+     " range(max(len(self.pool), 5 * self.b)), None)"),
+    ("a cell's block B", "block >= self.b for", "block > self.b for"),
+    ("the last taken B", "self.last_taken >= self.b",
+     "self.last_taken > self.b"),
+    ("the first task's record alone", "for record in self.tasks)\n\n    def",
+     "for record in self.tasks[:1])\n\n    def"),
+    ("any record", "return all(self.is_rec", "return any(self.is_rec"),
+    ("idle records asked their kind", IDLE_IS_FIT,
+     "if not record.busy:\n            return record.kind in (0, READ, SWAP)"),
+    ("idle records asked their values", IDLE_IS_FIT,
+     "if not record.busy:\n            return record.new != NONE"),
+    ("idle records asked their cell", IDLE_IS_FIT,
+     "if not record.busy:\n            return record.cell < self.v"),
+    ("idle records asked their blocks", IDLE_IS_FIT, "if not record.busy:\n"
+     "            return max(record.held, record.installing) < self.b"),
+    ("idle records asked their steps", IDLE_IS_FIT,
+     "if not record.busy:\n            return record.steps < 17"),
+    ("idle records asked their hardware swaps", IDLE_IS_FIT,
+     "if not record.busy:\n            return record.hard < 4"),
+    ("a third kind", "record.kind not in (READ, SWAP)",
+     "record.kind not in (READ, SWAP, 3)"),
+    ("a kind 0", "record.kind not in (READ, SWAP)",
+     "record.kind not in (READ, SWAP, 0)"),
+    ("a busy record's cell V", "or record.cell >= self.v",
+     "or record.cell > self.v"),
+    ("a read's cell is not asked", "or record.cell >= self.v",
+     "or record.kind == SWAP and record.cell >= self.v"),
+    ("a swap's cell is not asked", "or record.cell >= self.v",
+     "or record.kind == READ and record.cell >= self.v"),
+    ("equal values on a swap's lines",
+     "if record.runs_read_lines:\n            lines",
+     "if record.kind == READ:\n            lines"),
+    ("no line is asked", UNFIT_LINE, "elif False:"),
+    ("any line of either", UNFIT_LINE,
+     "elif record.line not in READ_LINES | SWAP_LINES:"),
+    ("lines 9 to 12", UNFIT_LINE,
+     "elif record.line not in lines and record.line != 9:"),
+    ("lines 10 to 13", UNFIT_LINE,
+     "elif record.line not in lines and record.line != 13:"),
+    ("line 14", UNFIT_LINE,
+     "elif record.line not in lines and record.line != 14:"),
+    ("line 25", UNFIT_LINE,
+     "elif record.line not in lines and record.line != 25:"),
+    ("line 28", UNFIT_LINE,
+     "elif record.line not in lines and record.line != 28:"),
+    ("line 31", UNFIT_LINE,
+     "elif record.line not in lines and record.line != 31:"),
+    ("the deciding part's line 4", UNFIT_LINE,
+     "elif record.line not in lines and record.line != 4:"),
+    ("no wanted line is asked", "if record.wanted_by not in wants:",
+     "if False:"),
+    ("either's wanted lines", "if record.wanted_by not in wants:",
+     "if record.wanted_by not in READ_WANTS | SWAP_WANTS:"),
+    ("a read may want 25", "if record.wanted_by not in wants:",
+     "if record.wanted_by not in wants | {25}:"),
+    ("a read may want 28", "if record.wanted_by not in wants:",
+     "if record.wanted_by not in wants | {28}:"),
+    ("a swap may want 13", "if record.wanted_by not in wants:",
+     "if record.wanted_by not in wants | {13}:"),
+    ("an equal swap may want 25", "if record.wanted_by not in wants:",
+     "if record.wanted_by not in wants"
+     " | ({25} if record.kind == SWAP else set()):"),
+    ("wanted 27", "if record.wanted_by not in wants:",
+     "if record.wanted_by not in wants | {27}:"),
+    ("wanted nothing", "if record.wanted_by not in wants:",
+     "if record.wanted_by not in wants | {0}:"),
+    ("wanted is asked outside the deciding part", UNFIT_LINE,
+     "elif record.line not in lines or record.wanted_by:"),
+    ("the held block is not asked", HELD, "if False:"),
+    ("the held block B", HELD, HELD.replace(">=", ">")),
+    ("the held block before the first load", HELD,
+     "if record.held >= self.b:"),
+    ("a read's held block before the first load", HELD,
+     "if record.line != 15 and record.held >= self.b:"),
+    ("a swap's held block before the first load", HELD,
+     "if record.line != 10 and record.held >= self.b:"),
+    ("a read's held block is not asked", HELD,
+     HELD.replace("if ", "if record.kind == SWAP and ")),
+    ("the held block is not asked while deciding", HELD,
+     HELD.replace("if ", "if record.line > 3 and ")),
+    ("the held block is not asked at 30", HELD,
+     HELD.replace("if ", "if record.line != 30 and ")),
+    ("the taken block is not asked",
+     "if record.has_taken_a_block and record.installing >= self.b:",
+     "if False:"),
+    ("the taken block before 30",
+     "if record.has_taken_a_block and record.installing >= self.b:",
+     "if record.installing >= self.b:"),
+    ("the taken block at 29",
+     "if record.has_taken_a_block and record.installing >= self.b:",
+     "if record.line > 28 and record.installing >= self.b:"),
+    ("none is not asked", "if record.kind == SWAP and NONE in (",
+     "if False and NONE in ("),
+    ("none in a read", "if record.kind == SWAP and NONE in (",
+     "if NONE in ("),
+    ("none in a swap of equal values",
+     "if record.kind == SWAP and NONE in (",
+     "if not record.runs_read_lines and NONE in ("),
+    ("none asked of expected alone", "NONE in (record.expected, record.new)",
+     "NONE == record.expected"),
+    ("none asked of new alone", "NONE in (record.expected, record.new)",
+     "NONE == record.new"),
+    ("17 steps so far", SO_FAR, SO_FAR.replace("<= MOST_S", "- 1 <= MOST_S")),
+    ("15 steps so far", SO_FAR, SO_FAR.replace("<= MOST_S", "< MOST_S")),
+    ("4 hardware swaps", SO_FAR, SO_FAR.replace("<= MOST_H", "- 1 <= MOST_H")),
+    ("2 hardware swaps", SO_FAR, SO_FAR.replace("<= MOST_H", "< MOST_H")),
+    ("a read's steps are not asked", SO_FAR,
+     SO_FAR.replace("(rec", "(record.kind == READ or rec")
+     + " and record.hard < 4"),
+    ("a read's hardware swaps are not asked", SO_FAR,
+     SO_FAR.replace("and rec", "and (record.kind == READ or rec") + ")"),
+    ("a read's steps are at most 5", SO_FAR,
+     SO_FAR + " and (record.kind == SWAP or record.steps < 6)"),
+    ("a read's hardware swaps are at most 1", SO_FAR,
+     SO_FAR + " and (record.kind == SWAP or record.hard < 2)"),
+    ("7 before 6", "return 6\n", "return 6 if task is None or task < self.n"
+     " else 7\n"),
+    ("look does not ask 6", "return 6\n",
+     "return 6 if task is not None else 0 if cell < 2 else 8\n"),
+    ("look asks no cell", "cell is not None and not cell < self.v",
+     "task is not None and cell is not None and not cell < self.v"),
+    ("a refused begin clears the record", "            return 9\n",
+     "            self.tasks[task].clear()\n            return 9\n"),
+]
+
 
 def misread(where, old, new):
-    """The session's run in a model with this one edit."""
+    """A session's and cells_cases' runs in a model with this one edit."""
     modules = {}
-    for name in ("cells", "reader", "session"):
+    for name in ("cells", "reader", "session", "cells_cases"):
         with open(os.path.join(HERE, name + ".py")) as file:
             source = file.read()
         if name == where:
@@ -221,33 +364,42 @@ def misread(where, old, new):
         exec(compile(source, name, "exec"), module.__dict__)
         sys.modules.update(kept)
         modules[name] = module
-    return modules["session"].run
+    return modules["session"].run, modules["cells_cases"].run
+
+
+def tellers(run, files, prints):
+    """The names of the files for which run prints something else."""
+    for name, content in files.items():
+        try:
+            text = run(content)
+        except Exception as error:
+            text = repr(error)
+        if text != prints[name]:
+            yield name
 
 
 def main():
     # A misread count may ask for more memory than there is.
     resource.setrlimit(resource.RLIMIT_AS, (1 << 30, 1 << 30))
     cases = make_cases.make()
+    sessions = dict(sorted(cases.files.items(), key=lambda item: len(item[1])))
+    with open(os.path.join(HERE, "../crates/cells_cases/stdin")) as file:
+        lines = {line: line for line in file.read().splitlines()}
+    answers = {line: cells_cases.run(line) for line in lines}
+
+    found = [(what, tellers(misread(*edit)[0], sessions, cases.prints))
+             for what, *edit in MISREADINGS]
+    found += [(what, tellers(misread("cells", *edit)[1], lines, answers))
+              for what, *edit in FIT_MISREADINGS]
     untold = 0
-    small = sorted(cases.files, key=lambda name: len(cases.files[name]))
-    for what, *edit in MISREADINGS:
-        run = misread(*edit)
-        first, told = None, 0
-        for name in small:
-            if "-a" not in sys.argv and told:
-                break
-            try:
-                text = run(cases.files[name])
-            except Exception as error:
-                text = repr(error)
-            if text != cases.prints[name]:
-                told += 1
-                first = first or name
-        untold += not told
-        print("%-55s %s" % (what, "told by %s%s" % (
-            first, " and %d more" % (told - 1) if told > 1 else "")
-            if told else "TOLD BY NONE"))
-    print("%d wrong readings, %d told by none" % (len(MISREADINGS), untold))
+    for what, names in found:
+        first = next(names, None)
+        more = sum(1 for _ in names) if "-a" in sys.argv else 0
+        untold += first is None
+        print("%-55s %s" % (what, "TOLD BY NONE" if first is None else
+                            "told by %s%s" % (first, " and %d more" % more
+                                              if more else "")))
+    print("%d wrong readings, %d told by none" % (len(found), untold))
     return 1 if untold else 0
 
 

@@ -1,0 +1,152 @@
+#!/usr/bin/env python3
+"""What the program cells_cases must print: entries handed wrong numbers, unfit
+states and pools of another length.
+
+    python3 model/cells_cases.py < crates/cells_cases/stdin
+
+writes crates/cells_cases/stdout.  Each line of the input is a case: a letter
+and a number for each word that is not as in the plain case, a colon and the
+case's name.  A case with w prints `NAME N`, what open answers.  The others
+print `NAME R S T no N` or `NAME R S T shows V`: what begin a read, begin a
+swap, step and look answer, each asked of the case's own state.  100 stands for
+acted, 200 for ended, any other number for that refusal; a `!` after it would
+say that the refusal changed something.
+"""
+
+import re
+import sys
+
+import cells
+
+# The letters, with the plain case: "Three tasks, two cells, eight blocks, all
+# idle; task 0 is to swap 5 for 7; the second value is 6."
+PLAIN = dict(
+    a=3, b=2, c=8,          # tasks, cells, blocks
+    d=1, e=1, f=2,          # last taken, the blocks of cells 1 and 2
+    g=40,                   # words of the pool
+    h=0,                    # whose record has these:
+    i=0, j=0, k=0, l=0,     # line, wanted, kind, cell
+    m=0, n=0,               # expected, new
+    o=0, p=0, q=0, r=0,     # held, taken, steps, hard
+    s=0, t=0, u=5, v=7,     # of the calls: task, cell, expected, new
+    w=0, x=6)               # how many values open is given; the second
+
+KINDS = {1: cells.READ, 2: cells.SWAP}
+
+ACTED = "100"
+ENDED = "200"
+
+
+def read_case(line):
+    """The case's words by letter, and its name."""
+    words, colon, name = line.partition(":")
+    case = dict(PLAIN)
+    for word in words.split(" ") if words else ():
+        if not (colon and re.fullmatch("[a-x](0|[1-9][0-9]*)", word)):
+            raise ValueError("not a case: %r" % line)
+        case[word[0]] = int(word[1:])
+    return case, name
+
+
+def pool_of(case):
+    """The first words of nine blocks, as an opening of two cells leaves
+    them."""
+    pool = [77] * (cells.WORDS * 9)
+    cells.open_cells(3, 2, 9, pool, (5, 6))
+    if case["g"] > len(pool):
+        raise ValueError("a pool has at most %d words" % len(pool))
+    return pool[:case["g"]]
+
+
+def state_of(case):
+    """The case's state with its pool; of the 16 blocks and 32 records that a
+    state has room for, those of its cells and tasks."""
+    current = list(range(cells.MOST_CELLS))
+    current[1] = case["e"]
+    current[2] = case["f"]
+    tasks = [cells.Record() for _ in range(cells.MOST_TASKS)]
+    if case["h"] < len(tasks):
+        record = tasks[case["h"]]
+        record.line = case["i"]
+        record.wanted_by = case["j"]
+        # a number that stands for neither kind stays as it is
+        record.kind = KINDS.get(case["k"], case["k"])
+        record.cell = case["l"]
+        record.expected = case["m"]
+        record.new = case["n"]
+        record.held = case["o"]
+        record.installing = case["p"]
+        record.steps = case["q"]
+        record.hard = case["r"]
+    return cells.Cells.found(
+        case["a"], case["b"], case["c"], pool_of(case),
+        current[:case["b"]], case["d"], tasks[:case["a"]])
+
+
+def words_of(state):
+    return (state.n, state.v, state.b, tuple(state.pool),
+            tuple(state.current), state.last_taken,
+            tuple(record.words() for record in state.tasks))
+
+
+def answer(case, entry):
+    """What the entry answers, asked of the case's state, and the pool then."""
+    state = state_of(case)
+    before = words_of(state)
+    result = entry(state)
+    if result is None:
+        return ACTED, state.pool
+    if isinstance(result, cells.Finished):
+        return ENDED, state.pool
+    # "A refusal returns the number alone; pool, records and state stay
+    # identical."
+    changed = "" if words_of(state) == before else "!"
+    return "%d%s" % (result.number, changed), state.pool
+
+
+def look(case, pool):
+    state = state_of(case)
+    state.pool = pool
+    result = state.look(case["t"])
+    if isinstance(result, cells.Refused):
+        return "no %d" % result.number
+    return "shows %d" % result
+
+
+def open_answer(case):
+    values = [5, case["x"], 7, 8][:case["w"]]
+    if len(values) != case["w"]:
+        raise ValueError("at most four values")
+    opened = cells.open_cells(case["a"], case["b"], case["c"],
+                              pool_of(case), values)
+    return ("%d" % opened.number if isinstance(opened, cells.Refused)
+            else ACTED)
+
+
+def printed(line):
+    """What is printed for one line of the input."""
+    case, name = read_case(line)
+    if case["w"]:
+        return "%s %s" % (name, open_answer(case))
+    task, cell = case["s"], case["t"]
+    read, _ = answer(case, lambda state: state.begin_read(task, cell))
+    swap, _ = answer(case, lambda state: state.begin_swap(
+        task, cell, case["u"], case["v"]))
+    step, pool = answer(case, lambda state: state.step(task))
+    looked = look(case, pool_of(case))
+    # look comes last, and a case is not to depend on that
+    if looked != look(case, pool):
+        raise ValueError("look tells the step's stores: %r" % line)
+    return "%s %s %s %s %s" % (name, read, swap, step, looked)
+
+
+def run(text):
+    return "".join(printed(line) + "\n" for line in text.splitlines())
+
+
+def main():
+    sys.stdout.write(run(sys.stdin.read()))
+
+
+if __name__ == "__main__":
+    main()
