@@ -9,7 +9,7 @@ use Rattle.lines.specs.declared.Answer.the-variants as CodeAnswer
 use Rattle.lines.specs.Lines.{accessOf, hardware}
 use Rattle.cells.specs.declared.Outcome.{Outcome}
 use Rattle.cells.specs.declared.Outcome.the-variants.{Refused, Acted, Ended}
-use Rattle.history.specs.History.{Kind, aRead, aSwap, Answer, Value, Yes, No, Report, Event, refused, accepted, answered}
+use Rattle.history.specs.History.{aRead, aSwap, Answer, Value, Yes, No, Report, Event, refused, accepted, answered}
 
 abbrev pub answerOf : Code.Answer → Answer
 answerOf (CodeAnswer.Value v) = Value v

@@ -14,7 +14,7 @@ use Rattle.lines.specs.declared.Next.{Next}
 use Rattle.lines.specs.Record.{idle, isIdle}
 use Rattle.lines.specs.Lines.{Line, lineOf, accessOf, counted, hardware}
 use Rattle.history.specs.Basics.{upd, _∈_}
-use Rattle.history.specs.History.{Op, read, swap, Action, begin, step, cellOf, Kind, aRead, aSwap, kindOf}
+use Rattle.history.specs.History.{Op, read, swap, Action, begin, step, cellOf, aRead, aSwap, kindOf}
 use Rattle.history.specs.Demand3.{most, mostHard}
 use Rattle.history.proofs.Basics.{either, upd-at, upd-off}
 use Rattle.history.proofs.Simulation.{Tally, first, Follows}

@@ -5,9 +5,9 @@ use mathlib.Core.List.{List, [], _∷_, map}
 use Prim.Native.Nat.{ℕ}
 use Rattle.lines.specs.Lines.{Line}
 use Rattle.history.specs.Basics.{upd}
-use Rattle.history.specs.History.{Op, Action, begin, step, Answer, Event, refused, accepted, answered, history, Call, Calls, Finished, noCalls, called, advanced, closed, enter, enterAll, callsOf, IsBusy, Allowed, WellFormed}
+use Rattle.history.specs.History.{Op, Action, begin, step, Event, refused, accepted, answered, history, Call, Calls, noCalls, called, advanced, closed, enter, enterAll, callsOf, IsBusy, Allowed, WellFormed}
 use Rattle.history.proofs.Basics.{upd-cases}
-use Rattle.figure.specs.Paths.{Traced, Trace, noTrace, enterLine, traces, finishedReport, tracedReport}
+use Rattle.figure.specs.Paths.{Trace, noTrace, enterLine, traces, finishedReport, tracedReport}
 use Rattle.figure.proofs.Records.{upd-both}
 
 -- a pending call is the one that the trace has as begun

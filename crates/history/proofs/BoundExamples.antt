@@ -8,7 +8,7 @@ use native.Mathlib.Omega.{arith}
 use lib.ListN.{replicate}
 use borrow.Author.Tests.{ne-eqb}
 use Rattle.history.specs.Basics.{upd, _∈_}
-use Rattle.history.specs.History.{aRead, aSwap, read, swap, Action, begin, step, Event, refused, accepted, answered, Value, Yes, Call, Finished, Calls, noCalls, callsOf}
+use Rattle.history.specs.History.{aRead, aSwap, read, swap, Action, begin, step, Event, refused, accepted, Value, Yes, Call, Finished, Calls, noCalls, callsOf}
 use Rattle.history.specs.History.{finished, pending, WellFormed}
 use Rattle.history.specs.Demand3.{most, mostHard, Reports, Bounds, Unequal, Alone, NoHardware}
 use Rattle.history.proofs.Tracks.{clash, some-inj}

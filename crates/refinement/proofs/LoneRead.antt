@@ -19,7 +19,7 @@ use Rattle.questions.specs.Questions.{refusal, openQuestions}
 use Rattle.lines.specs.Record.{firstRead}
 use Rattle.cells.specs.Look.{looked, shown, shownValue}
 use Rattle.history.specs.Basics.{upd}
-use Rattle.history.specs.History.{Action, begin, step, read, Value, Event, accepted, answered, history, run}
+use Rattle.history.specs.History.{Action, begin, step, read, Event, accepted, answered, history, run}
 use Rattle.history.proofs.Basics.{upd-same, upd-off, upd-cases}
 use Rattle.figure.specs.Figure.{Cell, World, withBoth, store, perform, recordAfter, outcomeOf, figure}
 use Rattle.cells.specs.Events.{eventOf, tried}

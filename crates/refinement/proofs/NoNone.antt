@@ -1,5 +1,5 @@
 -- None never enters or leaves a cell: the figure's invariant has no current block with V none, and an answered value was seen not to be none.
-use mathlib.Core.Path.{_≡_, refl, sym, subst, _∙_}
+use mathlib.Core.Path.{_≡_, sym, subst, _∙_}
 use mathlib.Core.Logic.{_≢_}
 use mathlib.Core.Option.{Option, none, some}
 use mathlib.Core.List.{List, [], _∷_}

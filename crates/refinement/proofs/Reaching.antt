@@ -7,7 +7,7 @@ use Prim.Native.Nat.{ℕ}
 use lib.ListN.{length}
 use Rattle.questions.specs.declared.State.{State}
 use Rattle.questions.specs.Questions.{refusal, fit, openQuestions}
-use Rattle.history.specs.History.{Action, run}
+use Rattle.history.specs.History.{Action}
 use Rattle.history.proofs.AllActions.{run-snoc}
 use Rattle.cells.specs.Machine.{Pool, pool}
 use Rattle.refinement.specs.Terms.{start}
