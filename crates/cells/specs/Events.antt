@@ -9,15 +9,19 @@ use Rattle.lines.specs.declared.Answer.the-variants as CodeAnswer
 use Rattle.lines.specs.Lines.{accessOf, hardware}
 use Rattle.cells.specs.declared.Outcome.{Outcome}
 use Rattle.cells.specs.declared.Outcome.the-variants.{Refused, Acted, Ended}
-use Rattle.history.specs.History.{aRead, aSwap, Answer, Value, Yes, No, Report, Event, refused, accepted, answered}
+use Rattle.history.specs.History.{Kind, aRead, aSwap, Answer, Value, Yes, No, Report, Event, refused, accepted, answered}
 
 abbrev pub answerOf : Code.Answer → Answer
 answerOf (CodeAnswer.Value v) = Value v
 answerOf CodeAnswer.Yes = Yes
 answerOf CodeAnswer.No = No
 
+-- 1 is a read, 2 a swap
+abbrev pub kindAt : ℕ → Kind
+kindAt k = cond (eqb k 1) aRead aSwap
+
 abbrev pub reportOf : CodeFinished.Finished → Report
-reportOf f = record { kind = cond (eqb (f .kind) 1) aRead aSwap; cell = f .cell; answer = answerOf (f .answer); steps = f .steps; hard = f .hard }
+reportOf f = record { kind = kindAt (f .kind); cell = f .cell; answer = answerOf (f .answer); steps = f .steps; hard = f .hard }
 
 -- of an action that attempts x hardware CAS if it is accepted
 abbrev pub eventOf : (tried : ℕ) → Outcome → Event

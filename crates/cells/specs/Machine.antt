@@ -17,7 +17,14 @@ abbrev pub begins : State → List ℕ → ℕ → Op → After
 begins s p t (read k) = readBegun s p t k
 begins s p t (swap k e n) = swapBegun s p t k e n
 
+abbrev pub does : State → List ℕ → Action → After
+does s p (begin t op) = begins s p t op
+does s p (step t) = stepped s p t
+
 -- a begin attempts no hardware CAS
+abbrev pub triedBy : State → Action → ℕ
+triedBy s (begin t op) = 0
+triedBy s (step t) = tried t (recordAt (s .records) t)
+
 abbrev pub pool : Pool → Action → Pool × Event
-pool s (begin t op) = let r = begins (s .0) (s .1) t op in ((r .state, r .pool), eventOf 0 (r .outcome))
-pool s (step t) = let r = stepped (s .0) (s .1) t in ((r .state, r .pool), eventOf (tried t (recordAt (s .0 .records) t)) (r .outcome))
+pool x a = let r = does (x .0) (x .1) a in ((r .state, r .pool), eventOf (triedBy (x .0) a) (r .outcome))

@@ -7,14 +7,15 @@ use Prim.Native.String.{String}
 use lib.ListN.{length, replicate}
 use Rattle.text.specs.Bytes.{bytes}
 use Rattle.text.specs.Readers.{word, digitsAfter, number}
+use Rattle.history.specs.History.{read, swap, Action, begin, step}
 use Rattle.session_shape.specs.Shape.{fits, deeper, shapedAfter}
-use Rattle.session_file.specs.Session.{Act, read, swap, step, Verdict, bad, session, short, numbers, manyWithin, values, opening, keyword, head, body, form, line, count, times, actions, formed, asked15, asked14, verdict}
+use Rattle.session_file.specs.Session.{Verdict, bad, session, short, numbers, manyWithin, values, opening, keyword, head, body, form, line, count, times, actions, formed, asked15, asked14, verdict}
 
 -- P1: its opening and 15 actions
 p1 :
     verdict (bytes "(open 2 1 5 (5))\n(swap 0 0 5 7)\n(again 10 (step 0))\n(read 1 0)\n(again 3 (step 1))\n")
     ≡ session (record { tasks = 2; cells = 1; blocks = 5; values = 5 ∷ [] })
-    ((swap 0 0 5 7 ∷ replicate 10 (step 0)) ++ (read 1 0 ∷ replicate 3 (step 1)))
+    ((begin 0 (swap 0 5 7) ∷ replicate 10 (step 0)) ++ (begin 1 (read 0) ∷ replicate 3 (step 1)))
 unfolding word digitsAfter number fits deeper shapedAfter numbers manyWithin values opening keyword head body form line count times actions formed asked15 asked14 verdict
 p1 = refl
 
@@ -23,7 +24,7 @@ abbrev Judged : List (String × Verdict) → Type 0
 Judged [] = Unit {0}
 Judged ((s, v) ∷ l) = (verdict (bytes "(open 1 1 3 (4294967295))\n" ++ bytes s) ≡ v) × Judged l
 
-abbrev plays : List Act → Verdict
+abbrev plays : List Action → Verdict
 plays l = session (record { tasks = 1; cells = 1; blocks = 3; values = 4294967295 ∷ [] }) l
 
 judged :
@@ -36,7 +37,7 @@ judged :
     ("(read 0 0)(read 0 0)\n", bad 13) ∷
     ("(again 1 (again 1 (again 1 (again 1 (again 1 (again 1 (again 1 (again 1 (step 0)))))))))\n", bad 13) ∷
     ("(again 1 (again 1 (again 1 (again 1 (again 1 (again 1 (again 1 (step 0))))))))\n", plays (step 0 ∷ [])) ∷
-    ("(read 0 4294967295)\n", plays (read 0 4294967295 ∷ [])) ∷
+    ("(read 0 4294967295)\n", plays (begin 0 (read 4294967295) ∷ [])) ∷
     ("(read 0 4294967296)\n", bad 14) ∷
     ("(read 0 00)\n", bad 14) ∷
     ("(read 0)\n", bad 14) ∷

@@ -5,14 +5,10 @@ use mathlib.Core.Option.{Option, none, some}
 use Prim.Native.Nat.{ℕ, zero, suc, _+_, _*_}
 use lib.Dec.{leb}
 use lib.ListN.{length, getD}
+use Rattle.history.specs.History.{read, swap, Action, begin, step}
 use Rattle.session_shape.specs.Shape.{shaped}
 use Rattle.text.specs.Bytes.{bytes}
 use Rattle.text.specs.Readers.{Reader, pure, either, _>>=_, _>>_, word, number}
-
-pub data Act : Type 0 where
-  read : (task cell : ℕ) → Act
-  swap : (task cell expected new : ℕ) → Act
-  step : (task : ℕ) → Act
 
 pub record Opening : Type 0 where
   pub tasks : ℕ
@@ -22,7 +18,7 @@ pub record Opening : Type 0 where
 
 pub data Verdict : Type 0 where
   bad : (number : ℕ) → Verdict
-  session : (opening : Opening) (actions : List Act) → Verdict
+  session : (opening : Opening) (actions : List Action) → Verdict
 
 -- 12. Is it at most 65,536 bytes?
 abbrev pub short : List ℕ → Bool
@@ -112,7 +108,7 @@ head = do
 
 mutual
   pub data Form : Type 0 where
-    act : Act → Form
+    act : Action → Form
     again : ℕ → Forms → Form
 
   pub data Forms : Type 0 where
@@ -121,8 +117,8 @@ mutual
 
 -- the rest of a form
 unfoldable pub body : Reader Forms → Kind → List ℕ → Reader Form
-body forms reading n = close >> pure (act (read (getD n 0 0) (getD n 1 0)))
-body forms swapping n = close >> pure (act (swap (getD n 0 0) (getD n 1 0) (getD n 2 0) (getD n 3 0)))
+body forms reading n = close >> pure (act (begin (getD n 0 0) (read (getD n 1 0))))
+body forms swapping n = close >> pure (act (begin (getD n 0 0) (swap (getD n 1 0) (getD n 2 0) (getD n 3 0))))
 body forms stepping n = close >> pure (act (step (getD n 0 0)))
 body forms repeating n = forms >>= λ l. pure (again (getD n 0 0) l)
 
@@ -170,12 +166,12 @@ module _ {A : Type 0} where
 
 -- the actions of forms, in order
 unfoldable mutual
-  pub actions : Form → List Act
+  pub actions : Form → List Action
   actions (act a) = a ∷ []
   actions (again zero l) = []
   actions (again (suc c) l) = times (suc c) (actionsOf l)
 
-  pub actionsOf : Forms → List Act
+  pub actionsOf : Forms → List Action
   actionsOf empty = []
   actionsOf (with l f) = actionsOf l ++ actions f
 

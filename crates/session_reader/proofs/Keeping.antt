@@ -5,16 +5,16 @@ use mathlib.Core.List.{List}
 use Prim.Native.Nat.{ℕ, zero, suc, _+_, _*_, _≤_}
 use native.Mathlib.Omega.{arith}
 use lib.ListN.{length, take}
-use Rattle.session_file.specs.Session.{Act}
+use Rattle.history.specs.History.{Action}
 use Rattle.session_reader.specs.Answers.{Told, untold, told, Kept, Stands}
 use Rattle.session_reader.specs.Kept.{Named}
 
-told-named : {table w : List ℕ} {l : List Act} → Told table w l → Named (length table) w
+told-named : {table w : List ℕ} {l : List Action} → Told table w l → Named (length table) w
 told-named untold j h = absurd (omega arith)
 told-named (told h e x) zero k = h
 told-named (told h e x) (suc j) k = told-named x j (omega arith)
 
-pub stands-named : {F G A B : List ℕ} {f : ℕ} {b : Kept} {k : ℕ} {l : List Act} → Stands F G A B f 0 b k l → b .over ≡ false → (m : ℕ) → length (take (5 * b .forms) G) ≤ m → Named m (take (b .actions) B)
+pub stands-named : {F G A B : List ℕ} {f : ℕ} {b : Kept} {k : ℕ} {l : List Action} → Stands F G A B f 0 b k l → b .over ≡ false → (m : ℕ) → length (take (5 * b .forms) G) ≤ m → Named m (take (b .actions) B)
 stands-named {G = G} {B = B} {b = b} {k = k} {l = l} x e m h =
     let all : take (b .actions) B ≡ x .words = x .acts .words in
     let far : (b .actions ≡ 0 + k) × Told (take (5 * b .forms) G) (x .words) l = rw e at (x .far) in

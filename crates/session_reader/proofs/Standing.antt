@@ -9,7 +9,8 @@ use lib.ListN.{length, take, drop, getD, set, length-set, length-append, take-ap
 use lib.Seq.{length-take-le, getD-at, drop-append-add}
 use Rattle.text.specs.Append.{Appended}
 use Rattle.text.proofs.Appending.{nothing, one, then, stored-then, front, behind, later}
-use Rattle.session_file.specs.Session.{Act, times}
+use Rattle.session_file.specs.Session.{times}
+use Rattle.history.specs.History.{Action}
 use Rattle.session_reader.specs.Reading.{acted, actAt}
 use Rattle.session_reader.specs.Answers.{Told, untold, told, Far, Kept, kept, Stands}
 use Rattle.session_reader.proofs.Told.{told-append, told-times, told-actions, told-grown}
@@ -29,7 +30,7 @@ stands-nothing F A f n g h = record {
   rest = λ _. (refl, refl);
 }
 
-module _ (room n m r i j : ℕ) (T U more v w : List ℕ) (k l : List Act) (e : U ≡ T ++ more) where
+module _ (room n m r i j : ℕ) (T U more v w : List ℕ) (k l : List Action) (e : U ≡ T ++ more) where
   far-join : (x y : Bool) → Far x room n m i T v k → Far y room m r j U w l → Far (x || y) room n r (i + j) U (v ++ w) (k ++ l)
   far-join true y f g = omega arith
   far-join false true f g = omega (arith, f .0)
@@ -51,7 +52,7 @@ or-second true y e = absurd (false≢true (sym e))
 or-second false y e = e
 
 -- forms, and then more of them
-pub stands-join : {F G H A B C : List ℕ} {f n : ℕ} {b d : Kept} {i j : ℕ} {k l : List Act} → length G ≡ length F → length B ≡ length A → Stands F G A B f n b i k → Stands G H B C (b .forms) (b .actions) d j l → Stands F H A C f n (kept (b .over || d .over) (d .forms) (d .actions)) (i + j) (k ++ l)
+pub stands-join : {F G H A B C : List ℕ} {f n : ℕ} {b d : Kept} {i j : ℕ} {k l : List Action} → length G ≡ length F → length B ≡ length A → Stands F G A B f n b i k → Stands G H B C (b .forms) (b .actions) d j l → Stands F H A C f n (kept (b .over || d .over) (d .forms) (d .actions)) (i + j) (k ++ l)
 stands-join {F} {G} {H} {A} {B} {C} {f} {n} {b} {d} {i} {j} {k} {l} e q x y = record {
   table = x .table ++ y .table;
   words = x .words ++ y .words;
@@ -70,7 +71,7 @@ stands-join {F} {G} {H} {A} {B} {C} {f} {n} {b} {d} {i} {j} {k} {l} e q x y = re
       (t .0 ∙ later F G (5 * b .forms) (5 * d .forms) (omega (arith, y .forms .next)) (s .0), t .1 ∙ later A B (b .actions) (d .actions) (omega (arith, y .acts .next)) (s .1));
 }
 
-module _ {F G A B : List ℕ} {f n : ℕ} {b : Kept} {k : ℕ} {l : List Act} (x : Stands F G A B f n b k l) where
+module _ {F G A B : List ℕ} {f n : ℕ} {b : Kept} {k : ℕ} {l : List Action} (x : Stands F G A B f n b k l) where
   low : n ≤ length A
   low = omega (arith, x .acts .next, x .room)
 
@@ -150,7 +151,7 @@ module _ {F G A B : List ℕ} {f n : ℕ} {b : Kept} {k : ℕ} {l : List Act} (x
       (omega (arith, just 0 e .0), rw now (told-actions all))
 
 -- forms that stand no times, read with no room for an action
-pub again-none : {F G A B : List ℕ} {f n : ℕ} {b : Kept} {k : ℕ} {l : List Act} (c : ℕ) → Stands F G (take n A) B f n b k l → c ≡ 0 → n ≤ length A → 5 * f ≤ length F → Stands F G A (B ++ drop n A) f n (kept false f n) (c * k) (times c l)
+pub again-none : {F G A B : List ℕ} {f n : ℕ} {b : Kept} {k : ℕ} {l : List Action} (c : ℕ) → Stands F G (take n A) B f n b k l → c ≡ 0 → n ≤ length A → 5 * f ≤ length F → Stands F G A (B ++ drop n A) f n (kept false f n) (c * k) (times c l)
 again-none {F} {A = A} {f = f} {n = n} {k = k} {l = l} c x e h g =
     let s = x .still (omega (arith, length-take-le n A h)) in
     let zero : 0 * k ≡ 0 = omega arith in
@@ -161,7 +162,7 @@ next-one {b = b} i x y e h = then (rw e at y) (one b i x h)
 
 -- one form kept, and an action of it
 module _ (F A : List ℕ) (f n kind : ℕ) (numbers : List ℕ) (g : 5 * f + 5 ≤ length F) (h : n ≤ length A) where
-  pub keep-over : length A ≤ n → (l : List Act) → Stands F F A A f n (kept true f n) 1 l
+  pub keep-over : length A ≤ n → (l : List Action) → Stands F F A A f n (kept true f n) 1 l
   keep-over k l = record { table = []; words = []; forms = nothing F (5 * f) .stored; acts = nothing A n .stored; fits = omega arith; room = h; far = omega arith; still = λ _. (refl, refl); rest = λ _. (refl, refl) }
 
   abbrev filled : List ℕ

@@ -9,7 +9,8 @@ use lib.ListN.{length, take, drop, drop-of-length-le}
 use lib.Seq.{length-take-le}
 use Rattle.text.proofs.Reading.{drop-byte}
 use Rattle.text.specs.Readers.{Reader, Reads}
-use Rattle.session_file.specs.Session.{Act, Form, Forms, empty, with, many, finish, count, counts, actions, actionsOf}
+use Rattle.session_file.specs.Session.{Form, Forms, empty, with, many, finish, count, counts, actions, actionsOf}
+use Rattle.history.specs.History.{Action}
 use Rattle.session_reader.specs.Answers.{Kept, kept, Stands, KeptIs, Ready, GotIs}
 use Rattle.session_reader.specs.declared.forms.Got.{Got}
 use Rattle.session_reader.specs.declared.forms.Got.the-variants as got
@@ -17,7 +18,7 @@ use Rattle.session_reader.proofs.Standing.{stands-nothing, stands-join}
 use Rattle.session_reader.proofs.Turns.{Turn, turn-start, turn-end, turn-stop, turn-more}
 
 -- what an arm of a match on an answer knows
-module _ {X : Type 0} (count : X → ℕ) (acts : X → List Act) (p : Reader X) (s : List ℕ) (at long : ℕ) (F F′ A A′ : List ℕ) (f n : ℕ) where
+module _ {X : Type 0} (count : X → ℕ) (acts : X → List Action) (p : Reader X) (s : List ℕ) (at long : ℕ) (F F′ A A′ : List ℕ) (f n : ℕ) where
   pub got-at : {r : Got} {next : ℕ} {o : Bool} {g m : ℕ} → r ≡ got.At next o g m → GotIs count acts p s at long F F′ A A′ f n r → (x : X) × Reads p s at long x next × Stands F F′ A A′ f n (kept o g m) (count x) (acts x) × (8 * g ≤ next)
   got-at q x = subst (GotIs count acts p s at long F F′ A A′ f n) q x
 

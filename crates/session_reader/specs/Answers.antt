@@ -10,7 +10,8 @@ use Rattle.text.specs.Bytes.{bytes}
 use Rattle.text.specs.Readers.{Reader, Reads, word as literal}
 use Rattle.text.specs.declared.Place.{Place}
 use Rattle.text.specs.declared.Place.the-variants as place
-use Rattle.session_file.specs.Session.{Act, Kind, reading, swapping, stepping, repeating, numbers, values, opening, keyword, arity, head}
+use Rattle.session_file.specs.Session.{Kind, reading, swapping, stepping, repeating, numbers, values, opening, keyword, arity, head}
+use Rattle.history.specs.History.{Action}
 use Rattle.session_reader.specs.Reading.{actAt}
 use Rattle.session_reader.specs.declared.opening.Listed.{Listed}
 use Rattle.session_reader.specs.declared.opening.Listed.the-variants as listed
@@ -63,12 +64,12 @@ HeadIs s at out start.Unknown = head (drop at s) ≡ none
 HeadIs s at out (start.Known n next) = (kind : Kind) × (n ≡ kindNumber kind) × Reads head s at 7 (kind, take (arity kind) out) next
 
 -- words that number forms of a table, and the actions they make
-pub data Told (table : List ℕ) : List ℕ → List Act → Type 0 where
+pub data Told (table : List ℕ) : List ℕ → List Action → Type 0 where
   untold : Told table [] []
-  told : {i : ℕ} {w : List ℕ} {a : Act} {l : List Act} → 5 * i + 5 ≤ length table → actAt table i ≡ a → Told table w l → Told table (i ∷ w) (a ∷ l)
+  told : {i : ℕ} {w : List ℕ} {a : Action} {l : List Action} → 5 * i + 5 ≤ length table → actAt table i ≡ a → Told table w l → Told table (i ∷ w) (a ∷ l)
 
 -- more actions than there is room for, or just those kept
-abbrev pub Far : Bool → (room n m k : ℕ) → (table words : List ℕ) → List Act → Type 0
+abbrev pub Far : Bool → (room n m k : ℕ) → (table words : List ℕ) → List Action → Type 0
 Far true room n m k table words l = room < n + k
 Far false room n m k table words l = (m ≡ n + k) × Told table words l
 
@@ -82,7 +83,7 @@ abbrev pub kept : Bool → (forms actions : ℕ) → Kept
 kept o f n = record { over = o; forms = f; actions = n }
 
 -- k actions, l, read with f forms and n actions kept before them, and what is kept then of the buffers F and A
-pub record Stands (F F′ A A′ : List ℕ) (f n : ℕ) (b : Kept) (k : ℕ) (l : List Act) : Type 0 where
+pub record Stands (F F′ A A′ : List ℕ) (f n : ℕ) (b : Kept) (k : ℕ) (l : List Action) : Type 0 where
   pub table : List ℕ
   pub words : List ℕ
   pub forms : Stored F F′ (5 * f) (5 * b .forms) table
@@ -95,7 +96,7 @@ pub record Stands (F F′ A A′ : List ℕ) (f n : ℕ) (b : Kept) (k : ℕ) (l
   pub rest : b .over ≡ false → (drop (5 * b .forms) F′ ≡ drop (5 * b .forms) F) × (drop (b .actions) A′ ≡ drop (b .actions) A)
 
 -- the same of an answer, which hands on the place next and keeps at most so many forms
-abbrev pub KeptIs : (F F′ A A′ : List ℕ) → (f n next most k : ℕ) → List Act → Got → Type 0
+abbrev pub KeptIs : (F F′ A A′ : List ℕ) → (f n next most k : ℕ) → List Action → Got → Type 0
 KeptIs F F′ A A′ f n next most k l got.Bad = ⊥
 KeptIs F F′ A A′ f n next most k l (got.At to o g m) = (to ≡ next) × Stands F F′ A A′ f n (kept o g m) k l × (g ≤ most)
 
@@ -108,7 +109,7 @@ pub record Ready (s : List ℕ) (at : ℕ) (F : List ℕ) (f : ℕ) (A : List �
   pub room : n ≤ length A
   pub limit : length A ≤ 65535
 
-module _ {X : Type 0} (count : X → ℕ) (actions : X → List Act) (p : Reader X) where
+module _ {X : Type 0} (count : X → ℕ) (actions : X → List Action) (p : Reader X) where
   abbrev pub GotIs : List ℕ → (at long : ℕ) → (F F′ A A′ : List ℕ) → (f n : ℕ) → Got → Type 0
   GotIs s at long F F′ A A′ f n got.Bad = p (drop at s) ≡ none
   GotIs s at long F F′ A A′ f n (got.At next o g m) =

@@ -6,7 +6,8 @@ ghost use mathlib.Core.List.{List, [], _∷_};
 ghost use Prim.Native.Nat.{ℕ, _+_, _-_, _*_, _≤_, _<_};
 ghost use lib.ListN.{length, take, drop};
 ghost use Rattle.text.specs.Append.{Appended};
-ghost use Rattle.session_file.specs.Session.{Act, times, form as «formOf», list as «listOf», line as «lineOf», lines as «linesOf», count, counts, actions as «actionsOf1», actionsOf};
+ghost use Rattle.session_file.specs.Session.{times, form as «formOf», list as «listOf», line as «lineOf», lines as «linesOf», count, counts, actions as «actionsOf1», actionsOf};
+ghost use Rattle.history.specs.History.{Action};
 ghost use Rattle.session_reader.specs.Reading.{acted};
 ghost use Rattle.session_reader.specs.Answers.{KeywordIs, HeadIs, kept, Stands, KeptIs, GotIs, Ready};
 
@@ -129,7 +130,7 @@ fn again(
     requires { ⌜ (0 < c) × (f ≤ g) ⌝ }
     requires { ⌜ (n ≤ m) × (m ≤ length (now actions)) ⌝ }
     requires { ⌜ length (now actions) ≤ 65535 ⌝ }
-    ensures { λ r. ⌜ ((F F′ A : List ℕ) (k : ℕ) (l : List Act) → length A ≡ length (now (actions .entry)) → Stands F F′ A (now (actions .entry)) f n (kept over g m) k l → KeptIs F F′ A (now (actions .exit)) f n next g (c * k) (times c l) r) ⌝ }
+    ensures { λ r. ⌜ ((F F′ A : List ℕ) (k : ℕ) (l : List Action) → length A ≡ length (now (actions .entry)) → Stands F F′ A (now (actions .entry)) f n (kept over g m) k l → KeptIs F F′ A (now (actions .exit)) f n next g (c * k) (times c l) r) ⌝ }
 {
     if over {
         return Got::At(next, over, g, m);

@@ -6,7 +6,7 @@ use native.Mathlib.Omega.{arith}
 use borrow.Author.Tests.{ne-eqb}
 use lib.ListN.{take, drop, getD}
 use lib.Seq.{getD-take, getD-drop}
-use Rattle.session_file.specs.Session.{read, swap, step}
+use Rattle.history.specs.History.{read, swap, begin, step}
 use Rattle.session_reader.specs.Reading.{actAt}
 
 field : (l : List ℕ) (a j k : ℕ) → j < 4 → a + j ≡ k → getD (take 4 (drop a l)) j 0 ≡ getD l k 0
@@ -19,11 +19,11 @@ module _ (l : List ℕ) (i : ℕ) where
   two : getD (take 4 (drop (5 * i + 1) l)) 1 0 ≡ getD l (5 * i + 2) 0
   two = field l (5 * i + 1) 1 (5 * i + 2) (omega arith) (omega arith)
 
-  pub reads : getD l (5 * i) 0 ≡ 1 → read (getD l (5 * i + 1) 0) (getD l (5 * i + 2) 0) ≡ actAt l i
+  pub reads : getD l (5 * i) 0 ≡ 1 → begin (getD l (5 * i + 1) 0) (read (getD l (5 * i + 2) 0)) ≡ actAt l i
   unfolding actAt
   reads e = rw (e, one, two)
 
-  pub swaps : getD l (5 * i) 0 ≡ 2 → swap (getD l (5 * i + 1) 0) (getD l (5 * i + 2) 0) (getD l (5 * i + 3) 0) (getD l (5 * i + 4) 0) ≡ actAt l i
+  pub swaps : getD l (5 * i) 0 ≡ 2 → begin (getD l (5 * i + 1) 0) (swap (getD l (5 * i + 2) 0) (getD l (5 * i + 3) 0) (getD l (5 * i + 4) 0)) ≡ actAt l i
   unfolding actAt
   swaps e = rw (e, one, two, field l (5 * i + 1) 2 (5 * i + 3) (omega arith) (omega arith), field l (5 * i + 1) 3 (5 * i + 4) (omega arith) (omega arith))
 

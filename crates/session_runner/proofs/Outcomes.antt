@@ -20,9 +20,10 @@ use Rattle.cells.specs.Turn.{Touched, performed, ending, turn}
 use Rattle.cells.proofs.TurnLaw.{ran-turn}
 use Rattle.cells.proofs.Stepping.{Acting, own-acting}
 use Rattle.figure.proofs.LineLaws.{imp, every-line, same, Leads, goes, done as ends, leads}
-use Rattle.session_file.specs.Session.{Act, read, swap, step}
+use Rattle.history.specs.History.{read, swap, Action, begin, step, taskOf}
+use Rattle.cells.specs.Events.{eventOf}
+use Rattle.cells.specs.Machine.{does}
 use Rattle.session_text.specs.Lines.{Small}
-use Rattle.session_text.specs.Printed.{taskOf, done}
 
 -- a record that fits has a line
 a-line : (r : Record) → lineFit r ≡ true → T (not (same (lineOf r) nowhere))
@@ -33,32 +34,32 @@ at-most-one : (t : ℕ) (r : Record) → hardware (accessOf t r) ≤ 1
 at-most-one t r = leb→le _ _ (every-line (λ l. leb (hardware (accessAt l t r)) 1) tt (lineOf r))
 
 module _ (t : ℕ) where
-  asked : (o : Option ℕ) (s : State) (p : List ℕ) (a : After) → (o ≡ none → Small t (a .outcome)) → Small t (unless o s p a .outcome)
+  asked : (o : Option ℕ) (s : State) (p : List ℕ) (a : After) → (o ≡ none → Small t (eventOf 0 (a .outcome))) → Small t (eventOf 0 (unless o s p a .outcome))
   asked none s p a h = h refl
   asked (some n) s p a h = tt
 
   -- what follows a line of a task whose cell and counts are small
-  ended : (m : Touched) (l : Line) (r : Record) (x : Next) → Leads l r x → t < 100 → r .cell < 100 → r .steps < 100 → r .hard < 100 → Small t (ending m x .outcome)
+  ended : (m : Touched) (l : Line) (r : Record) (x : Next) → Leads l r x → t < 100 → r .cell < 100 → r .steps < 100 → r .hard < 100 → Small t (eventOf 0 (ending m x .outcome))
   ended m l r x (goes f) h i j k = tt
   ended m l r x (ends f) h i j k = (h, i, j, k)
 
-  turns : (p : List ℕ) (r : Record) (c l : ℕ) (f : Option ℕ) → lineFit r ≡ true → t < 100 → r .cell < 100 → r .steps ≤ 16 → r .hard ≤ 3 → Small t (turn p t r c l f .outcome)
+  turns : (p : List ℕ) (r : Record) (c l : ℕ) (f : Option ℕ) → lineFit r ≡ true → t < 100 → r .cell < 100 → r .steps ≤ 16 → r .hard ≤ 3 → Small t (eventOf 0 (turn p t r c l f .outcome))
   unfolding turn
   turns p r c l f e h i j k =
       let m = performed p c l f (accessOf t r) in
       let q = counted r (accessOf t r) in
       ended m (lineOf r) q (nextOf t r (m .value)) (leads (lineOf r) t q (m .value) refl (a-line r e)) h i (omega arith) (omega (arith, at-most-one t r))
 
-  steps : (s : State) (p : List ℕ) → Small t (stepped s p t .outcome)
+  steps : (s : State) (p : List ℕ) → Small t (eventOf 0 (stepped s p t .outcome))
   unfolding stepped
   steps s p =
       let r = recordAt (s .records) t in
       asked (refusal ((6, fit s p) ∷ stepQuestions (s .tasks) r t)) s p (ran s p t r) (λ g.
       let a : Acting s p t r = own-acting s p t g in
-      subst (λ (x : After). Small t (x .outcome)) (sym (ran-turn s p t r)) (turns p r (current s (r .cell)) (s .last) (unused s) (a .line) (omega (arith, a .task)) (omega (arith, a .cell)) (a .ready .steps) (a .ready .hard)))
+      subst (λ (x : After). Small t (eventOf 0 (x .outcome))) (sym (ran-turn s p t r)) (turns p r (current s (r .cell)) (s .last) (unused s) (a .line) (omega (arith, a .task)) (omega (arith, a .cell)) (a .ready .steps) (a .ready .hard)))
 
-pub small : (s : State) (p : List ℕ) (a : Act) → Small (taskOf a) (done s p a .outcome)
+pub small : (s : State) (p : List ℕ) (a : Action) → Small (taskOf a) (eventOf 0 (does s p a .outcome))
 unfolding readBegun swapBegun
-small s p (read t k) = asked t (refusal ((6, fit s p) ∷ beginQuestions (s .tasks) (s .cells) (recordAt (s .records) t) t k)) s p (started s p t (firstRead k)) (λ _. tt)
-small s p (swap t k e n) = asked t (refusal ((6, fit s p) ∷ swapQuestions (s .tasks) (s .cells) (recordAt (s .records) t) t k e n)) s p (started s p t (firstSwap k e n)) (λ _. tt)
+small s p (begin t (read k)) = asked t (refusal ((6, fit s p) ∷ beginQuestions (s .tasks) (s .cells) (recordAt (s .records) t) t k)) s p (started s p t (firstRead k)) (λ _. tt)
+small s p (begin t (swap k e n)) = asked t (refusal ((6, fit s p) ∷ swapQuestions (s .tasks) (s .cells) (recordAt (s .records) t) t k e n)) s p (started s p t (firstSwap k e n)) (λ _. tt)
 small s p (step t) = steps t s p

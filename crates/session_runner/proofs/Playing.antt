@@ -1,7 +1,7 @@
 -- The loop over the actions, the opening before it, and the whole.
 use mathlib.Core.Path.{_≡_, refl, sym, ap, subst, _∙_}
 use mathlib.Core.Option.{none}
-use mathlib.Core.List.{List, [], _∷_, _++_, map}
+use mathlib.Core.List.{List, [], _∷_, _++_, map, append-assoc}
 use Prim.Native.Nat.{ℕ, zero, suc, _+_, _≤_, _<_}
 use native.Mathlib.Numerals.{add-one}
 use native.Mathlib.Omega.{arith}
@@ -20,26 +20,58 @@ use Rattle.questions.specs.Questions.{refusal, openQuestions}
 use Rattle.cells.proofs.Acts.{acts, acts-iff, open-acts}
 use Rattle.refinement.specs.Reached.{Reached}
 use Rattle.refinement.proofs.Reaching.{reached-open}
-use Rattle.session_file.specs.Session.{Act, Verdict, verdict}
+use Rattle.history.specs.History.{Action, taskOf, history, run}
+use Rattle.cells.specs.Events.{eventOf}
+use Rattle.cells.specs.Machine.{does, triedBy, pool}
+use Rattle.session_file.specs.Session.{Verdict, verdict}
 use Rattle.session_reader.specs.Reading.{judged}
 use Rattle.session_reader.proofs.Verdicts.{right-sizes}
-use Rattle.session_text.specs.Lines.{noLine}
-use Rattle.session_text.specs.Printed.{Totals, totals, taskOf, done, reported, counted, closed, played, started, blank, poolWords, shown, printed, printedWithin}
+use Rattle.session_text.specs.Lines.{noLine, eventLine}
+use Rattle.session_runner.specs.Loop.{playedOn}
+use Rattle.session_text.specs.Printed.{Totals, totals, eventLines, counted, countedAll, closed, played, started, blank, poolWords, shown, printed, printedWithin}
 
 -- THE LOOP
 
-map-at : (f : ℕ → Act) (l : List ℕ) (i : ℕ) → i < length l → drop i (map f l) ≡ f (getD l i 0) ∷ drop (suc i) (map f l)
+map-at : (f : ℕ → Action) (l : List ℕ) (i : ℕ) → i < length l → drop i (map f l) ≡ f (getD l i 0) ∷ drop (suc i) (map f l)
 map-at f [] i h = absurd (omega arith)
 map-at f (x ∷ l) zero h = refl
 map-at f (x ∷ l) (suc i) h = map-at f l i (omega arith)
 
-module _ (n v : ℕ) (f : ℕ → Act) (l : List ℕ) (i : ℕ) (z : Totals) (s : State) (p : List ℕ) where
-  pub one-action : {z′ : Totals} {s′ : State} {p′ : List ℕ} {o : Outcome} {a : Act} {t : ℕ} → i < length l → a ≡ f (getD l i 0) → leaving s′ p′ o ≡ done s p a → t ≡ taskOf a → z′ ≡ counted z o → played n v i z s p (drop i (map f l)) ≡ reported i t o ++ played n v (i + 1) z′ s′ p′ (drop (i + 1) (map f l))
-  unfolding played
-  one-action h ea ed et ez = rw (map-at f l i h, add-one, ← ea, ← ed, et, ez)
+-- a line and a count do not depend on the hardware CAS attempts of the action
+same-line : (i t x : ℕ) (o : Outcome) → eventLine i t (eventOf x o) ≡ eventLine i t (eventOf 0 o)
+unfolding eventLine
+same-line i t x (Refused n) = refl
+same-line i t x Acted = refl
+same-line i t x (Ended f) = refl
 
-  pub no-action : length l ≤ i → played n v i z s p (drop i (map f l)) ≡ closed n v z s p
-  unfolding played
+same-count : (z : Totals) (x : ℕ) (o : Outcome) → counted z (eventOf x o) ≡ counted z (eventOf 0 o)
+same-count z x (Refused n) = refl
+same-count z x Acted = refl
+same-count z x (Ended f) = refl
+
+module _ (n v : ℕ) (f : ℕ → Action) (l : List ℕ) (i : ℕ) (z : Totals) (s : State) (p : List ℕ) where
+  first : (a : Action) (r : List Action) → let x = does s p a in
+      playedOn n v i z (s, p) (a ∷ r) ≡ eventLine i (taskOf a) (eventOf 0 (x .outcome)) ++ playedOn n v (i + 1) (counted z (eventOf 0 (x .outcome))) (x .state, x .pool) r
+  unfolding playedOn eventLines
+  first a r =
+      let x = does s p a in
+      let e = eventOf (triedBy s a) (x .outcome) in
+      let h = history pool (x .state, x .pool) r in
+      let y = run pool (x .state, x .pool) r in
+      let rest : Totals → List ℕ = λ z. eventLines (i + 1) h ++ closed n v (countedAll z h) (y .0) (y .1) in
+      append-assoc (eventLine i (taskOf a) e) (eventLines (i + 1) h) (closed n v (countedAll (counted z e) h) (y .0) (y .1))
+      ∙ ap (λ (t : List ℕ). t ++ rest (counted z e)) (same-line i (taskOf a) (triedBy s a) (x .outcome))
+      ∙ ap (λ (z : Totals). eventLine i (taskOf a) (eventOf 0 (x .outcome)) ++ rest z) (same-count z (triedBy s a) (x .outcome))
+
+  pub one-action : {z′ : Totals} {s′ : State} {p′ : List ℕ} {o : Outcome} {a : Action} {t : ℕ} → i < length l → a ≡ f (getD l i 0) → leaving s′ p′ o ≡ does s p a → t ≡ taskOf a → z′ ≡ counted z (eventOf 0 o) →
+      playedOn n v i z (s, p) (drop i (map f l)) ≡ eventLine i t (eventOf 0 o) ++ playedOn n v (i + 1) z′ (s′, p′) (drop (i + 1) (map f l))
+  one-action {a = a} h ea ed et ez =
+      let rest = drop (i + 1) (map f l) in
+      let after : After → List ℕ = λ x. eventLine i (taskOf a) (eventOf 0 (x .outcome)) ++ playedOn n v (i + 1) (counted z (eventOf 0 (x .outcome))) (x .state, x .pool) rest in
+      rw (map-at f l i h, ← (add-one i), ← ea, et, ez) (first a rest ∙ ap after (sym ed))
+
+  pub no-action : length l ≤ i → playedOn n v i z (s, p) (drop i (map f l)) ≡ closed n v z s p
+  unfolding playedOn eventLines
   no-action h = let e : length (map f l) ≤ i = omega (arith, length-map l f) in rw (drop-of-length-le (map f l) e)
 
 -- THE OPENING
@@ -48,7 +80,7 @@ allowed : (s : State) (p : List ℕ) (n v b : ℕ) (vs : List ℕ) → opened s 
 allowed s p n v b vs e = acts-iff (openQuestions (length p) n v b vs) .1 (sym (open-acts s p n v b vs) ∙ ap acts e)
 
 -- what follows from an opening's answer
-module _ (n v b : ℕ) (vs p : List ℕ) (l : List Act) {s₀ s : State} {p′ : List ℕ} {o : Outcome} (eb : s₀ ≡ blank) (e : leaving s p′ o ≡ opened s₀ p n v b vs) where
+module _ (n v b : ℕ) (vs p : List ℕ) (l : List Action) {s₀ s : State} {p′ : List ℕ} {o : Outcome} (eb : s₀ ≡ blank) (e : leaving s p′ o ≡ opened s₀ p n v b vs) where
   abbrev of : Outcome → List ℕ
   of x = started n v l (leaving s p′ x)
 
@@ -59,7 +91,7 @@ module _ (n v b : ℕ) (vs p : List ℕ) (l : List Act) {s₀ s : State} {p′ :
   unfolding started
   on-refused q = ap of (sym q) ∙ same
 
-  pub on-acted : o ≡ Acted → played n v 0 (totals 0 0) s p′ l ≡ started n v l (opened blank p n v b vs)
+  pub on-acted : o ≡ Acted → played n v (s, p′) l ≡ started n v l (opened blank p n v b vs)
   unfolding started
   on-acted q = ap of (sym q) ∙ same
 

@@ -26,12 +26,10 @@ use Rattle.cells.specs.Turn.{Turned, turned, turn, There, Ready}
 use Rattle.blocks.proofs.Search.{finds, can-search}
 use Rattle.cells.proofs.TurnLaw.{putBack}
 use Rattle.cells.proofs.Stepping.{Free, Acting, own-acting}
-use Rattle.history.specs.History.{begin}
-use Rattle.history.specs.History as History
+use Rattle.history.specs.History.{read, swap, Action, begin, step, taskOf}
 use Rattle.refinement.specs.Reached.{Reached}
 use Rattle.refinement.proofs.Reaching.{reached-next, reached-fit}
-use Rattle.session_file.specs.Session.{Act, read, swap, step}
-use Rattle.session_text.specs.Printed.{taskOf, done}
+use Rattle.cells.specs.Machine.{does}
 use Rattle.session_runner.specs.Turns.{slot, refusing, beginTurn, stepTurn, actTurn, Prepared}
 
 -- FROM THE CODE'S NUMBER
@@ -129,11 +127,11 @@ module _ (s : State) (p : List ℕ) (fits : fit s p ≡ true) where
           go false e = let z : _≡_ {A = Option ℕ} (some 7) none = rw e at g in let y : _≡_ {A = ℕ} 0 1 = cc in absurd (omega arith)
 
   -- what the code does, and what it needs for it
-  pub acts : (a : Act) (f : Option ℕ) → let i = slot (taskOf a) (s .tasks) in Free s (recordAt (s .records) i) f
-      → putBack s i (cellAt i) (actTurn p (s .tasks) (s .cells) a (recordAt (s .records) i) (current s (cellAt i)) (s .last) f) ≡ done s p a
+  pub acts : (a : Action) (f : Option ℕ) → let i = slot (taskOf a) (s .tasks) in Free s (recordAt (s .records) i) f
+      → putBack s i (cellAt i) (actTurn p (s .tasks) (s .cells) a (recordAt (s .records) i) (current s (cellAt i)) (s .last) f) ≡ does s p a
   unfolding begun readBegun swapBegun
-  acts (read t k) f h = begins t (firstRead k)
-  acts (swap t k e n) f h = begins t (firstSwap k e n)
+  acts (begin t (read k)) f h = begins t (firstRead k)
+  acts (begin t (swap k e n)) f h = begins t (firstSwap k e n)
   acts (step t) f h = steps t f h
 
 -- IN THE LOOP, from a state that an opening led to
@@ -163,14 +161,12 @@ module _ {n v : ℕ} {s : State} {p : List ℕ} (r : Reached n v s p) where
       (within-true n 1 32 (yes 0) .1, within-true v 1 16 (yes 1) .1)
 
   -- whatever the action, what it leaves is reached too
-  pub reached-then : (a : Act) {s′ : State} {p′ : List ℕ} {o : Outcome} → leaving s′ p′ o ≡ done s p a → Reached n v s′ p′
-  reached-then (read t k) e = subst (λ (x : After). Reached n v (x .state) (x .pool)) (sym e) (reached-next r (begin t (History.read k)))
-  reached-then (swap t k x w) e = subst (λ (x : After). Reached n v (x .state) (x .pool)) (sym e) (reached-next r (begin t (History.swap k x w)))
-  reached-then (step t) e = subst (λ (x : After). Reached n v (x .state) (x .pool)) (sym e) (reached-next r (History.step t))
+  pub reached-then : (a : Action) {s′ : State} {p′ : List ℕ} {o : Outcome} → leaving s′ p′ o ≡ does s p a → Reached n v s′ p′
+  reached-then a e = subst (λ (x : After). Reached n v (x .state) (x .pool)) (sym e) (reached-next r a)
 
-  module _ (a : Act) (i k t : ℕ) (f : Option ℕ) (et : t ≡ taskOf a) (ei : i ≡ slot t (s .tasks)) (ek : k ≡ slot (recordAt (s .records) i .cell) (s .cells)) (free : Free s (recordAt (s .records) i) f) where
+  module _ (a : Action) (i k t : ℕ) (f : Option ℕ) (et : t ≡ taskOf a) (ei : i ≡ slot t (s .tasks)) (ek : k ≡ slot (recordAt (s .records) i .cell) (s .cells)) (free : Free s (recordAt (s .records) i) f) where
     pub is-prepared : Prepared (length p) (s .tasks) (taskOf a) (recordAt (s .records) i) f
     is-prepared = rw (ei, et) (prepared s p (reached-fit r) (taskOf a) f (rw (ei, et) at free))
 
-    pub is-done : {u : Turned} → u ≡ actTurn p (s .tasks) (s .cells) a (recordAt (s .records) i) (current s k) (s .last) f → putBack s i k u ≡ done s p a
+    pub is-done : {u : Turned} → u ≡ actTurn p (s .tasks) (s .cells) a (recordAt (s .records) i) (current s k) (s .last) f → putBack s i k u ≡ does s p a
     is-done e = rw (e, ek, ei, et) (acts s p (reached-fit r) a f (rw (ei, et) at free))

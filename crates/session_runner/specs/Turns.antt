@@ -1,5 +1,5 @@
 -- One action on a state that is known to be fit, told numbers only: its task's record, the current block of that record's cell, the
--- block taken last, and what the search for an unused block answers. It is what Printed.done does (proofs/Turning.antt).
+-- block taken last, and what the search for an unused block answers. It is what Machine.does does (proofs/Turning.antt).
 use mathlib.Core.Path.{_≡_}
 use mathlib.Core.Bool.{cond}
 use mathlib.Core.Option.{Option, none, some}
@@ -11,7 +11,7 @@ use Rattle.lines.specs.Record.{firstRead, firstSwap}
 use Rattle.questions.specs.Questions.{refusal, swapQuestions, stepQuestions}
 use Rattle.cells.specs.declared.Outcome.the-variants.{Refused, Acted}
 use Rattle.cells.specs.Turn.{Turned, turned, turn, There, Ready}
-use Rattle.session_file.specs.Session.{Act, read, swap, step}
+use Rattle.history.specs.History.{read, swap, Action, begin, step}
 
 -- the place of one of m; the first for a number that is none of them
 abbrev pub slot : ℕ → ℕ → ℕ
@@ -29,9 +29,9 @@ beginTurn p n v t r q c l = refusing (refusal (swapQuestions n v r t (q .cell) (
 abbrev pub stepTurn : List ℕ → (tasks task : ℕ) → Record → (current last : ℕ) → Option ℕ → Turned
 stepTurn p n t r c l f = refusing (refusal (stepQuestions n r t)) p r c l (turn p t r c l f)
 
-abbrev pub actTurn : List ℕ → (tasks cells : ℕ) → Act → Record → (current last : ℕ) → Option ℕ → Turned
-actTurn p n v (read t k) r c l f = beginTurn p n v t r (firstRead k) c l
-actTurn p n v (swap t k e w) r c l f = beginTurn p n v t r (firstSwap k e w) c l
+abbrev pub actTurn : List ℕ → (tasks cells : ℕ) → Action → Record → (current last : ℕ) → Option ℕ → Turned
+actTurn p n v (begin t (read k)) r c l f = beginTurn p n v t r (firstRead k) c l
+actTurn p n v (begin t (swap k e w)) r c l f = beginTurn p n v t r (firstSwap k e w) c l
 actTurn p n v (step t) r c l f = stepTurn p n t r c l f
 
 -- what a step that is not refused needs

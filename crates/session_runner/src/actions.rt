@@ -3,7 +3,7 @@ ghost use mathlib.Core.Path.{_≡_};
 ghost use Prim.Native.Nat.{_+_, _*_, _≤_};
 ghost use lib.ListN.{length};
 ghost use Rattle.session_reader.specs.Reading.{actAt};
-ghost use Rattle.session_text.specs.Printed.{taskOf};
+ghost use Rattle.history.specs.History.{taskOf};
 ghost use Rattle.session_runner.specs.Actions.{actOf};
 
 pub enum Action {

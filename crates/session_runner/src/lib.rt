@@ -18,7 +18,7 @@ ghost use Rattle.cells.specs.Open.{opened};
 ghost use Rattle.session_reader.specs.Reading.{actAt, verdictOf};
 ghost use Rattle.session_reader.specs.Kept.{Named, Within};
 ghost use Rattle.session_runner.specs.Space.{zeros};
-ghost use Rattle.session_text.specs.Printed.{started, blank as «blankOf», poolWords, run as «runOf», shown, printedWithin};
+ghost use Rattle.session_text.specs.Printed.{started, blank as «blankOf», poolWords, playedFrom, shown, printedWithin};
 
 // Enough for 65,535 lines of 36 bytes, one of each cell and the end.
 const ROOM: usize = 2400000;
@@ -109,7 +109,7 @@ fn run(
     requires { ⌜ length (now kept) ≤ 65535 ⌝ }
     requires { ⌜ Named (length (now forms)) (now kept) ⌝ }
     requires { ⌜ 2400000 ≤ length (now out) ⌝ }
-    ensures { λ r. ⌜ Appended (now (out .entry)) (now (out .exit)) 0 r («runOf» (record { tasks = tasks; cells = cells; blocks = blocks; values = now (values .entry) }) (map (actAt (now (forms .entry))) (now (kept .entry)))) ⌝ }
+    ensures { λ r. ⌜ Appended (now (out .entry)) (now (out .exit)) 0 r (playedFrom (record { tasks = tasks; cells = cells; blocks = blocks; values = now (values .entry) }) (map (actAt (now (forms .entry))) (now (kept .entry)))) ⌝ }
 {
     let words = pool_words(blocks);
     let mut pool = pool_space();

@@ -17,8 +17,9 @@ ghost use Rattle.text.specs.Append.{Appended};
 ghost use Rattle.refinement.specs.Reached.{Reached};
 ghost use Rattle.session_reader.specs.Reading.{actAt};
 ghost use Rattle.session_reader.specs.Kept.{Named};
-ghost use Rattle.session_text.specs.Lines.{Small};
-ghost use Rattle.session_text.specs.Printed.{totals, reported, counted, lookLine, cellLines, pending as «pendingOf», closed, played};
+ghost use Rattle.cells.specs.Events.{eventOf};
+ghost use Rattle.session_text.specs.Lines.{eventLine, Small};
+ghost use Rattle.session_text.specs.Printed.{counted, lookLine, cellLines, pending as «pendingOf», closed, played};
 ghost use Rattle.session_runner.specs.Actions.{totalsOf};
 
 // Finished calls, and their hardware CAS attempts.
@@ -30,8 +31,8 @@ pub struct Tally {
 // The action's line, where it has one.
 fn report(out: &mut [u8], at: usize, i: u32, task: u32, outcome: Outcome) -> usize
     requires { ⌜ at + 67 ≤ length (now out) ⌝ }
-    ensures { λ r. ⌜ Appended (now (out .entry)) (now (out .exit)) at r (reported i task outcome) ⌝ }
-    ensures { λ r. ⌜ (Small task outcome → r ≤ at + 36) ⌝ }
+    ensures { λ r. ⌜ Appended (now (out .entry)) (now (out .exit)) at r (eventLine i task (eventOf 0 outcome)) ⌝ }
+    ensures { λ r. ⌜ (Small task (eventOf 0 outcome) → r ≤ at + 36) ⌝ }
 {
     match outcome {
         Outcome::Refused(n) => printing::put_no(out, at, i, n),
@@ -43,7 +44,7 @@ fn report(out: &mut [u8], at: usize, i: u32, task: u32, outcome: Outcome) -> usi
 // At most 65,535 calls, each of a 32-bit count: no sum wraps.
 fn count(z: Tally, outcome: Outcome) -> Tally
     requires { ⌜ (z .finished ≤ 65535) × (z .hard ≤ 65535 * 4294967295) ⌝ }
-    ensures { λ r. ⌜ totalsOf r ≡ counted (totalsOf z) outcome ⌝ }
+    ensures { λ r. ⌜ totalsOf r ≡ counted (totalsOf z) (eventOf 0 outcome) ⌝ }
     ensures { λ r. ⌜ (r .finished ≤ z .finished + 1) × (r .hard ≤ z .hard + 4294967295) ⌝ }
 {
     match outcome {
@@ -133,7 +134,7 @@ pub fn play(
     requires { ⌜ length (now kept) ≤ 65535 ⌝ }
     requires { ⌜ Named (length (now forms)) (now kept) ⌝ }
     requires { ⌜ 2400000 ≤ length (now out) ⌝ }
-    ensures { λ r. ⌜ Appended (now (out .entry)) (now (out .exit)) 0 r (played tasks cells 0 (totals 0 0) first (now (pool .entry)) (map (actAt (now (forms .entry))) (now (kept .entry)))) ⌝ }
+    ensures { λ r. ⌜ Appended (now (out .entry)) (now (out .exit)) 0 r (played tasks cells (first, now (pool .entry)) (map (actAt (now (forms .entry))) (now (kept .entry)))) ⌝ }
 {
     let mut i = 0;
     let mut at = 0;

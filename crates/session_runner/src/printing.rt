@@ -5,6 +5,7 @@ ghost use mathlib.Core.List.{[], _∷_};
 ghost use Prim.Native.Nat.{_+_, _*_, _≤_};
 ghost use lib.ListN.{length};
 ghost use Rattle.cells.specs.declared.Outcome.the-variants.{Ended};
+ghost use Rattle.cells.specs.Events.{answerOf, kindAt, reportOf, eventOf};
 ghost use Rattle.text.specs.Append.{Appended};
 ghost use Rattle.text.specs.Bytes.{decimal};
 ghost use Rattle.session_text.specs.Lines.{line, numbers as «numbersOf», badLine, noLine, cellLine, kindWord, answerWord, doneStart, doneLine, rate as «rateOf», endLine, Small};
@@ -84,7 +85,7 @@ fn put_small(out: &mut [u8], at: usize, n: u32) -> usize
 
 fn put_answer(out: &mut [u8], at: usize, a: Answer) -> usize
     requires { ⌜ at + 10 ≤ length (now out) ⌝ }
-    ensures { λ r. ⌜ Appended (now (out .entry)) (now (out .exit)) at r (answerWord a) ⌝ }
+    ensures { λ r. ⌜ Appended (now (out .entry)) (now (out .exit)) at r (answerWord (answerOf a)) ⌝ }
     ensures { λ r. ⌜ r ≤ at + 10 ⌝ }
 {
     match a {
@@ -96,7 +97,7 @@ fn put_answer(out: &mut [u8], at: usize, a: Answer) -> usize
 
 fn put_kind(out: &mut [u8], at: usize, kind: u32) -> usize
     requires { ⌜ at + 6 ≤ length (now out) ⌝ }
-    ensures { λ r. ⌜ Appended (now (out .entry)) (now (out .exit)) at r (kindWord kind) ⌝ }
+    ensures { λ r. ⌜ Appended (now (out .entry)) (now (out .exit)) at r (kindWord (kindAt kind)) ⌝ }
     ensures { λ r. ⌜ r ≤ at + 6 ⌝ }
 {
     if kind == 1 {
@@ -107,7 +108,7 @@ fn put_kind(out: &mut [u8], at: usize, kind: u32) -> usize
 
 fn put_done_start(out: &mut [u8], at: usize, task: u32, f: Finished) -> usize
     requires { ⌜ at + 43 ≤ length (now out) ⌝ }
-    ensures { λ r. ⌜ Appended (now (out .entry)) (now (out .exit)) at r (doneStart task f) ⌝ }
+    ensures { λ r. ⌜ Appended (now (out .entry)) (now (out .exit)) at r (doneStart task (reportOf f)) ⌝ }
     ensures { λ r. ⌜ (r ≤ at + 43) × (r ≤ at + 23 + (length (decimal task) + length (decimal (f .cell)))) ⌝ }
 {
     let a = text::put(out, at, b"(done ");
@@ -121,8 +122,8 @@ fn put_done_start(out: &mut [u8], at: usize, task: u32, f: Finished) -> usize
 
 pub fn put_done(out: &mut [u8], at: usize, task: u32, f: Finished) -> usize
     requires { ⌜ at + 67 ≤ length (now out) ⌝ }
-    ensures { λ r. ⌜ Appended (now (out .entry)) (now (out .exit)) at r (doneLine task f) ⌝ }
-    ensures { λ r. ⌜ (Small task (Ended f) → r ≤ at + 36) ⌝ }
+    ensures { λ r. ⌜ Appended (now (out .entry)) (now (out .exit)) at r (doneLine task (reportOf f)) ⌝ }
+    ensures { λ r. ⌜ (Small task (eventOf 0 (Ended f)) → r ≤ at + 36) ⌝ }
 {
     let a = put_done_start(out, at, task, f);
     let b = put_numbers(out, a, &[wide(f.steps), wide(f.hard)]);

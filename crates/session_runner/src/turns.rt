@@ -16,7 +16,7 @@ ghost use lib.ListN.{length};
 ghost use Rattle.cells.specs.declared.Outcome.the-variants.{Refused};
 ghost use Rattle.blocks.specs.Blocks.{foundOf};
 ghost use Rattle.cells.specs.Turn.{turned};
-ghost use Rattle.session_text.specs.Printed.{taskOf};
+ghost use Rattle.history.specs.History.{taskOf};
 ghost use Rattle.session_runner.specs.Actions.{actOf};
 ghost use Rattle.session_runner.specs.Turns.{slot, beginTurn, stepTurn, actTurn, Prepared};
 

@@ -4,11 +4,7 @@ use mathlib.Core.List.{List, [], _∷_, _++_}
 use Prim.Native.Nat.{ℕ, _*_, _/_, _<_}
 use lib.Dec.{eqb}
 use Rattle.text.specs.Bytes.{bytes, decimal}
-use Rattle.lines.specs.declared.Answer.{Answer}
-use Rattle.lines.specs.declared.Answer.the-variants.{Value, Yes, No}
-use Rattle.lines.specs.declared.Finished.{Finished}
-use Rattle.cells.specs.declared.Outcome.{Outcome}
-use Rattle.cells.specs.declared.Outcome.the-variants.{Refused, Acted, Ended}
+use Rattle.history.specs.History.{Kind, aRead, aSwap, Answer, Value, Yes, No, Report, Event, refused, accepted, answered}
 
 -- numbers, each after a space
 unfoldable pub numbers : List ℕ → List ℕ
@@ -28,8 +24,9 @@ abbrev pub cellLine : (cell value : ℕ) → List ℕ
 cellLine k v = line (bytes "(cell") (k ∷ v ∷ [])
 
 -- the kind as begun
-abbrev pub kindWord : ℕ → List ℕ
-kindWord k = cond (eqb k 1) (bytes " read ") (bytes " swap ")
+abbrev pub kindWord : Kind → List ℕ
+kindWord aRead = bytes " read "
+kindWord aSwap = bytes " swap "
 
 abbrev pub answerWord : Answer → List ℕ
 answerWord (Value v) = decimal v
@@ -37,11 +34,17 @@ answerWord Yes = bytes "yes"
 answerWord No = bytes "no"
 
 -- (done T word K answer
-unfoldable pub doneStart : ℕ → Finished → List ℕ
-doneStart t f = bytes "(done " ++ decimal t ++ kindWord (f .kind) ++ decimal (f .cell) ++ bytes " " ++ answerWord (f .answer)
+unfoldable pub doneStart : ℕ → Report → List ℕ
+doneStart t r = bytes "(done " ++ decimal t ++ kindWord (r .kind) ++ decimal (r .cell) ++ bytes " " ++ answerWord (r .answer)
 
-abbrev pub doneLine : ℕ → Finished → List ℕ
-doneLine t f = line (doneStart t f) (f .steps ∷ f .hard ∷ [])
+abbrev pub doneLine : ℕ → Report → List ℕ
+doneLine t r = line (doneStart t r) (r .steps ∷ r .hard ∷ [])
+
+-- the line of an event, of action i and task t, where it has one
+unfoldable pub eventLine : (i t : ℕ) → Event → List ℕ
+eventLine i t (refused n) = noLine i n
+eventLine i t (accepted x) = []
+eventLine i t (answered x r) = doneLine t r
 
 -- hardware CAS attempts for each thousand calls
 abbrev pub rate : (hard finished : ℕ) → ℕ
@@ -50,10 +53,10 @@ rate h f = cond (eqb f 0) 0 (h * 1000 / f)
 abbrev pub endLine : (finished unfinished hard : ℕ) → List ℕ
 endLine f u h = line (bytes "(end") (f ∷ u ∷ h ∷ rate h f ∷ [])
 
--- HOW LONG THE LINE OF AN ACTION IS
+-- HOW LONG THE LINE OF AN EVENT IS
 
 -- the numbers of a finished call, but for a value that it answers, have at most two digits
-abbrev pub Small : (task : ℕ) → Outcome → Type 0
-Small t (Refused n) = Unit {0}
-Small t Acted = Unit {0}
-Small t (Ended f) = (t < 100) × (f .cell < 100) × (f .steps < 100) × (f .hard < 100)
+abbrev pub Small : (task : ℕ) → Event → Type 0
+Small t (refused n) = Unit {0}
+Small t (accepted x) = Unit {0}
+Small t (answered x r) = (t < 100) × (r .cell < 100) × (r .steps < 100) × (r .hard < 100)

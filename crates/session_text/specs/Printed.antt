@@ -5,17 +5,22 @@ use Prim.Native.Nat.{ℕ, zero, suc, _+_, _*_}
 use lib.Dec.{leb}
 use lib.ListN.{replicate}
 use Rattle.questions.specs.declared.State.{State}
-use Rattle.cells.specs.declared.Outcome.{Outcome}
 use Rattle.cells.specs.declared.Outcome.the-variants.{Refused, Acted, Ended}
 use Rattle.cells.specs.declared.Looked.{Looked}
 use Rattle.cells.specs.declared.Looked.the-variants.{NotShown, Shown}
 use Rattle.lines.specs.Record.{idle, isIdle, recordAt}
 use Rattle.cells.specs.Open.{After, opened}
-use Rattle.cells.specs.Begin.{readBegun, swapBegun}
-use Rattle.cells.specs.Step.{stepped}
 use Rattle.cells.specs.Look.{looked}
-use Rattle.session_file.specs.Session.{Act, read, swap, step, Opening, Verdict, bad, session, verdict}
-use Rattle.session_text.specs.Lines.{badLine, noLine, doneLine, cellLine, endLine}
+use Rattle.cells.specs.Machine.{Pool, pool}
+use Rattle.history.specs.History.{Action, taskOf, Event, refused, accepted, answered, history, run}
+use Rattle.session_file.specs.Session.{Opening, Verdict, bad, session, verdict}
+use Rattle.session_text.specs.Lines.{badLine, noLine, eventLine, cellLine, endLine}
+
+-- THE LINES OF A HISTORY, from action i on
+
+unfoldable pub eventLines : ℕ → List (Action × Event) → List ℕ
+eventLines i [] = []
+eventLines i ((a, e) ∷ h) = eventLine i (taskOf a) e ++ eventLines (i + 1) h
 
 -- finished calls, and their hardware CAS attempts
 pub record Totals : Type 0 where
@@ -25,26 +30,16 @@ pub record Totals : Type 0 where
 abbrev pub totals : (finished hard : ℕ) → Totals
 totals f h = record { finished = f; hard = h }
 
-abbrev pub taskOf : Act → ℕ
-taskOf (read t k) = t
-taskOf (swap t k e n) = t
-taskOf (step t) = t
+abbrev pub counted : Totals → Event → Totals
+counted z (refused n) = z
+counted z (accepted x) = z
+counted z (answered x r) = totals (z .finished + 1) (z .hard + r .hard)
 
-abbrev pub done : State → List ℕ → Act → After
-done s p (read t k) = readBegun s p t k
-done s p (swap t k e n) = swapBegun s p t k e n
-done s p (step t) = stepped s p t
+abbrev pub countedAll : Totals → List (Action × Event) → Totals
+countedAll z [] = z
+countedAll z ((a, e) ∷ h) = countedAll (counted z e) h
 
--- the line of action i, of task t, where it has one
-unfoldable pub reported : (i t : ℕ) → Outcome → List ℕ
-reported i t (Refused n) = noLine i n
-reported i t Acted = []
-reported i t (Ended f) = doneLine t f
-
-abbrev pub counted : Totals → Outcome → Totals
-counted z (Refused n) = z
-counted z Acted = z
-counted z (Ended f) = totals (z .finished + 1) (z .hard + f .hard)
+-- AFTER THE LAST ACTION
 
 -- the k cells from i on; a look is never refused here
 abbrev pub lookLine : ℕ → Looked → List ℕ
@@ -60,20 +55,20 @@ unfoldable pub pending : State → (i k : ℕ) → ℕ
 pending s i zero = 0
 pending s i (suc k) = cond (isIdle (recordAt (s .records) i)) 0 1 + pending s (i + 1) k
 
--- after the last action
 unfoldable pub closed : (tasks cells : ℕ) → Totals → State → List ℕ → List ℕ
 closed n v z s p = cellLines s p 0 v ++ endLine (z .finished) (pending s 0 n) (z .hard)
 
--- from action i on
-unfoldable pub played : (tasks cells : ℕ) → (i : ℕ) → Totals → State → List ℕ → List Act → List ℕ
-played n v i z s p [] = closed n v z s p
-played n v i z s p (a ∷ l) =
-    let r = done s p a in
-    reported i (taskOf a) (r .outcome) ++ played n v (i + 1) (counted z (r .outcome)) (r .state) (r .pool) l
+-- WHAT IS PRINTED: the lines of the history that demand 3 speaks of, and of the state that it leaves
+
+unfoldable pub played : (tasks cells : ℕ) → Pool → List Action → List ℕ
+played n v x l =
+    let h = history pool x l in
+    let y = run pool x l in
+    eventLines 0 h ++ closed n v (countedAll (totals 0 0) h) (y .0) (y .1)
 
 -- a refused open ends the session
-unfoldable pub started : (tasks cells : ℕ) → List Act → After → List ℕ
-started n v l r = elim (r .outcome) [ Refused n ↦ noLine 0 n | Acted ↦ played n v 0 (totals 0 0) (r .state) (r .pool) l | Ended f ↦ [] ]
+unfoldable pub started : (tasks cells : ℕ) → List Action → After → List ℕ
+started n v l r = elim (r .outcome) [ Refused n ↦ noLine 0 n | Acted ↦ played n v (r .state, r .pool) l | Ended f ↦ [] ]
 
 -- before open
 abbrev pub blank : State
@@ -83,12 +78,12 @@ blank = record { tasks = 0; cells = 0; blocks = 0; last = 0; current = replicate
 abbrev pub poolWords : ℕ → ℕ
 poolWords b = 5 * cond (leb b 128) b 128
 
-abbrev pub run : Opening → List Act → List ℕ
-run o l = started (o .tasks) (o .cells) l (opened blank (replicate (poolWords (o .blocks)) 0) (o .tasks) (o .cells) (o .blocks) (o .values))
+abbrev pub playedFrom : Opening → List Action → List ℕ
+playedFrom o l = started (o .tasks) (o .cells) l (opened blank (replicate (poolWords (o .blocks)) 0) (o .tasks) (o .cells) (o .blocks) (o .values))
 
 abbrev pub shown : Verdict → List ℕ
 shown (bad n) = badLine n
-shown (session o l) = run o l
+shown (session o l) = playedFrom o l
 
 unfoldable pub printed : List ℕ → List ℕ
 printed s = shown (verdict s)

@@ -10,11 +10,13 @@ use Rattle.blocks.specs.Blocks.{foundOf}
 use Rattle.cells.proofs.Stepping.{Free}
 use Rattle.refinement.specs.Reached.{Reached}
 use Rattle.session_reader.specs.Reading.{actAt}
-use Rattle.session_text.specs.Printed.{totals, played}
+use Rattle.session_text.specs.Printed.{played}
+use Rattle.session_runner.specs.Loop.{playedOn}
 use Rattle.session_runner.specs.Actions.{actOf, totalsOf}
 use Rattle.session_runner.proofs.Toward.{Toward, toward-start, toward-more, toward-last}
 use Rattle.session_runner.proofs.Playing.{one-action, no-action}
 use Rattle.cells.specs.Open.{After}
+use Rattle.cells.specs.Events.{eventOf}
 use Rattle.session_text.specs.Lines.{Small}
 use Rattle.session_runner.proofs.Outcomes.{small}
 use Rattle.session_runner.proofs.Turning.{task-below, cell-below, reached-small, finds-unused, reached-then, is-prepared, is-done}
@@ -22,7 +24,7 @@ use Rattle.session_runner.proofs.play.play.Statement.{statement}
 use Rattle.session_runner.proofs.play.play.Tie as tie
 
 abbrev Inv-loop : tie.InvT-loop
-Inv-loop out₀ tasks cells pool₀ forms kept i₀ at₀ s₀ z₀ out pool i at s z = Toward out₀ out 0 at (played tasks cells i (totalsOf z) s pool (drop i (map (actAt forms) kept))) (played tasks cells 0 (totals 0 0) s₀ pool₀ (map (actAt forms) kept)) × (i ≤ length kept) × (at ≤ 36 * i) × (z .finished ≤ i) × (z .hard ≤ i * 4294967295) × (length pool ≡ length pool₀) × Reached tasks cells s pool
+Inv-loop out₀ tasks cells pool₀ forms kept i₀ at₀ s₀ z₀ out pool i at s z = Toward out₀ out 0 at (playedOn tasks cells i (totalsOf z) (s, pool) (drop i (map (actAt forms) kept))) (played tasks cells (s₀, pool₀) (map (actAt forms) kept)) × (i ≤ length kept) × (at ≤ 36 * i) × (z .finished ≤ i) × (z .hard ≤ i * 4294967295) × (length pool ≡ length pool₀) × Reached tasks cells s pool
 
 abbrev μ-loop : tie.MeasureT-loop
 μ-loop out₀ tasks cells pool₀ forms kept i₀ at₀ s₀ z₀ out pool i at s z = length kept - i
@@ -32,6 +34,7 @@ free : (c : tie.Joined1 Inv-loop μ-loop) → Free (c .before .before .before .b
 free c = ⊎-elim (λ w. inl (ap foundOf (w .2) ∙ w .1 .ensures ∙ finds-unused (c .before .before .before .before .before .before .before .before .before .loop .inv .6))) (λ w. inr (w .0 .left, ap foundOf (w .1))) (c .if1 .came)
 
 loop-holds : tie.Need-loop-holds Inv-loop μ-loop
+unfolding played playedOn
 loop-holds c = (toward-start _ _ _, search needs, search needs, search needs, search needs, search needs, c .before .before .before .before .pre .0)
 
 action-at-requires : tie.Need-action-at-requires Inv-loop μ-loop
@@ -88,7 +91,7 @@ loop-again c =
     let k = c .count .ensures in
     let h : l .i < length a.kept.now = c .before .before .before .before .before .before .before .before .before .before .before .before .before .before .before .before .before .before .before .loop-test .taken in
     let d = is-done (l .inv .6) x (c .before .before .before .before .before .before .before .before .before .before .before .before .before .before .before .slot .result) (c .before .before .before .before .before .before .before .before .before .before .before .before .before .slot2 .result) (c .before .before .before .before .before .before .before .before .before .before .before .before .before .before .before .before .task-of .result) (foundOf (c .before .before .before .before .before .before .before .before .before .before .before .if1 .free)) (c .before .before .before .before .before .before .before .before .before .before .before .before .before .before .before .before .task-of .ensures) (c .before .before .before .before .before .before .before .before .before .before .before .before .before .before .before .slot .ensures) (c .before .before .before .before .before .before .before .before .before .before .before .before .before .slot2 .ensures) (free (c .before .before .before .before .before .before .before .before .before .before .before)) (c .before .before .before .before .before .before .before .before .act .ensures) in
-    (toward-more (l .inv .0) (r .0) (search needs) (one-action a.tasks a.cells (actAt a.forms.now) a.kept.now l.i (totalsOf l.z) l.s l.pool h (c .before .before .before .before .before .before .before .before .before .before .before .before .before .before .before .before .before .action-at .ensures) d (c .before .before .before .before .before .before .before .before .before .before .before .before .before .before .before .before .task-of .ensures) (k .0)), omega (arith, h), omega (arith, l .inv .2, r .1 (subst (λ (y : After). Small (c .before .before .before .before .before .before .before .before .before .before .before .before .before .before .before .before .task-of .result) (y .outcome)) (sym d) (rw (c .before .before .before .before .before .before .before .before .before .before .before .before .before .before .before .before .task-of .ensures) (small l.s l.pool x)))), omega (arith, l .inv .3, k .1 .0), omega (arith, l .inv .4, k .1 .1), search needs, reached-then (l .inv .6) x d)
+    (toward-more (l .inv .0) (r .0) (search needs) (one-action a.tasks a.cells (actAt a.forms.now) a.kept.now l.i (totalsOf l.z) l.s l.pool h (c .before .before .before .before .before .before .before .before .before .before .before .before .before .before .before .before .before .action-at .ensures) d (c .before .before .before .before .before .before .before .before .before .before .before .before .before .before .before .before .task-of .ensures) (k .0)), omega (arith, h), omega (arith, l .inv .2, r .1 (subst (λ (y : After). Small (c .before .before .before .before .before .before .before .before .before .before .before .before .before .before .before .before .task-of .result) (eventOf 0 (y .outcome))) (sym d) (rw (c .before .before .before .before .before .before .before .before .before .before .before .before .before .before .before .before .task-of .ensures) (small l.s l.pool x)))), omega (arith, l .inv .3, k .1 .0), omega (arith, l .inv .4, k .1 .1), search needs, reached-then (l .inv .6) x d)
 
 finish-requires : tie.Need-finish-requires Inv-loop μ-loop
 finish-requires c κs = let l = c .before .before .before .loop in (reached-small (l .inv .6), (omega (arith, l .inv .0 .same, l .inv .2, l .inv .1, c .before .before .before .before .before .before .before .before .pre .1 .0, c .before .before .before .before .before .before .before .before .pre .1 .1 .1), omega (arith, l .inv .4, l .inv .1, c .before .before .before .before .before .before .before .before .pre .1 .0)))

@@ -1,20 +1,20 @@
 use native.Mathlib.Omega.{arith}
 use Rattle.text.proofs.Appending.{nothing}
-use Rattle.session_text.specs.Printed.{reported}
+use Rattle.session_text.specs.Lines.{eventLine}
 use borrow.Author.Needs.{needs}
 use Rattle.session_runner.proofs.play.report.Statement.{statement}
 use Rattle.session_runner.proofs.play.report.Tie as tie
 
 returns : tie.Need-returns
-unfolding reported
+unfolding eventLine
 returns c = rw (c .before .before .before .before .before .outcome .given .1) (c .before .before .put-no .ensures .0, λ _. c .before .before .put-no .ensures .1)
 
 returns-2 : tie.Need-returns-2
-unfolding reported
+unfolding eventLine
 returns-2 c = (rw (c .enum-told .given .1) (nothing _ _), λ _. omega arith)
 
 returns-3 : tie.Need-returns-3
-unfolding reported
+unfolding eventLine
 returns-3 c = rw (c .before .before .before .before .before .outcome2 .given .1) (c .before .before .put-done .ensures)
 
 pub report-spec : {M : Type 1} → statement M
