@@ -24,7 +24,9 @@ use Rattle.questions.specs.Questions.{Question, refusal, fit, openQuestions, be
 use Rattle.cells.specs.Open.{After, leaving, unless, openState, openPool, opened}
 use Rattle.lines.specs.Record.{firstRead, firstSwap}
 use Rattle.cells.specs.Begin.{started, readBegun, swapBegun}
-use Rattle.cells.specs.Step.{Memory, current, perform, followed, ran, stepped}
+use Rattle.blocks.specs.Blocks.{unused}
+use Rattle.cells.specs.Turn.{Touched, performed, ending}
+use Rattle.cells.specs.Step.{current, ran, stepped}
 use Rattle.cells.specs.Look.{shownValue, shown, looked}
 use Rattle.questions.proofs.Tests.{answers, all-yes}
 
@@ -95,13 +97,13 @@ module _ (s : State) (p : List ℕ) (t : ℕ) where
     unfolding swapBegun
     swap-untouched = untouched s p (started s p t (firstSwap k e n)) refl (refusal ((6, fit s p) ∷ swapQuestions (s .tasks) (s .cells) own t k e n))
 
-  follows : (m : Memory) (x : Next) → acts (followed m t x .outcome) ≡ true
+  follows : (m : Touched) (x : Next) → acts (ending m x .outcome) ≡ true
   follows m (Go r) = refl
   follows m (Done f) = refl
 
   runs : acts (ran s p t own .outcome) ≡ true
   unfolding ran
-  runs = let m = perform s p (accessOf t own) in follows m (nextOf t own (m .value))
+  runs = let m = performed p (current s (own .cell)) (s .last) (unused s) (accessOf t own) in follows m (nextOf t own (m .value))
 
   pub step-acts : acts (stepped s p t .outcome) ≡ ands (answers ((6, fit s p) ∷ stepQuestions (s .tasks) own t))
   unfolding stepped

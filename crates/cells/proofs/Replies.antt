@@ -1,8 +1,8 @@
--- From the number that the code refuses with to what an entry leaves.
+-- What an entry that is not refused has been told.
 use mathlib.Core.Path.{_≡_, refl, sym, _∙_}
 use mathlib.Core.Logic.{_⊎_, inl, inr}
 use mathlib.Core.Bool.{Bool, true, false, _&&_, and-eq-true-iff, false≢true}
-use mathlib.Core.Option.{none, Option·getD}
+use mathlib.Core.Option.{none}
 use mathlib.Core.List.{List, _∷_}
 use Prim.Native.Nat.{ℕ, _*_, _≤_, _<_}
 use native.Mathlib.Omega.{arith}
@@ -11,19 +11,9 @@ use lib.ListN.{getD, length}
 use borrow.Author.Tests.{ltb-true, eqb-true}
 use Rattle.lines.specs.declared.Record.{Record}
 use Rattle.questions.specs.declared.State.{State}
-use Rattle.cells.specs.declared.Outcome.the-variants.{Refused}
 use Rattle.questions.specs.Questions.{Question, refusal, fit, openQuestions}
-use Rattle.cells.specs.Open.{After, leaving, unless}
 use Rattle.questions.proofs.Tests.{answers, all-yes, nth, within-true, blocks-true}
-use Rattle.questions.proofs.Refusals.{numbered, unrefused, refused}
 use Rattle.questions.proofs.Fits.{sizes}
-
-module _ (l : List Question) (n : ℕ) (e : n ≡ Option·getD (refusal l) 0) where
-  pub is-refused : (n ≡ 0 → ⊥) → (s : State) (p : List ℕ) (a : After) → leaving s p (Refused n) ≡ unless (refusal l) s p a
-  is-refused h s p a = rw (refused (refusal l) (λ z. h (e ∙ z)), ← e)
-
-  pub is-allowed : n ≡ 0 → numbered l ≡ true → refusal l ≡ none
-  is-allowed z h = unrefused l h (sym e ∙ z)
 
 yes-at : (l : List Question) → refusal l ≡ none → (k : ℕ) → getD (answers l) k true ≡ true
 yes-at l e = nth (answers l) (all-yes l e)

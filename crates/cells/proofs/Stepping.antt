@@ -1,4 +1,4 @@
--- A step that is not refused: what its turn needs, and that with the turn's three places put back it is the step.
+-- A step that is not refused: what its turn needs, and that a turn told no unused block where it asks for none does the same.
 use mathlib.Core.Path.{_≡_, sym, ap, _∙_}
 use mathlib.Core.Logic.{_⊎_, inl, inr}
 use mathlib.Core.Bool.{Bool, true, false, _&&_, false≢true}
@@ -8,18 +8,19 @@ use Prim.Native.Nat.{ℕ, _≤_, _<_}
 use native.Mathlib.Omega.{arith}
 use lib.Dec.{ltb}
 use lib.ListN.{getD, length}
-use borrow.Author.Tests.{ltb-true, ne-eqb}
+use borrow.Author.Tests.{ltb-true}
 use Rattle.lines.specs.declared.Record.{Record}
 use Rattle.questions.specs.declared.State.{State}
 use Rattle.lines.specs.Record.{recordAt}
 use Rattle.questions.specs.Questions.{Question, refusal, lineFit, recordFit, busyTests, recordsFit, fit, fitTests, stepQuestions}
 use Rattle.blocks.specs.Blocks.{unused}
-use Rattle.cells.specs.Step.{current, stepped}
+use Rattle.cells.specs.Step.{current, putBack, ran, stepped}
 use Rattle.cells.specs.Turn.{turn, There, Ready}
 use Rattle.questions.proofs.Tests.{answers, all-yes, all-at, nth}
-use Rattle.questions.proofs.Fits.{sizes}
+use Rattle.questions.proofs.Fits.{sizes, busy-test}
+use Rattle.questions.proofs.Numbers.{at-number}
 use Rattle.blocks.proofs.Search.{unused-below}
-use Rattle.cells.proofs.TurnLaw.{putBack, ran-turn, ready, turn-free}
+use Rattle.cells.proofs.TurnLaw.{ready, turn-free}
 
 -- the block handed to a turn: what the search finds, where the line is one that asks
 abbrev pub Free : State → Record → Option ℕ → Type 0
@@ -57,8 +58,7 @@ module _ (s : State) (p : List ℕ) (t : ℕ) where
     fits = all-at (λ t. recordFit (recordAt (s .records) t) (s .cells) (s .blocks)) 0 (s .tasks) (nth (fitTests s p) (is-yes 0) 5) t (omega arith) (omega (arith, below))
 
     test : (k : ℕ) → getD (busyTests own (s .cells) (s .blocks)) k true ≡ true
-    unfolding recordFit
-    test = nth (busyTests own (s .cells) (s .blocks)) (rw (ne-eqb _ _ busy) at fits)
+    test = busy-test own (s .cells) (s .blocks) fits busy
 
     cell-below : own .cell < s .cells
     cell-below = ltb-true _ _ (test 0)
@@ -71,12 +71,12 @@ module _ (s : State) (p : List ℕ) (t : ℕ) where
     there (some b) (inr (l, g)) = let z : _≡_ {A = ℕ} 0 1 = cc in omega arith
 
     acts : (f : Option ℕ) → Free s own f → stepped s p t ≡ putBack s t (own .cell) (turn p t own (current s (own .cell)) (s .last) f)
-    unfolding stepped
-    acts f h = rw e (ran-turn s p t own ∙ ap (putBack s t (own .cell)) (go h))
+    unfolding stepped ran
+    acts f h = rw e (ap (putBack s t (own .cell)) (go h))
       where
         go : Free s own f → turn p t own (current s (own .cell)) (s .last) (unused s) ≡ turn p t own (current s (own .cell)) (s .last) f
         go (inl g) = rw g
-        go (inr (l, g)) = turn-free p t own (current s (own .cell)) (s .last) (unused s) f l
+        go (inr (l, g)) = turn-free p t own (current s (own .cell)) (s .last) (unused s) f (λ e. l (at-number own (test 1) ∙ e))
 
     pub own-acting : Acting s p t own
     own-acting =

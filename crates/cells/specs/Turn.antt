@@ -1,5 +1,5 @@
--- A busy task's next line, told numbers only: the current block of its cell, the block taken last, and what the search for an
--- unused block answers. It is what Step.ran does (proofs/TurnLaw.antt).
+-- What an access does to memory, and a busy task's next line, told numbers only: the block that its cell names, the block taken last, and
+-- what the search for an unused block answers. No line names another cell than the task's own (questions/proofs/Accesses.antt).
 use mathlib.Core.Bool.{cond}
 use mathlib.Core.Option.{Option, none, some}
 use mathlib.Core.List.{List}
@@ -29,6 +29,7 @@ pub record Touched : Type 0 where
 abbrev pub touched : List ℕ → (current last value : ℕ) → Touched
 touched p c l v = record { pool = p; current = c; last = l; value = v }
 
+-- where every block is in use nothing is filled, and no block is handed back; no fit state with a task at line 29 has this
 abbrev pub filling : Option ℕ → List ℕ → (current last v : ℕ) → Touched
 filling none p c l v = touched p c l noValue
 filling (some b) p c l v = touched (fill p b v) c b b
@@ -58,10 +59,10 @@ abbrev pub ending : Touched → Next → Turned
 ending m (Go r) = turned r (m .current) (m .last) (m .pool) Acted
 ending m (Done f) = turned idle (m .current) (m .last) (m .pool) (Ended f)
 
-unfoldable pub turn : (pool : List ℕ) (task : ℕ) (r : Record) (current last : ℕ) (free : Option ℕ) → Turned
+abbrev pub turn : (pool : List ℕ) (task : ℕ) (r : Record) (current last : ℕ) (free : Option ℕ) → Turned
 turn p t r c l f = let m = performed p c l f (accessOf t r) in ending m (nextOf t r (m .value))
 
--- WHAT MEMORY NEEDS
+-- WHAT MEMORY NEEDS (this part only helps the proofs)
 
 -- the block that an access names is among the words
 abbrev pub Reaches : (words : ℕ) → Access → Type 0

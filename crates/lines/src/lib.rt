@@ -2,7 +2,7 @@
 // defined in specs/; the pool and the figure with a new block each time both run these definitions.
 pub mod accesses;
 pub mod following;
-mod paths;
+pub mod paths;
 pub mod records;
 
 // What a task's pending call is about to do, and with what. Idle: line 0; an opening and a finished call leave every

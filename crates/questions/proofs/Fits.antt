@@ -6,10 +6,11 @@ use Prim.Native.Nat.{ℕ, _*_, _≤_, _<_, _+_}
 use native.Mathlib.Omega.{arith}
 use lib.Dec.{ltb}
 use lib.ListN.{getD, length}
-use borrow.Author.Tests.{ltb-true}
+use borrow.Author.Tests.{ltb-true, ne-eqb}
+use Rattle.lines.specs.declared.Record.{Record}
 use Rattle.questions.specs.declared.State.{State}
 use Rattle.lines.specs.Basics.{ands}
-use Rattle.questions.specs.Questions.{tasksOk, cellsOk, blocksOk, cellsFit, recordsFit, fit, fitTests}
+use Rattle.questions.specs.Questions.{tasksOk, cellsOk, blocksOk, busyTests, recordFit, cellsFit, recordsFit, fit, fitTests}
 use Rattle.questions.proofs.Tests.{nth, within-true, blocks-true, all-at}
 
 regroup : (a b c d e f : Bool) → ands (a ∷ b ∷ c ∷ d ∷ e ∷ f ∷ []) ≡ (a && (b && c)) && ((d && e) && f)
@@ -19,6 +20,11 @@ regroup true true false d e f = refl
 regroup true true true false e f = refl
 regroup true true true true false f = refl
 regroup true true true true true f = and-true f
+
+-- the k-th test of a busy record that fits
+pub busy-test : (r : Record) (v b : ℕ) → recordFit r v b ≡ true → (r .line ≡ 0 → ⊥) → (k : ℕ) → getD (busyTests r v b) k true ≡ true
+unfolding recordFit
+busy-test r v b e busy = nth (busyTests r v b) (rw (ne-eqb _ _ busy) at e)
 
 module _ (s : State) (p : List ℕ) where
   abbrev pub sizesOk : Bool

@@ -4,3 +4,4 @@ pub mod Refusals
 pub mod Fits
 pub mod Numbers
 pub mod LineKinds
+pub mod Accesses

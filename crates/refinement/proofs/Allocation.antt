@@ -4,11 +4,12 @@ use mathlib.Core.Bool.{false}
 use mathlib.Core.List.{List}
 use Prim.Native.Nat.{ℕ, _<_}
 use native.Mathlib.Omega.{arith}
+use lib.Seq.{set-getD}
 use Rattle.questions.specs.declared.State.{State}
 use Rattle.lines.specs.declared.Field.{Field}
 use Rattle.cells.specs.Pool.{fill, fresh}
 use Rattle.blocks.specs.Blocks.{used}
-use Rattle.cells.specs.Step.{withLast}
+use Rattle.cells.specs.Step.{current, withBlocks}
 use Rattle.cells.proofs.Words.{fields, fill-here, fill-else, length-fill}
 use Rattle.history.specs.Basics.{upd}
 use Rattle.history.proofs.Basics.{upd-same, upd-at, upd-off, upd-cases}
@@ -65,10 +66,11 @@ module _ {n v : ℕ} {R : Links} {s : State} {p : List ℕ} {w : World} (a : Agr
   old⁺ k i b (old r d) h = r
   old⁺ k i b (new ek ei eb) h = absurd (h eb)
 
-  pub allocates : Agree n v R⁺ (withLast s u) (fill p u x) (withCell w j cell)
+  pub allocates : Agree n v R⁺ (withBlocks s j (current s j) u) (fill p u x) (withCell w j cell)
   allocates =
       let here = new refl refl refl in
-      record {
+      rw (set-getD (s .current) j 0)
+      (record {
         sizes = rw (length-fill p u x) (a .sizes);
         last = fewer;
         places = a .places;
@@ -86,4 +88,4 @@ module _ {n v : ℕ} {R : Links} {s : State} {p : List ℕ} {w : World} (a : Agr
         };
         current = λ k h. rw (keeps (λ c. c .current) (w .cell) j cell refl k) (old (a .current k h) (not-current a u e k h));
         records = other-blocks a u e R⁺ (λ k i b r d. old r d);
-      }
+      })

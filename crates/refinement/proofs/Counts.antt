@@ -1,15 +1,18 @@
 -- Each count is the lines done: what a call on the pool reports is counted from its lines, which are those of a path that the figure reaches.
-use mathlib.Core.Path.{_≡_, subst}
-use mathlib.Core.Option.{none}
-use mathlib.Core.List.{List, map}
+use mathlib.Core.Path.{_≡_, refl, subst}
+use mathlib.Core.Logic.{inl, inr}
+use mathlib.Core.Option.{none, some}
+use mathlib.Core.List.{List, [], _∷_, map}
 use Prim.Native.Nat.{ℕ}
 use lib.ListN.{length}
+use Rattle.lines.specs.Lines.{Line, loads, stores, hardware}
+use Rattle.lines.specs.Paths.{rowOf}
 use Rattle.questions.specs.declared.State.{State}
 use Rattle.questions.specs.Questions.{refusal, openQuestions}
 use Rattle.history.specs.Basics.{_∈_}
 use Rattle.history.specs.History.{Action, history, callsOf}
 use Rattle.figure.specs.Figure.{opening}
-use Rattle.figure.specs.Paths.{Traced, Trace, noTrace, Counted, finishedReport, tracedReport}
+use Rattle.figure.specs.Paths.{reached, count, steps, Traced, Trace, noTrace, Counted, finishedReport, tracedReport}
 use Rattle.figure.proofs.Records.{figureTraces}
 use Rattle.figure.proofs.Paths.{calls-on-paths, row}
 use Rattle.figure.proofs.Ninth.{never-ninth, one-of-twelve}
@@ -19,6 +22,23 @@ use Rattle.refinement.specs.Terms.{start}
 use Rattle.refinement.specs.Traces.{nextLine, trace}
 use Rattle.refinement.proofs.Traces.{same-trace}
 use Rattle.refinement.proofs.Demand3.{starting-values, cells-meet-demand-3}
+
+-- by the steps and hardware CAS attempts of these lines the table's row of them is found
+abbrev Finds : List Line → Type 0
+Finds p = rowOf (steps p) (count hardware p) ≡ some (count loads p, count stores p)
+
+abbrev AllFind : List (List Line) → Type 0
+AllFind [] = Unit {0}
+AllFind (p ∷ ps) = Finds p × AllFind ps
+
+reached-find : AllFind reached
+unfolding rowOf
+reached-find = (refl, (refl, (refl, (refl, (refl, (refl, (refl, (refl, (refl, (refl, (refl, (refl, tt))))))))))))
+
+finds : (ps : List (List Line)) → AllFind ps → (p : List Line) → p ∈ ps → Finds p
+finds [] h p i = absurd i
+finds (q ∷ ps) h p (inl e) = rw e (h .0)
+finds (q ∷ ps) h p (inr i) = finds ps (h .1) p i
 
 module _ (s : State) (p : List ℕ) (n v b : ℕ) (vs : List ℕ) (ok : refusal (openQuestions (length p) n v b vs) ≡ none) (l : List Action) where
   of-figure : (x : Traced) → x ∈ figureTraces (opening n v vs) noTrace l .done → Counted x
@@ -39,3 +59,8 @@ module _ (s : State) (p : List ℕ) (n v b : ℕ) (vs : List ℕ) (ok : refusal 
   -- of its lines; and its steps, loads, stores and hardware CAS attempts are a row of document 01's table.
   pub calls-counted : (x : Traced) → x ∈ trace (start s p n v b vs) l .done → Counted x
   calls-counted x i = of-figure x (subst (λ (r : Trace). x ∈ r .done) (same-trace s p n v b vs ok l) i)
+
+  -- Every finished call finds its row: by the steps and hardware CAS attempts that it reports, the table has the loads and stores of the
+  -- lines that it did.
+  pub calls-find-rows : (x : Traced) → x ∈ trace (start s p n v b vs) l .done → rowOf (x .report .steps) (x .report .hard) ≡ some (count loads (x .lines), count stores (x .lines))
+  calls-find-rows x i = let c = calls-counted x i in rw (c .all-steps, c .all-hard) (finds reached reached-find (x .lines) (c .path))

@@ -7,12 +7,13 @@ use Prim.Native.Nat.{ℕ, _+_, _*_, _<_}
 use native.Mathlib.Omega.{arith}
 use lib.Dec.{eqb}
 use lib.ListN.{length, length-set}
+use lib.Seq.{set-getD}
 use borrow.Author.Tests.{eqb-true, eqb-false, eq-eqb, ne-eqb}
 use Rattle.questions.specs.declared.State.{State}
 use Rattle.lines.specs.declared.Field.{Field}
 use Rattle.lines.specs.declared.Field.the-variants.{X, Y, C, D}
 use Rattle.cells.specs.Pool.{offset, word, setWord}
-use Rattle.cells.specs.Step.{current, withCurrent}
+use Rattle.cells.specs.Step.{current, withBlocks}
 use Rattle.questions.proofs.Tests.{blocks-true}
 use Rattle.cells.proofs.Words.{fields, set-here, set-else}
 use Rattle.history.specs.Basics.{upd}
@@ -67,18 +68,22 @@ module _ {n v : ℕ} {R : Links} {s : State} {p : List ℕ} {w : World} (a : Agr
   pub in-pool : (b : ℕ) → b < s .blocks → 5 * b + 4 < length p
   in-pool b h = omega (arith, blocks-true n v (s .blocks) (length p) (a .sizes .blocks-ok) .1)
 
-  -- nothing changes
-  pub stays : (k : ℕ) → Agree n v R s p (withCell w k (w .cell k))
-  stays k = rw (upd-own (w .cell) k) a
+  -- the state that is put back where nothing changes
+  abbrev still : ℕ → State
+  still k = withBlocks s k (current s k) (s .last)
+
+  pub stays : (k : ℕ) → Agree n v R (still k) p (withCell w k (w .cell k))
+  stays k = rw (set-getD (s .current) k 0, upd-own (w .cell) k) a
 
   -- the stores
-  pub stores : (k i b : ℕ) (f : Field) (x : ℕ) → R k i b → Agree n v R s (setWord p b f x) (withCell w k (store (w .cell k) i f x))
+  pub stores : (k i b : ℕ) (f : Field) (x : ℕ) → R k i b → Agree n v R (still k) (setWord p b f x) (withCell w k (store (w .cell k) i f x))
   stores k i b f x r =
       let old = a .blocks in
       let m = store (w .cell k) i f x in
       let next : m .next ≡ w .cell k .next = fields (λ f. store (w .cell k) i f x .next ≡ w .cell k .next) refl refl refl refl refl f in
       let current : m .current ≡ w .cell k .current = fields (λ f. store (w .cell k) i f x .current ≡ w .cell k .current) refl refl refl refl refl f in
-      record {
+      rw (set-getD (s .current) k 0)
+      (record {
         sizes = rw (length-set p (5 * b + offset f) x) (a .sizes);
         last = a .last;
         places = a .places;
@@ -95,10 +100,10 @@ module _ {n v : ℕ} {R : Links} {s : State} {p : List ℕ} {w : World} (a : Agr
         };
         current = λ j h. rw (keeps (λ c. c .current) (w .cell) k m current j) (a .current j h);
         records = a .records;
-      }
+      })
 
   -- a cell gets another current block
-  pub installs : (k i b : ℕ) → k < v → R k i b → Agree n v R (withCurrent s k b) p (withCell w k (install (w .cell k) i))
+  pub installs : (k i b : ℕ) → k < v → R k i b → Agree n v R (withBlocks s k b (s .last)) p (withCell w k (install (w .cell k) i))
   installs k i b h r =
       let old = a .blocks in
       let m = install (w .cell k) i in

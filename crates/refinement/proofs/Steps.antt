@@ -19,7 +19,9 @@ use Rattle.questions.specs.Questions.{Question, refusal, reads, swaps, fit}
 use Rattle.cells.specs.Open.{After, unless}
 use Rattle.lines.specs.Record.{firstRead, firstSwap}
 use Rattle.cells.specs.Begin.{readBegun, swapBegun, started}
-use Rattle.cells.specs.Step.{Memory, perform, followed, ran, stepped}
+use Rattle.blocks.specs.Blocks.{unused}
+use Rattle.cells.specs.Turn.{Touched, performed, ending}
+use Rattle.cells.specs.Step.{current, withBlocks, putBack, ran, stepped}
 use Rattle.questions.proofs.Tests.{nth, answers, all-yes}
 use Rattle.questions.proofs.Numbers.{number, at-number}
 use Rattle.blocks.proofs.Unused.{one-is-unused}
@@ -48,10 +50,10 @@ abbrev figureGives : (Outcome → Event) → Figure.After → World × Event
 figureGives e r = (r .world, e (r .outcome))
 
 -- what follows a line, in the pool and in the figure
-finishes : {n v : ℕ} {R : Links} (m : Memory) (w : World) (k t x : ℕ) (c : Cell) {X Y : Next} → Agree n v R (m .state) (m .pool) (withCell w k c) → t < n → Nexts R X Y
-    → Same n v (gives (eventOf x) (followed m t X)) (figureGives (eventOf x) (leaving (withBoth w k c t (recordAfter Y)) (outcomeOf Y)))
-finishes {R = R} m w k t x c a l (going {r} {q} e) = record { R = R; agree = records-change a t r q l e; event = refl }
-finishes {R = R} m w k t x c a l ended = record { R = R; agree = records-change a t idle idle l (no-blocks idle tt); event = refl }
+finishes : {n v : ℕ} {R : Links} (s : State) (m : Touched) (w : World) (k t x : ℕ) (c : Cell) {X Y : Next} → Agree n v R (withBlocks s k (m .current) (m .last)) (m .pool) (withCell w k c) → t < n → Nexts R X Y
+    → Same n v (gives (eventOf x) (putBack s t k (ending m X))) (figureGives (eventOf x) (leaving (withBoth w k c t (recordAfter Y)) (outcomeOf Y)))
+finishes {R = R} s m w k t x c a l (going {r} {q} e) = record { R = R; agree = records-change a t r q l e; event = refl }
+finishes {R = R} s m w k t x c a l ended = record { R = R; agree = records-change a t idle idle l (no-blocks idle tt); event = refl }
 
 module _ {n v : ℕ} {R : Links} {s : State} {p : List ℕ} {w : World} (a : Agree n v R s p w) (well : (t : ℕ) → WellRecord v (w .records t)) (t : ℕ) where
   -- THE QUESTIONS
@@ -107,14 +109,14 @@ module _ {n v : ℕ} {R : Links} {s : State} {p : List ℕ} {w : World} (a : Agr
           found = λ g. one-is-unused s p t (fits a well) (rw (a .sizes .same-tasks) l) (ap (λ (r : Record). r .line) e ∙ at ∙ g);
         } in
         let accesses = linked R s q h k t (reads q) (swaps q) (lineOf q) (y .line) has in
-        let m = perform s p (accessOf t (named q h k)) in
+        let m = performed p (current s (q .cell)) (s .last) (unused s) (accessOf t (named q h k)) in
         let m′ = Figure.perform (w .cell (q .cell)) (accessOf t q) in
         let done = performs a (q .cell) (y .cell) accesses in
         let R⁺ = done .R in
-        let task⁺ : Task R⁺ (named q h k) q = subst (λ (r : Record). Task R⁺ r q) (ap (λ (l : List Record). recordAt l t) (done .records) ∙ e) (done .agree .records t l) in
+        let task⁺ : Task R⁺ (named q h k) q = subst (λ (r : Record). Task R⁺ r q) e (done .agree .records t l) in
         let held : T (holdsAt (number (lineOf q))) → R⁺ (q .cell) (q .held) h = subst (λ (n : ℕ). T (holdsAt n) → R⁺ (q .cell) (q .held) h) at (task⁺ .held) in
         rw (same-hardware accesses)
-        (finishes m w (q .cell) t (hardware (accessOf t q)) (m′ .cell) (done .agree) l (nexts R⁺ (counted q (accessOf t q)) h k q t (m .value) (m′ .value) (reads q) (swaps q) (lineOf q) (y .line) held (done .answer)))
+        (finishes s m w (q .cell) t (hardware (accessOf t q)) (m′ .cell) (done .agree) l (nexts R⁺ (counted q (accessOf t q)) h k q t (m .value) (m′ .value) (reads q) (swaps q) (lineOf q) (y .line) held (done .answer)))
 
   busy : WellRecord v q → not (isIdle q) ≡ true → Busy v q
   busy (inl e) g = absurd (false≢true (rw e at g))

@@ -1,5 +1,5 @@
 -- The numbers of a finished call are small: its task's, and its record's cell and counts.
-use mathlib.Core.Path.{_≡_, refl, sym, subst}
+use mathlib.Core.Path.{_≡_, refl}
 use mathlib.Core.Bool.{true, _||_, not}
 use mathlib.Core.Option.{Option, none, some}
 use mathlib.Core.List.{List, _∷_}
@@ -17,7 +17,6 @@ use Rattle.cells.specs.Open.{After, unless}
 use Rattle.cells.specs.Begin.{started, readBegun, swapBegun}
 use Rattle.cells.specs.Step.{current, ran, stepped}
 use Rattle.cells.specs.Turn.{Touched, performed, ending, turn}
-use Rattle.cells.proofs.TurnLaw.{ran-turn}
 use Rattle.cells.proofs.Stepping.{Acting, own-acting}
 use Rattle.figure.proofs.LineLaws.{imp, every-line, same, Leads, goes, done as ends, leads}
 use Rattle.history.specs.History.{read, swap, Action, begin, step, taskOf}
@@ -44,19 +43,18 @@ module _ (t : ℕ) where
   ended m l r x (ends f) h i j k = (h, i, j, k)
 
   turns : (p : List ℕ) (r : Record) (c l : ℕ) (f : Option ℕ) → lineFit r ≡ true → t < 100 → r .cell < 100 → r .steps ≤ 16 → r .hard ≤ 3 → Small t (eventOf 0 (turn p t r c l f .outcome))
-  unfolding turn
   turns p r c l f e h i j k =
       let m = performed p c l f (accessOf t r) in
       let q = counted r (accessOf t r) in
       ended m (lineOf r) q (nextOf t r (m .value)) (leads (lineOf r) t q (m .value) refl (a-line r e)) h i (omega arith) (omega (arith, at-most-one t r))
 
   steps : (s : State) (p : List ℕ) → Small t (eventOf 0 (stepped s p t .outcome))
-  unfolding stepped
+  unfolding stepped ran
   steps s p =
       let r = recordAt (s .records) t in
       asked (refusal ((6, fit s p) ∷ stepQuestions (s .tasks) r t)) s p (ran s p t r) (λ g.
       let a : Acting s p t r = own-acting s p t g in
-      subst (λ (x : After). Small t (eventOf 0 (x .outcome))) (sym (ran-turn s p t r)) (turns p r (current s (r .cell)) (s .last) (unused s) (a .line) (omega (arith, a .task)) (omega (arith, a .cell)) (a .ready .steps) (a .ready .hard)))
+      turns p r (current s (r .cell)) (s .last) (unused s) (a .line) (omega (arith, a .task)) (omega (arith, a .cell)) (a .ready .steps) (a .ready .hard))
 
 pub small : (s : State) (p : List ℕ) (a : Action) → Small (taskOf a) (eventOf 0 (does s p a .outcome))
 unfolding readBegun swapBegun

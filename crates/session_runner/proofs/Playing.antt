@@ -28,7 +28,7 @@ use Rattle.session_reader.specs.Reading.{judged}
 use Rattle.session_reader.proofs.Verdicts.{right-sizes}
 use Rattle.session_text.specs.Lines.{noLine, eventLine}
 use Rattle.session_runner.specs.Loop.{playedOn}
-use Rattle.session_text.specs.Printed.{Totals, totals, eventLines, counted, countedAll, closed, played, started, blank, poolWords, shown, printed, printedWithin}
+use Rattle.session_text.specs.Printed.{Totals, eventLines, counted, countedAll, closed, played, started, blank, poolWords, shown, printed, printedWithin}
 
 -- THE LOOP
 

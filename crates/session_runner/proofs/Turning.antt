@@ -2,7 +2,7 @@
 use mathlib.Core.Path.{_≡_, refl, sym, ap, subst, _∙_}
 use native.Mathlib.Omega.{arith}
 use mathlib.Core.Bool.{Bool, true, false}
-use mathlib.Core.Option.{Option, none, some, Option·getD}
+use mathlib.Core.Option.{Option, none, some}
 use mathlib.Core.List.{List}
 use Prim.Native.Nat.{ℕ, _≤_, _<_}
 use lib.Dec.{ltb}
@@ -12,8 +12,7 @@ use borrow.Author.Tests.{lt-ltb, ltb-true}
 use Rattle.lines.specs.declared.Record.{Record}
 use Rattle.lines.specs.Record.{idle, recordAt, firstRead, firstSwap}
 use Rattle.questions.specs.declared.State.{State}
-use Rattle.questions.specs.Questions.{Question, refusal, fit, openQuestions, swapQuestions, stepQuestions}
-use Rattle.questions.proofs.Refusals.{numbered, unrefused, refused}
+use Rattle.questions.specs.Questions.{refusal, fit, openQuestions, swapQuestions, stepQuestions}
 use Rattle.questions.proofs.Tests.{answers, all-yes, nth, within-true}
 use Rattle.questions.proofs.Fits.{sizes}
 use Rattle.cells.specs.declared.Outcome.{Outcome}
@@ -21,25 +20,15 @@ use Rattle.cells.specs.declared.Outcome.the-variants.{Refused, Acted}
 use Rattle.blocks.specs.Blocks.{unused, found}
 use Rattle.cells.specs.Open.{After, leaving, unless}
 use Rattle.cells.specs.Begin.{started, begun, readBegun, swapBegun}
-use Rattle.cells.specs.Step.{current, ran, stepped}
+use Rattle.cells.specs.Step.{current, putBack, ran, stepped}
 use Rattle.cells.specs.Turn.{Turned, turned, turn, There, Ready}
 use Rattle.blocks.proofs.Search.{finds, can-search}
-use Rattle.cells.proofs.TurnLaw.{putBack}
 use Rattle.cells.proofs.Stepping.{Free, Acting, own-acting}
 use Rattle.history.specs.History.{read, swap, Action, begin, step, taskOf}
 use Rattle.refinement.specs.Reached.{Reached}
 use Rattle.refinement.proofs.Reaching.{reached-next, reached-fit}
 use Rattle.cells.specs.Machine.{does}
 use Rattle.session_runner.specs.Turns.{slot, refusing, beginTurn, stepTurn, actTurn, Prepared}
-
--- FROM THE CODE'S NUMBER
-
-module _ (l : List Question) (n : ℕ) (e : n ≡ Option·getD (refusal l) 0) (p : List ℕ) (r : Record) (c k : ℕ) (u : Turned) where
-  pub turn-refused : (n ≡ 0 → ⊥) → turned r c k p (Refused n) ≡ refusing (refusal l) p r c k u
-  turn-refused h = rw (refused (refusal l) (λ z. h (e ∙ z)), ← e)
-
-  pub turn-allowed : n ≡ 0 → numbered l ≡ true → u ≡ refusing (refusal l) p r c k u
-  turn-allowed z h = rw (unrefused l h (sym e ∙ z))
 
 -- WITH THE THREE PLACES PUT BACK
 

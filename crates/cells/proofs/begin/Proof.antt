@@ -11,8 +11,9 @@ use Rattle.lines.specs.declared.Record.{Record}
 use Rattle.questions.specs.declared.State.{State}
 use Rattle.lines.specs.Record.{noValue, isIdle, recordAt}
 use Rattle.questions.specs.Questions.{Question, refusal, fit}
-use Rattle.cells.specs.Begin.{begun, started}
-use Rattle.cells.proofs.Replies.{is-refused, is-allowed, asked-of, task-below, asked-below}
+use Rattle.cells.specs.Begin.{begun}
+use Rattle.questions.proofs.Refusals.{is-refused, is-allowed}
+use Rattle.cells.proofs.Replies.{asked-of, task-below, asked-below}
 use borrow.Author.Needs.{needs}
 use Rattle.cells.proofs.begin.Statement.{statement}
 use Rattle.cells.proofs.begin.Tie as tie
@@ -40,7 +41,7 @@ returns : tie.Need-returns
 unfolding begun
 returns c =
     let e = c .before .before .before .before .before .args in
-    is-refused (asked (e .t1) (now (e .pool)) (e .task) (e .q)) _ (number (c .before)) (c .if2 .taken) (e .t1) (now (e .pool)) (started (e .t1) (now (e .pool)) (e .task) (e .q))
+    rw (is-refused (asked (e .t1) (now (e .pool)) (e .task) (e .q)) _ (number (c .before)) (c .if2 .taken))
 
 element-set-from-q : tie.Need-element-set-from-q
 element-set-from-q c =

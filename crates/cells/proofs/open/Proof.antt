@@ -5,9 +5,9 @@ use native.Mathlib.Omega.{arith}
 use lib.ListN.{length}
 use denote.Ref.{now}
 use Rattle.questions.specs.Questions.{refusal, openQuestions}
-use Rattle.cells.specs.Open.{opened, openState, openPool, leaving}
-use Rattle.cells.specs.declared.Outcome.the-variants.{Acted}
-use Rattle.cells.proofs.Replies.{is-refused, is-allowed, opens}
+use Rattle.cells.specs.Open.{opened}
+use Rattle.questions.proofs.Refusals.{is-refused, is-allowed}
+use Rattle.cells.proofs.Replies.{opens}
 use borrow.Author.Needs.{needs}
 use Rattle.cells.proofs.open.Statement.{statement}
 use Rattle.cells.proofs.open.Tie as tie
@@ -22,8 +22,7 @@ returns : tie.Need-returns
 unfolding opened
 returns c =
     let e = c .before .before .before .before .args in
-    is-refused (openQuestions (length (now (e .pool))) (e .tasks) (e .cells) (e .blocks) (now (e .values))) _ (c .before .open-refusal .ensures) (c .if1 .taken) (e .s) (now (e .pool))
-    (leaving (openState (e .tasks) (e .cells) (e .blocks)) (openPool (now (e .pool)) (now (e .values))) Acted)
+    rw (is-refused (openQuestions (length (now (e .pool))) (e .tasks) (e .cells) (e .blocks) (now (e .values))) _ (c .before .open-refusal .ensures) (c .if1 .taken))
 
 fill-blocks-requires : tie.Need-fill-blocks-requires
 fill-blocks-requires c κs =

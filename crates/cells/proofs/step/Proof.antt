@@ -12,11 +12,11 @@ use Rattle.lines.specs.declared.Record.{Record}
 use Rattle.lines.specs.Record.{isIdle, recordAt}
 use Rattle.questions.specs.Questions.{Question, refusal, fit}
 use Rattle.blocks.specs.Blocks.{foundOf}
-use Rattle.cells.specs.Step.{ran, stepped}
-use Rattle.cells.proofs.Replies.{is-refused, is-allowed, asked-of, task-below}
+use Rattle.cells.specs.Step.{putBack, stepped}
+use Rattle.questions.proofs.Refusals.{is-refused, is-allowed}
+use Rattle.cells.proofs.Replies.{asked-of, task-below}
 use Rattle.blocks.proofs.Search.{finds, can-search}
 use Rattle.cells.proofs.Stepping.{Free, Acting, asked, acting}
-use Rattle.cells.proofs.TurnLaw.{putBack}
 use borrow.Author.Needs.{needs}
 use Rattle.cells.proofs.step.Statement.{statement}
 use Rattle.cells.proofs.step.Tie as tie
@@ -56,7 +56,7 @@ returns : tie.Need-returns
 unfolding stepped
 returns c =
     let e = c .before .before .before .before .before .before .args in
-    is-refused (asked (e .t1) (now (e .pool)) (e .task)) _ (number (c .before)) (c .if2 .taken) (e .t1) (now (e .pool)) (ran (e .t1) (now (e .pool)) (e .task) (recordAt (e .t1 .records) (e .task)))
+    rw (is-refused (asked (e .t1) (now (e .pool)) (e .task)) _ (number (c .before)) (c .if2 .taken))
 
 element-copy-out-take-turn : tie.Need-element-copy-out-take-turn
 element-copy-out-take-turn c = acts (c .before .before .before .before) .cell

@@ -1,7 +1,6 @@
-use mathlib.Core.Path.{refl, sym, _∙_}
-use Rattle.questions.proofs.Refusals.{unrefused}
+use mathlib.Core.Path.{refl, _∙_}
+use Rattle.questions.proofs.Refusals.{is-refused, is-allowed}
 use Rattle.questions.specs.Questions.{stepQuestions}
-use Rattle.session_runner.proofs.Turning.{turn-refused, turn-allowed}
 use borrow.Author.Needs.{needs}
 use Rattle.session_runner.proofs.turns.step.Statement.{statement}
 use Rattle.session_runner.proofs.turns.step.Tie as tie
@@ -9,17 +8,17 @@ use Rattle.session_runner.proofs.turns.step.Tie as tie
 returns : tie.Need-returns
 returns c =
     let a = c .before .before .before .before .args in
-    rw (c .refused .ensures) (turn-refused (stepQuestions a.tasks a.r a.task) _ (c .before .before .step-refusal .ensures) a.pool.now a.r a.current a.last _ (c .before .if1 .taken))
+    rw (c .refused .ensures, is-refused (stepQuestions a.tasks a.r a.task) _ (c .before .before .step-refusal .ensures) (c .before .if1 .taken))
 
 take-turn-requires : tie.Need-take-turn-requires
 take-turn-requires c κs =
     let a = c .before .before .before .before .args in
-    c .before .before .before .before .pre (unrefused (stepQuestions a.tasks a.r a.task) refl (sym (c .before .before .step-refusal .ensures) ∙ c .before .if1 .left))
+    c .before .before .before .before .pre (is-allowed (stepQuestions a.tasks a.r a.task) _ (c .before .before .step-refusal .ensures) (c .before .if1 .left) refl)
 
 returns-2 : tie.Need-returns-2
 returns-2 c =
     let a = c .before .before .before .before .before .before .before .args in
-    c .before .before .take-turn .ensures ∙ turn-allowed (stepQuestions a.tasks a.r a.task) _ (c .before .before .before .before .before .step-refusal .ensures) a.pool.now a.r a.current a.last _ (c .before .before .before .before .if1 .left) refl
+    c .before .before .take-turn .ensures ∙ rw (is-allowed (stepQuestions a.tasks a.r a.task) _ (c .before .before .before .before .before .step-refusal .ensures) (c .before .before .before .before .if1 .left) refl)
 
 pub step-spec : {M : Type 1} → statement M
 step-spec =
