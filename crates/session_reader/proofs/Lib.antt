@@ -3,6 +3,7 @@ mod Arms
 mod Turns
 mod Listed
 mod Told
+mod Growing
 mod Standing
 mod Repeated
 mod Walks

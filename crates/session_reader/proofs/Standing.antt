@@ -13,6 +13,8 @@ use Rattle.session_file.specs.Session.{times}
 use Rattle.history.specs.History.{Action}
 use Rattle.session_reader.specs.Reading.{acted, actAt}
 use Rattle.session_reader.specs.Answers.{Told, untold, told, Far, Kept, kept, Stands}
+use Rattle.session_reader.specs.Kept.{same, new}
+use Rattle.session_reader.proofs.Growing.{grows-append, grows-times}
 use Rattle.session_reader.proofs.Told.{told-append, told-times, told-actions, told-grown}
 use Rattle.session_reader.proofs.Repeated.{times-none, length-times}
 
@@ -26,6 +28,7 @@ stands-nothing F A f n g h = record {
   fits = g;
   room = h;
   far = (omega arith, untold);
+  grows = λ _. same;
   still = λ _. (refl, refl);
   rest = λ _. (refl, refl);
 }
@@ -61,6 +64,7 @@ stands-join {F} {G} {H} {A} {B} {C} {f} {n} {b} {d} {i} {j} {k} {l} e q x y = re
   fits = omega (arith, y .fits);
   room = omega (arith, y .room);
   far = far-join (length A) n (b .actions) (d .actions) i j _ _ (y .table) (x .words) (y .words) k l (y .forms .words) (b .over) (d .over) (x .far) (rw q at (y .far));
+  grows = λ o. grows-append (x .grows (or-first (b .over) (d .over) o)) (y .grows (or-second (b .over) (d .over) o));
   still = λ h.
       let s = x .still h in
       let t = y .still (omega (arith, q, x .acts .next)) in
@@ -91,6 +95,7 @@ module _ {F G A B : List ℕ} {f n : ℕ} {b : Kept} {k : ℕ} {l : List Action}
           fits = x .fits;
           room = x .room;
           far = far-over (b .over) e (omega arith);
+          grows = λ o. absurd (false≢true (sym o ∙ e));
           still = x .still;
           rest = x .rest;
         }
@@ -105,7 +110,7 @@ module _ {F G A B : List ℕ} {f n : ℕ} {b : Kept} {k : ℕ} {l : List Action}
 
       pub again-many : length A < n + c * (b .actions - n) → Stands F G A B f n (kept true f n) (c * k) (times c l)
       again-many h =
-          let same : b .actions - n ≡ k = omega (arith, just .0) in
+          let just-k : b .actions - n ≡ k = omega (arith, just .0) in
           let g : 5 * f ≤ length F = omega (arith, x .forms .next, x .fits) in
           record {
             table = [];
@@ -114,7 +119,8 @@ module _ {F G A B : List ℕ} {f n : ℕ} {b : Kept} {k : ℕ} {l : List Action}
             acts = front low (x .acts);
             fits = g;
             room = low;
-            far = rw same at h;
+            far = rw just-k at h;
+            grows = λ o. absurd (false≢true (sym o));
             still = x .still;
             rest = λ o. absurd (false≢true (sym o));
           }
@@ -123,7 +129,7 @@ module _ {F G A B : List ℕ} {f n : ℕ} {b : Kept} {k : ℕ} {l : List Action}
       again-fits {C} {to} z y h =
           let copies : Appended B C n to (times c (x .words)) = rw (behind low (x .acts)) at y in
           let long : length (x .words) ≡ k = omega (arith, x .acts .next, just .0) in
-          let same : b .actions - n ≡ k = omega (arith, just .0) in
+          let just-k : b .actions - n ≡ k = omega (arith, just .0) in
           let end : to ≡ n + c * k = rw long at (copies .stored .next ∙ ap (λ (i : ℕ). n + i) (length-times c (x .words))) in
           record {
             table = x .table;
@@ -131,8 +137,9 @@ module _ {F G A B : List ℕ} {f n : ℕ} {b : Kept} {k : ℕ} {l : List Action}
             forms = x .forms;
             acts = stored-then (front low (x .acts)) (copies .stored);
             fits = x .fits;
-            room = rw (end, ← same) h;
+            room = rw (end, ← just-k) h;
             far = (end, told-times c (just .1));
+            grows = λ o. grows-times c z (x .grows e);
             still = λ w.
                 let s = x .still w in
                 let none : k ≡ 0 = omega (arith, just .0, x .room) in
@@ -163,7 +170,7 @@ next-one {b = b} i x y e h = then (rw e at y) (one b i x h)
 -- one form kept, and an action of it
 module _ (F A : List ℕ) (f n kind : ℕ) (numbers : List ℕ) (g : 5 * f + 5 ≤ length F) (h : n ≤ length A) where
   pub keep-over : length A ≤ n → (l : List Action) → Stands F F A A f n (kept true f n) 1 l
-  keep-over k l = record { table = []; words = []; forms = nothing F (5 * f) .stored; acts = nothing A n .stored; fits = omega arith; room = h; far = omega arith; still = λ _. (refl, refl); rest = λ _. (refl, refl) }
+  keep-over k l = record { table = []; words = []; forms = nothing F (5 * f) .stored; acts = nothing A n .stored; fits = omega arith; room = h; far = omega arith; grows = λ _. same; still = λ _. (refl, refl); rest = λ _. (refl, refl) }
 
   abbrev filled : List ℕ
   filled =
@@ -199,6 +206,7 @@ module _ (F A : List ℕ) (f n kind : ℕ) (numbers : List ℕ) (g : 5 * f + 5 �
         fits = omega arith;
         room = omega arith;
         far = (refl, rw (five-kept .stored .words) (told {i = f} (omega (arith, p, length-append (take (5 * f) F) five)) (made (take (5 * f) F) p) untold));
+        grows = λ _. new same;
         still = λ w. absurd (omega arith);
         rest = λ _. (five-kept .rest, one A n f k .rest);
       }

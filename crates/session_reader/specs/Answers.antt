@@ -13,6 +13,7 @@ use Rattle.text.specs.declared.Place.the-variants as place
 use Rattle.session_file.specs.Session.{Kind, reading, swapping, stepping, repeating, numbers, values, opening, keyword, arity, head}
 use Rattle.history.specs.History.{Action}
 use Rattle.session_reader.specs.Reading.{actAt}
+use Rattle.session_reader.specs.Kept.{Grows}
 use Rattle.session_reader.specs.declared.opening.Listed.{Listed}
 use Rattle.session_reader.specs.declared.opening.Listed.the-variants as listed
 use Rattle.session_reader.specs.declared.opening.Opened.{Opened}
@@ -82,7 +83,8 @@ pub record Kept : Type 0 where
 abbrev pub kept : Bool → (forms actions : ℕ) → Kept
 kept o f n = record { over = o; forms = f; actions = n }
 
--- k actions, l, read with f forms and n actions kept before them, and what is kept then of the buffers F and A
+-- k actions, l, read with f forms and n actions kept before them, and what is kept then of the buffers F and A; nothing else
+-- is changed where all fits, and nothing at all where there is no room
 pub record Stands (F F′ A A′ : List ℕ) (f n : ℕ) (b : Kept) (k : ℕ) (l : List Action) : Type 0 where
   pub table : List ℕ
   pub words : List ℕ
@@ -91,7 +93,7 @@ pub record Stands (F F′ A A′ : List ℕ) (f n : ℕ) (b : Kept) (k : ℕ) (l
   pub fits : 5 * b .forms ≤ length F
   pub room : b .actions ≤ length A
   pub far : Far (b .over) (length A) n (b .actions) k (take (5 * b .forms) F′) words l
-  -- nothing stored where there is no room, nor behind what is kept where all fits
+  pub grows : b .over ≡ false → Grows f words (b .forms)
   pub still : length A ≤ n → (F′ ≡ F) × (A′ ≡ A)
   pub rest : b .over ≡ false → (drop (5 * b .forms) F′ ≡ drop (5 * b .forms) F) × (drop (b .actions) A′ ≡ drop (b .actions) A)
 

@@ -1,6 +1,6 @@
 -- A session's values and actions lie within the buffers, and each action numbers a form that was kept; what else the buffers hold.
 use mathlib.Core.Path.{_≡_}
-use mathlib.Core.List.{List}
+use mathlib.Core.List.{List, [], _∷_}
 use Prim.Native.Nat.{ℕ, _+_, _*_, _≤_, _<_}
 use lib.ListN.{length, take, drop, getD}
 use Rattle.session_reader.specs.declared.Reading.{Reading}
@@ -32,13 +32,19 @@ abbrev pub Within : Reading → (values forms actions : List ℕ) → Type 0
 Within (reading.Bad n) v f a = Unit {0}
 Within (reading.Session t c b i n) v f a = Held v f a i n
 
+-- words that number forms, each new one the next: f forms before them, and g after them
+pub data Grows : ℕ → List ℕ → ℕ → Type 0 where
+  same : {f : ℕ} → Grows f [] f
+  old : {f w g : ℕ} {l : List ℕ} → w < f → Grows f l g → Grows f (w ∷ l) g
+  new : {f g : ℕ} {l : List ℕ} → Grows (f + 1) l g → Grows f (f ∷ l) g
+
 -- behind the values, the actions and the forms that these name the buffers are as they were
 pub record Behind (values values′ forms forms′ actions actions′ : List ℕ) (i n : ℕ) : Type 0 where
-  pub those : drop i values′ ≡ drop i values
+  pub no-value : drop i values′ ≡ drop i values
   pub kept : ℕ
-  pub named : Named (5 * kept) (take n actions′)
-  pub unkept : drop (5 * kept) forms′ ≡ drop (5 * kept) forms
-  pub undone : drop n actions′ ≡ drop n actions
+  pub grows : Grows 0 (take n actions′) kept
+  pub no-form : drop (5 * kept) forms′ ≡ drop (5 * kept) forms
+  pub no-action : drop n actions′ ≡ drop n actions
 
 -- the buffers before and after; a question before 14 that is answered no changes nothing
 abbrev pub Left : Reading → (values values′ forms forms′ actions actions′ : List ℕ) → Type 0

@@ -62,9 +62,9 @@ fn read(file: &[u8], values: &mut [u32], kept: &mut [u32], actions: &mut [u32]) 
     }
 }
 
-// The session's values, its forms of five words (kind 1 read, 2 swap, 3 step; then its numbers) and its actions, each
-// the number of its form, are left in the buffers. Open is only what nobody reads: how forms are numbered, the words that a
-// form's kind does not have, and all three buffers after 14 or 15.
+// The session's values, its forms of five words (kind 1 read, 2 swap, another step; then its numbers) and its actions, each
+// the number of its form, are left in the buffers. Open is only what nobody reads: a step's kind, the words that a form's
+// kind does not have, whether equal forms share a number, and all three buffers after 14 or 15.
 pub fn read_session(
     file: &[u8],
     values: &mut [u32],

@@ -3,7 +3,7 @@ use native.Mathlib.Omega.{arith}
 use Rattle.session_reader.proofs.Verdicts.{opened-at, opened-no, is-12, is-13, unopened, unformed, is-15, is-session}
 use Rattle.session_reader.proofs.Walks.{got-at, got-no}
 use Rattle.session_reader.proofs.Standing.{whole, spilled}
-use Rattle.session_reader.proofs.Keeping.{stands-named}
+use Rattle.session_reader.proofs.Keeping.{stands-named, stands-grows}
 use Rattle.session_shape.specs.Shape as shape
 use Rattle.session_file.specs.Session as specs
 use Rattle.session_reader.specs.Answers.{OpenedIs, GotIs}
@@ -74,7 +74,7 @@ returns-6 c =
     let z = whole (y .2) refl o in
     let few : specs.counts (y .0) ≤ 65535 = omega (arith, z .0, y .2 .room) in
     let kept = rw (c .before .before .before .before .before .before .before .before .before .before .before .before .first .given .1) at (c .before .before .before .before .before .before .before .before .before .before .before .before .before .before .before .before .opening .ensures .1) in
-    (rw (z .1) (sym (is-session (file e) (short e) (shaped e) (first-read (c .before .before .before .before .before .before .before .before .before .before .before .before)) (y .1) few)), (record { some = kept .0; many = omega (arith, y .2 .room); named = stands-named (y .2) o _ (omega (arith, cut)) }, record { those = kept .1; kept = g; named = stands-named (y .2) o _ (omega (arith, cut)); unkept = y .2 .rest o .0; undone = y .2 .rest o .1 }))
+    (rw (z .1) (sym (is-session (file e) (short e) (shaped e) (first-read (c .before .before .before .before .before .before .before .before .before .before .before .before)) (y .1) few)), (record { some = kept .0; many = omega (arith, y .2 .room); named = stands-named (y .2) o _ (omega (arith, cut)) }, record { no-value = kept .1; kept = g; grows = stands-grows (y .2) o; no-form = y .2 .rest o .0; no-action = y .2 .rest o .1 }))
 
 pub read-spec : {M : Type 1} → statement M
 read-spec =
