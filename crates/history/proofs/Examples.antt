@@ -12,7 +12,7 @@ use borrow.Author.Tests.{eq-eqb, ne-eqb}
 use Rattle.history.specs.Basics.{upd, _∈_, Once}
 use Rattle.history.specs.History.{Op, Kind, aRead, aSwap, kindOf, Report, read, swap, Action, begin, step, Event, accepted, answered, Answer, Value, Yes, No, Begin, Call, Finished, Calls, callsOf}
 use Rattle.history.specs.History.{CallOf, finished, pending}
-use Rattle.history.specs.Linearization.{apply, Point, replies, Placed, Linearizes}
+use Rattle.history.specs.Linearization.{reply, apply, Point, replies, Placed, Linearizes}
 use Rattle.history.specs.Demand3.{most, mostHard, Reports, Alone, Demand3}
 use Rattle.history.proofs.Basics.{either}
 use Rattle.history.proofs.Tracks.{clash, some-inj}
@@ -267,6 +267,16 @@ its-own-cell = refl
 
 pub no-other-cell : apply five (swap 1 5 7) 0 ≡ 5
 no-other-cell = refl
+
+-- RIGHT: a swap of equal values is fed as a swap: it answers yes or no, and changes nothing
+pub equal-swap-says-yes : reply 5 (swap 0 5 5) ≡ Yes
+equal-swap-says-yes = refl
+
+pub equal-swap-says-no : reply 6 (swap 0 5 5) ≡ No
+equal-swap-says-no = refl
+
+pub equal-swap-changes-nothing : apply five (swap 0 5 5) 0 ≡ 5
+equal-swap-changes-nothing = refl
 
 -- WRONG ANSWERS: no linearization has them
 
