@@ -1,12 +1,12 @@
 -- The step over a lent record, from the step of the state that holds it.
 use mathlib.Core.Path.{_≡_, refl, sym, ap, _∙_}
 use mathlib.Core.Logic.{_⊎_, inl, inr}
-use mathlib.Core.Bool.{true, false, not, false≢true}
+use mathlib.Core.Bool.{true, false, not, cond, false≢true}
 use mathlib.Core.List.{List, [], _∷_}
 use Prim.Native.Nat.{ℕ, _≤_, _<_}
 use native.Mathlib.Omega.{arith}
 use lib.ListN.{length, length-map}
-use lib.Seq.{set-out}
+use lib.Seq.{set-out, set-getD}
 use mir.Val.{Val}
 use denote.Laws.{Is}
 use denote.Struct.Laws as LL
@@ -14,12 +14,12 @@ use Rattle.lines.specs.declared.Record.{Record}
 use Rattle.questions.specs.declared.State.{State}
 use Rattle.cells.specs.declared.Outcome.{Outcome}
 use Rattle.cells.specs.declared.Outcome.the-variants.{Refused, Acted, Ended}
-use Rattle.lines.specs.Record.{isIdle, recordAt}
+use Rattle.lines.specs.Record.{idle, isIdle, recordAt}
 use Rattle.cells.specs.Open.{After, leaving}
 use Rattle.cells.specs.Begin.{withRecord}
 use Rattle.cells.specs.Step.{stepped}
-use Rattle.cells.specs.Lent.{isRefused, lent, steppedLent}
-use Rattle.cells.proofs.Acts.{acts, acts-iff, step-acts, step-untouched}
+use Rattle.cells.specs.Lent.{isRefused, Lent, lent, steppedLent}
+use Rattle.cells.proofs.Acts.{acts, acts-iff, Untouched, step-acts, step-untouched}
 use Rattle.cells.proofs.Replies.{asked-below}
 use Rattle.cells.proofs.Stepping.{asked}
 use Rattle.questions.proofs.State as S
@@ -63,3 +63,18 @@ module _ (s : State) (p : List ℕ) (t : ℕ) (r : Record) (q : State) (a : Afte
   pub lent-acted : isRefused (a .outcome) ≡ false → lent a (recordAt (a .state .records) t) ≡ steppedLent s p t r
   unfolding steppedLent
   lent-acted h = rw (← i, ← e, h)
+
+-- A STEP THAT IS LENT THE TASK'S OWN RECORD IS THE STEP: it leaves the state and pool and gives the outcome that `stepped` does, and hands
+-- back the record that then stands in the state (for a task beyond the records, which is refused, the idle one that was lent).
+module _ (s : State) (p : List ℕ) (t : ℕ) where
+  abbrev handed : After → Lent
+  handed a = lent a (recordAt (a .state .records) t)
+
+  same : (a : After) (o : Outcome) → a .outcome ≡ o → Untouched s p a → cond (isRefused (a .outcome)) (lent (leaving s p (a .outcome)) (recordAt (s .records) t)) (handed a) ≡ handed a
+  same a (Refused n) e h = rw (h n e)
+  same a Acted e h = rw e
+  same a (Ended f) e h = rw e
+
+  pub lent-own : steppedLent s p t (recordAt (s .records) t) ≡ handed (stepped s p t)
+  unfolding steppedLent
+  lent-own = rw (set-getD (s .records) t idle) (same (stepped s p t) (stepped s p t .outcome) refl (step-untouched s p t))

@@ -17,8 +17,12 @@ out n a b h = go (decLe a n)
     go (yes l) = let g : b < n = omega (arith, h l) in rw (lt-leb n b g) (and-false (leb a n))
     go (no l) = let g : n < a = omega (arith, l) in rw (lt-leb a n g)
 
-pub no-line : (n w : ℕ) → (1 ≤ n → n ≤ 3 → ⊥) → (10 ≤ n → n ≤ 12 → ⊥) → (15 ≤ n → n ≤ 24 → ⊥) → (26 ≤ n → n ≤ 30 → ⊥) → lineAt n w ≡ nowhere
-no-line n w a b c d = rw (out n 1 3 a, out n 10 12 b, out n 15 24 c, out n 26 30 d)
+-- n is in none of the four ranges
+abbrev pub Outside : ℕ → Type 0
+Outside n = (1 ≤ n → n ≤ 3 → ⊥) × (10 ≤ n → n ≤ 12 → ⊥) × (15 ≤ n → n ≤ 24 → ⊥) × (26 ≤ n → n ≤ 30 → ⊥)
+
+pub no-line : (n w : ℕ) → Outside n → lineAt n w ≡ nowhere
+no-line n w h = rw (out n 1 3 (h .0), out n 10 12 (h .1), out n 15 24 (h .2), out n 26 30 (h .3))
 
 -- rewrites the line and leaves the record
 pub line-at : (r : Record) (n : ℕ) → r .line ≡ n → lineOf r ≡ lineAt n (r .wanted)

@@ -1,17 +1,17 @@
 -- What the lines' accesses keep to: a block's words are the held block's, at lines that hold one; the cell is the task's own; only line 29
 -- asks for an unused block.
 use mathlib.Core.Path.{_≡_, refl}
-use mathlib.Core.Bool.{true, _||_, not}
+use mathlib.Core.Bool.{true}
 use Prim.Native.Nat.{ℕ}
-use lib.Dec.{eqb}
 use Rattle.lines.specs.declared.Record.{Record}
 use Rattle.lines.specs.declared.Access.{Access}
 use Rattle.lines.specs.declared.Access.the-variants.{LoadCell, Load, Store, DecideCas, InstallCas, Allocate, Nothing}
 use Rattle.lines.specs.Lines.{Line, l1, l2, l3, l10, l11, l12, l15, l16, l17, l18, l19, l20, l21, l22, l23, l24, l26, l27, l29, l30, nowhere, accessAt}
+use Rattle.questions.specs.Questions.{holdsBefore}
 use Rattle.questions.proofs.Numbers.{number}
 
 abbrev pub Holds : Line → Type 0
-Holds l = not (eqb (number l) 10 || eqb (number l) 15) ≡ true
+Holds l = holdsBefore (number l) ≡ true
 
 abbrev pub Keeps : Line → Record → Access → Type 0
 Keeps l r (LoadCell k) = k ≡ r .cell

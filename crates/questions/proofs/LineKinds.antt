@@ -7,7 +7,7 @@ use native.Mathlib.Omega.{arith}
 use native.Mathlib.Nat.{eq-or-lt-of-le}
 use lib.Dec.{eqb, leb}
 use borrow.Author.Tests.{le-leb, lt-leb}
-use Rattle.lines.specs.Lines.{Line, Wanted, for13, for25, for28, l1, l2, l3, nowhere, deciding, lineAt}
+use Rattle.lines.specs.Lines.{Line, Wanted, for13, for25, for28, l1, l2, l3, nowhere, lineAt}
 use Rattle.questions.specs.Questions.{decidesFor, ofKind}
 
 module _ (a b : Bool) where

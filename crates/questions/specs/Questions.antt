@@ -80,9 +80,12 @@ ofKind nowhere a b = false
 abbrev pub lineFit : Record → Bool
 lineFit r = ofKind (lineOf r) (reads r) (swaps r)
 
--- a busy task has done its first load (asked of busy records only)
+-- by its next line, a busy task has done its first load (asked of busy records only)
+abbrev pub holdsBefore : ℕ → Bool
+holdsBefore n = not (eqb n 10 || eqb n 15)
+
 abbrev pub holds : Record → Bool
-holds r = not (eqb (r .line) 10 || eqb (r .line) 15)
+holds r = holdsBefore (r .line)
 
 -- a task's next line is 30
 abbrev pub installs : Record → Bool

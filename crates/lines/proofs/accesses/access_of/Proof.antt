@@ -1,5 +1,4 @@
 use borrow.Author.Needs.{needs}
-use native.Mathlib.Omega.{arith}
 use Rattle.lines.proofs.Ranges.{no-line}
 use Rattle.lines.proofs.accesses.access_of.Statement.{statement}
 use Rattle.lines.proofs.accesses.access_of.Tie as tie
@@ -16,8 +15,8 @@ access-of-spec =
     (λ c. c .access-read .ensures _)
     (λ c. c .access-swap .ensures)
     (λ c. c .access-install .ensures _)
-    (λ c. rw (no-line (c .before .args .r .line) _ (λ a b. omega arith) (λ a b. omega arith) (λ a b. omega arith) (λ a b. omega arith)))
-    (λ c. rw (no-line (c .before .before .before .args .r .line) _ (λ a b. omega arith) (λ a b. omega arith) (λ a b. omega arith) (λ a b. omega arith)))
-    (λ c. rw (no-line (c .before .before .before .before .before .args .r .line) _ (λ a b. omega arith) (λ a b. omega arith) (λ a b. omega arith) (λ a b. omega arith)))
-    (λ c. rw (no-line (c .before .before .before .before .before .before .before .args .r .line) _ (λ a b. omega arith) (λ a b. omega arith) (λ a b. omega arith) (λ a b. omega arith)))
-    (λ c. rw (no-line (c .before .before .before .before .before .before .before .before .args .r .line) _ (λ a b. omega arith) (λ a b. omega arith) (λ a b. omega arith) (λ a b. omega arith))))
+    (λ c. rw (no-line (c .before .args .r .line) _ (search needs)))
+    (λ c. rw (no-line (c .before .before .before .args .r .line) _ (search needs)))
+    (λ c. rw (no-line (c .before .before .before .before .before .args .r .line) _ (search needs)))
+    (λ c. rw (no-line (c .before .before .before .before .before .before .before .args .r .line) _ (search needs)))
+    (λ c. rw (no-line (c .before .before .before .before .before .before .before .before .args .r .line) _ (search needs))))

@@ -1,5 +1,4 @@
 use borrow.Author.Needs.{needs}
-use native.Mathlib.Omega.{arith}
 use Rattle.lines.proofs.Ranges.{no-line}
 use Rattle.lines.proofs.following.next_of.Statement.{statement}
 use Rattle.lines.proofs.following.next_of.Tie as tie
@@ -16,8 +15,8 @@ next-of-spec =
     (λ c. c .next-read .ensures _)
     (λ c. c .next-swap .ensures)
     (λ c. c .next-install .ensures _)
-    (λ c. rw (no-line (c .before .args .r .line) _ (λ a b. omega arith) (λ a b. omega arith) (λ a b. omega arith) (λ a b. omega arith)))
-    (λ c. rw (no-line (c .before .before .before .args .r .line) _ (λ a b. omega arith) (λ a b. omega arith) (λ a b. omega arith) (λ a b. omega arith)))
-    (λ c. rw (no-line (c .before .before .before .before .before .args .r .line) _ (λ a b. omega arith) (λ a b. omega arith) (λ a b. omega arith) (λ a b. omega arith)))
-    (λ c. rw (no-line (c .before .before .before .before .before .before .before .args .r .line) _ (λ a b. omega arith) (λ a b. omega arith) (λ a b. omega arith) (λ a b. omega arith)))
-    (λ c. rw (no-line (c .before .before .before .before .before .before .before .before .args .r .line) _ (λ a b. omega arith) (λ a b. omega arith) (λ a b. omega arith) (λ a b. omega arith))))
+    (λ c. rw (no-line (c .before .args .r .line) _ (search needs)))
+    (λ c. rw (no-line (c .before .before .before .args .r .line) _ (search needs)))
+    (λ c. rw (no-line (c .before .before .before .before .before .args .r .line) _ (search needs)))
+    (λ c. rw (no-line (c .before .before .before .before .before .before .before .args .r .line) _ (search needs)))
+    (λ c. rw (no-line (c .before .before .before .before .before .before .before .before .args .r .line) _ (search needs))))

@@ -1,5 +1,5 @@
 -- The loop: what is left from here on finds what the whole search finds.
-use mathlib.Core.Path.{_≡_, refl, sym, _∙_}
+use mathlib.Core.Path.{_≡_, refl}
 use Prim.Native.Nat.{_≤_, _-_}
 use lib.ListN.{drop}
 use Rattle.lines.specs.Paths.{table, rowIn, rowOf}
