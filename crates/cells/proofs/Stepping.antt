@@ -1,4 +1,4 @@
--- A step that is not refused: what its turn needs, and that a turn told no unused block where it asks for none does the same.
+-- A step that is not refused: what its turn needs, and that a turn given no unused block where it asks for none does the same.
 use mathlib.Core.Path.{_≡_, sym, ap, _∙_}
 use mathlib.Core.Logic.{_⊎_, inl, inr}
 use mathlib.Core.Bool.{Bool, true, false, _&&_, false≢true}

@@ -1,4 +1,4 @@
--- A turn is a step told numbers: its parts, what it needs, and when it needs no unused block.
+-- A turn is a step given numbers: its parts, what it needs, and when it needs no unused block.
 use mathlib.Core.Path.{_≡_, refl, ap}
 use mathlib.Core.Bool.{true, _||_, not, and-eq-true-iff}
 use mathlib.Core.Option.{Option}

@@ -1,4 +1,4 @@
-// A busy task's next line, told numbers only, so that nothing copies the state.
+// A busy task's next line, given numbers only, so that nothing copies the state.
 ghost use mathlib.Core.Path.{_≡_};
 ghost use Prim.Native.Nat.{_≤_};
 ghost use lib.ListN.{length};

@@ -28,7 +28,7 @@ no-line n w h = rw (out n 1 3 (h .0), out n 10 12 (h .1), out n 15 24 (h .2), ou
 pub line-at : (r : Record) (n : ℕ) → r .line ≡ n → lineOf r ≡ lineAt n (r .wanted)
 line-at r n e = ap (λ (n : ℕ). lineAt n (r .wanted)) e
 
--- what a match is told after k arms for a, a + 1 and so on
+-- what a match knows after k arms for a, a + 1 and so on
 abbrev Passed : (n a k : ℕ) → Type 0
 Passed n a zero = Prim.Unit
 Passed n a (suc k) = Passed n a k × (n ≡ a + k → ⊥)

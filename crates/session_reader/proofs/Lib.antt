@@ -2,7 +2,7 @@ mod Counted
 mod Arms
 mod Turns
 mod Listed
-mod Told
+mod Denoting
 mod Growing
 mod Standing
 mod Repeated

@@ -12,10 +12,10 @@ use Rattle.text.proofs.Appending.{nothing, one, then, stored-then, front, behin
 use Rattle.session_file.specs.Session.{times}
 use Rattle.history.specs.History.{Action}
 use Rattle.session_reader.specs.Reading.{acted, actAt}
-use Rattle.session_reader.specs.Answers.{Told, untold, told, Far, Kept, kept, Stands}
+use Rattle.session_reader.specs.Answers.{Denotes, none-denoted, one-denoted, Far, Kept, kept, Stands}
 use Rattle.session_reader.specs.Kept.{same, new}
 use Rattle.session_reader.proofs.Growing.{grows-append, grows-times}
-use Rattle.session_reader.proofs.Told.{told-append, told-times, told-actions, told-grown}
+use Rattle.session_reader.proofs.Denoting.{denotes-append, denotes-times, denotes-actions, denotes-grown}
 use Rattle.session_reader.proofs.Repeated.{times-none, length-times}
 
 -- nothing read
@@ -27,7 +27,7 @@ stands-nothing F A f n g h = record {
   acts = nothing A n .stored;
   fits = g;
   room = h;
-  far = (omega arith, untold);
+  far = (omega arith, none-denoted);
   grows = λ _. same;
   still = λ _. (refl, refl);
   rest = λ _. (refl, refl);
@@ -37,7 +37,7 @@ module _ (room n m r i j : ℕ) (T U more v w : List ℕ) (k l : List Action) (e
   far-join : (x y : Bool) → Far x room n m i T v k → Far y room m r j U w l → Far (x || y) room n r (i + j) U (v ++ w) (k ++ l)
   far-join true y f g = omega arith
   far-join false true f g = omega (arith, f .0)
-  far-join false false f g = (omega (arith, f .0, g .0), told-append {v = v} {k = k} (rw e (told-grown more (f .1))) (g .1))
+  far-join false false f g = (omega (arith, f .0, g .0), denotes-append {v = v} {k = k} (rw e (denotes-grown more (f .1))) (g .1))
 
 -- nothing appended leaves all as it was
 unmoved : (o p : List ℕ) (at : ℕ) (t : List ℕ) → Appended o p at at t → p ≡ o
@@ -105,7 +105,7 @@ module _ {F G A B : List ℕ} {f n : ℕ} {b : Kept} {k : ℕ} {l : List Action}
         far-over false e h = absurd (false≢true e)
 
     module _ (e : b .over ≡ false) where
-      just : (b .actions ≡ n + k) × Told (take (5 * b .forms) G) (x .words) l
+      just : (b .actions ≡ n + k) × Denotes (take (5 * b .forms) G) (x .words) l
       just = rw e at (x .far)
 
       pub again-many : length A < n + c * (b .actions - n) → Stands F G A B f n (kept true f n) (c * k) (times c l)
@@ -138,7 +138,7 @@ module _ {F G A B : List ℕ} {f n : ℕ} {b : Kept} {k : ℕ} {l : List Action}
             acts = stored-then (front low (x .acts)) (copies .stored);
             fits = x .fits;
             room = rw (end, ← just-k) h;
-            far = (end, told-times c (just .1));
+            far = (end, denotes-times c (just .1));
             grows = λ o. grows-times c z (x .grows e);
             still = λ w.
                 let s = x .still w in
@@ -154,8 +154,8 @@ module _ {F G A B : List ℕ} {f n : ℕ} {b : Kept} {k : ℕ} {l : List Action}
   pub whole : n ≡ 0 → b .over ≡ false → (b .actions ≡ k) × (map (actAt G) (take (b .actions) B) ≡ l)
   whole z e =
       let now : take (b .actions) B ≡ x .words = x .acts .words ∙ rw z in
-      let all : Told G (x .words) l = rw (take-append-drop (5 * b .forms) G) at (told-grown (drop (5 * b .forms) G) (just 0 e .1)) in
-      (omega (arith, just 0 e .0), rw now (told-actions all))
+      let all : Denotes G (x .words) l = rw (take-append-drop (5 * b .forms) G) at (denotes-grown (drop (5 * b .forms) G) (just 0 e .1)) in
+      (omega (arith, just 0 e .0), rw now (denotes-actions all))
 
 -- forms that stand no times, read with no room for an action
 pub again-none : {F G A B : List ℕ} {f n : ℕ} {b : Kept} {k : ℕ} {l : List Action} (c : ℕ) → Stands F G (take n A) B f n b k l → c ≡ 0 → n ≤ length A → 5 * f ≤ length F → Stands F G A (B ++ drop n A) f n (kept false f n) (c * k) (times c l)
@@ -205,7 +205,7 @@ module _ (F A : List ℕ) (f n kind : ℕ) (numbers : List ℕ) (g : 5 * f + 5 �
         acts = one A n f k .stored;
         fits = omega arith;
         room = omega arith;
-        far = (refl, rw (five-kept .stored .words) (told {i = f} (omega (arith, p, length-append (take (5 * f) F) five)) (made (take (5 * f) F) p) untold));
+        far = (refl, rw (five-kept .stored .words) (one-denoted {i = f} (omega (arith, p, length-append (take (5 * f) F) five)) (made (take (5 * f) F) p) none-denoted));
         grows = λ _. new same;
         still = λ w. absurd (omega arith);
         rest = λ _. (five-kept .rest, one A n f k .rest);

@@ -63,8 +63,8 @@ both : (x y : Bool) → (x && y) ≡ true → (x ≡ true) × (y ≡ true)
 both true y e = (refl, e)
 both false y e = absurd (false≢true e)
 
-pub sizes-told : (v f a : ℕ) → (eqb v 32768 && (eqb f 40960 && eqb a 65535)) ≡ true → (v ≡ 32768) × ((f ≡ 40960) × (a ≡ 65535))
-sizes-told v f a e =
+pub sizes-known : (v f a : ℕ) → (eqb v 32768 && (eqb f 40960 && eqb a 65535)) ≡ true → (v ≡ 32768) × ((f ≡ 40960) × (a ≡ 65535))
+sizes-known v f a e =
     let x = both (eqb v 32768) _ e in
     let y = both (eqb f 40960) _ (x .1) in
     (eqb-true v 32768 (x .0), (eqb-true f 40960 (y .0), eqb-true a 65535 (y .1)))

@@ -65,14 +65,14 @@ HeadIs s at out start.Unknown = head (drop at s) ≡ none
 HeadIs s at out (start.Known n next) = (kind : Kind) × (n ≡ kindNumber kind) × Reads head s at 7 (kind, take (arity kind) out) next
 
 -- words that number forms of a table, and the actions they make
-pub data Told (table : List ℕ) : List ℕ → List Action → Type 0 where
-  untold : Told table [] []
-  told : {i : ℕ} {w : List ℕ} {a : Action} {l : List Action} → 5 * i + 5 ≤ length table → actAt table i ≡ a → Told table w l → Told table (i ∷ w) (a ∷ l)
+pub data Denotes (table : List ℕ) : List ℕ → List Action → Type 0 where
+  none-denoted : Denotes table [] []
+  one-denoted : {i : ℕ} {w : List ℕ} {a : Action} {l : List Action} → 5 * i + 5 ≤ length table → actAt table i ≡ a → Denotes table w l → Denotes table (i ∷ w) (a ∷ l)
 
 -- more actions than there is room for, or just those kept
 abbrev pub Far : Bool → (room n m k : ℕ) → (table words : List ℕ) → List Action → Type 0
 Far true room n m k table words l = room < n + k
-Far false room n m k table words l = (m ≡ n + k) × Told table words l
+Far false room n m k table words l = (m ≡ n + k) × Denotes table words l
 
 -- more actions than fit, or not, and how many forms and actions are kept
 pub record Kept : Type 0 where

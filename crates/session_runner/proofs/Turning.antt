@@ -1,4 +1,4 @@
--- An action told numbers only is the action.
+-- An action given numbers only is the action.
 use mathlib.Core.Path.{_≡_, refl, sym, ap, subst, _∙_}
 use native.Mathlib.Omega.{arith}
 use mathlib.Core.Bool.{Bool, true, false}

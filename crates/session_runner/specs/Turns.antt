@@ -1,4 +1,4 @@
--- One action on a state that is known to be fit, told numbers only: its task's record, the current block of that record's cell, the
+-- One action on a state that is known to be fit, given numbers only: its task's record, the current block of that record's cell, the
 -- block taken last, and what the search for an unused block answers. It is what Machine.does does (proofs/Turning.antt).
 use mathlib.Core.Path.{_≡_}
 use mathlib.Core.Bool.{cond}

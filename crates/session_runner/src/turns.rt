@@ -1,4 +1,4 @@
-// One action on a state that is known to be fit, told numbers only: nothing copies the state, and nobody asks question 6.
+// One action on a state that is known to be fit, given numbers only: nothing copies the state, and nobody asks question 6.
 use crate::actions::Action;
 use blocks::Found;
 use cells::Outcome;

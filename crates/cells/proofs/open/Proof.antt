@@ -12,9 +12,9 @@ use borrow.Author.Needs.{needs}
 use Rattle.cells.proofs.open.Statement.{statement}
 use Rattle.cells.proofs.open.Tie as tie
 
-told : (c : tie.Else1) → let e = c .before .before .before .before .args in refusal (openQuestions (length (now (e .pool))) (e .tasks) (e .cells) (e .blocks) (now (e .values))) ≡ none
+asked : (c : tie.Else1) → let e = c .before .before .before .before .args in refusal (openQuestions (length (now (e .pool))) (e .tasks) (e .cells) (e .blocks) (now (e .values))) ≡ none
 unfolding openQuestions
-told c =
+asked c =
     let e = c .before .before .before .before .args in
     is-allowed (openQuestions (length (now (e .pool))) (e .tasks) (e .cells) (e .blocks) (now (e .values))) _ (c .before .open-refusal .ensures) (c .if1 .left) refl
 
@@ -27,16 +27,16 @@ returns c =
 fill-blocks-requires : tie.Need-fill-blocks-requires
 fill-blocks-requires c κs =
     let e = c .before .before .before .before .before .before .before .before .before .args in
-    let z = opens (now (e .pool)) (now (e .values)) (e .tasks) (e .cells) (e .blocks) (told (c .before .before .before .before .before)) in
+    let z = opens (now (e .pool)) (now (e .values)) (e .tasks) (e .cells) (e .blocks) (asked (c .before .before .before .before .before)) in
     let l = c .before .before .before .clear .kept .0 in
     (z .1, omega (arith, z .2))
 
 open-state-requires : tie.Need-open-state-requires
-open-state-requires c κs = let e = c .before .before .before .before .before .before .before .before .before .before .before .before .args in opens (now (e .pool)) (now (e .values)) (e .tasks) (e .cells) (e .blocks) (told (c .before .before .before .before .before .before .before .before)) .0
+open-state-requires c κs = let e = c .before .before .before .before .before .before .before .before .before .before .before .before .args in opens (now (e .pool)) (now (e .values)) (e .tasks) (e .cells) (e .blocks) (asked (c .before .before .before .before .before .before .before .before)) .0
 
 returns-2 : tie.Need-returns-2
 unfolding opened
-returns-2 c = rw (told (c .before .before .before .before .before .before .before .before .before), c .before .before .before .fill-blocks .ensures, c .before .before .before .before .before .before .before .clear .ensures, c .open-state .ensures)
+returns-2 c = rw (asked (c .before .before .before .before .before .before .before .before .before), c .before .before .before .fill-blocks .ensures, c .before .before .before .before .before .before .before .clear .ensures, c .open-state .ensures)
 
 pub open-spec : {M : Type 1} → statement M
 open-spec =

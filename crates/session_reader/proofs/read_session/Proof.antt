@@ -1,12 +1,12 @@
 use borrow.Author.Needs.{needs}
 use mathlib.Core.Path.{refl}
-use Rattle.session_reader.proofs.Verdicts.{sizes-told}
+use Rattle.session_reader.proofs.Verdicts.{sizes-known}
 use Rattle.session_reader.specs.Reading.{judged}
 use Rattle.session_reader.proofs.read_session.Statement.{statement}
 use Rattle.session_reader.proofs.read_session.Tie as tie
 
 read-requires : tie.Need-read-requires
-read-requires c κs = sizes-told _ _ _ (c .before .before .before .if1 .taken)
+read-requires c κs = sizes-known _ _ _ (c .before .before .before .if1 .taken)
 
 returns : tie.Need-returns
 unfolding judged

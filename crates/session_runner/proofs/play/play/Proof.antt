@@ -29,7 +29,7 @@ Inv-loop out₀ tasks cells pool₀ forms kept i₀ at₀ s₀ z₀ out pool i a
 abbrev μ-loop : tie.MeasureT-loop
 μ-loop out₀ tasks cells pool₀ forms kept i₀ at₀ s₀ z₀ out pool i at s z = length kept - i
 
--- the block that an action is told: what the search finds, where the line is one that asks
+-- the block that an action is given: what the search finds, where the line is one that asks
 free : (c : tie.Joined1 Inv-loop μ-loop) → Free (c .before .before .before .before .before .before .before .before .before .loop .s) (recordAt (c .before .before .before .before .before .before .before .before .before .loop .s .records) (c .before .before .before .before .slot .result)) (foundOf (c .if1 .free))
 free c = ⊎-elim (λ w. inl (ap foundOf (w .2) ∙ w .1 .ensures ∙ finds-unused (c .before .before .before .before .before .before .before .before .before .loop .inv .6))) (λ w. inr (w .0 .left, ap foundOf (w .1))) (c .if1 .came)
 
