@@ -1,5 +1,5 @@
 pub mod Words
-pub mod Cases
+pub mod Examples
 pub mod Parts
 pub mod TurnLaw
 pub mod Replies

@@ -1,0 +1,58 @@
+-- Two runs of the pool in which readings to keep out would answer otherwise, computed. (P1 to P10: `prints` in session_text.)
+use mathlib.Core.Path.{_≡_, refl}
+use mathlib.Core.List.{List, [], _∷_, _++_}
+use Prim.Native.Nat.{ℕ}
+use lib.ListN.{replicate}
+use Rattle.questions.specs.Questions.{hasNone, openQuestions, recordFit, cellsFit, recordsFit, fit}
+use Rattle.blocks.specs.Blocks.{isCurrent, usedByTask, used, unused}
+use Rattle.lines.specs.Record.{idle}
+use Rattle.history.specs.History.{Op, read, swap, Action, begin, step, Kind, aRead, aSwap, Answer, Value, Yes, No, Report, Event, refused, accepted, answered, history}
+use Rattle.cells.specs.Open.{opened}
+use Rattle.cells.specs.Begin.{readBegun, swapBegun}
+use Rattle.cells.specs.Step.{ran, stepped}
+use Rattle.cells.specs.Machine.{Pool, pool}
+
+abbrev reports : List (Action × Event) → List Report
+reports [] = []
+reports ((a, refused n) ∷ l) = reports l
+reports ((a, accepted x) ∷ l) = reports l
+reports ((a, answered x r) ∷ l) = r ∷ reports l
+
+-- three tasks, seven blocks and one cell that holds 5, opened over other numbers
+abbrev start : Pool
+start =
+    let r = opened (record { tasks = 7; cells = 7; blocks = 7; last = 7; current = replicate 16 7; records = replicate 32 idle }) (replicate 35 9) 3 1 7 (5 ∷ []) in
+    (r .state, r .pool)
+
+abbrev steps : (count task : ℕ) → List Action
+steps n t = replicate n (step t)
+
+abbrev report : Kind → Answer → (steps hard : ℕ) → Report
+report k a s h = record { kind = k; cell = 0; answer = a; steps = s; hard = h }
+
+-- tasks 1 and 2 collide on the cell's block: 2 replaces it, putting v2 for v; 1 comes too late
+abbrev round : (v v1 v2 : ℕ) → List Action
+round v v1 v2 = begin 1 (swap 0 v v1) ∷ begin 2 (swap 0 v v2) ∷ steps 4 1 ++ steps 9 2 ++ steps 7 1
+
+abbrev lost : List Report
+lost = report aSwap Yes 9 2 ∷ report aSwap No 11 2 ∷ []
+
+abbrev Hold : List (List Action × List Report) → Type 0
+Hold [] = Unit {0}
+Hold ((l, r) ∷ c) = (reports (history pool start l) ≡ r) × Hold c
+
+examples :
+    Hold (
+    -- task 0 stores 7 in a block that was decided for 5: a read of that block decides, and does not return its V
+    (
+      begin 0 (swap 0 5 7) ∷ begin 1 (swap 0 5 9) ∷ begin 2 (read 0) ∷ steps 7 0 ++ steps 1 2 ++ steps 7 1 ++ steps 1 0 ++ steps 5 2,
+      report aRead (Value 5) 6 1 ∷ [],
+    ) ∷
+    -- a task that halts in a read still holds block 0 after the others went through all blocks: it is not taken again
+    (
+      begin 0 (read 0) ∷ steps 1 0 ++ round 5 15 6 ++ round 6 16 7 ++ round 7 17 8 ++ round 8 18 9 ++ steps 5 0,
+      lost ++ lost ++ lost ++ lost ++ report aRead (Value 5) 6 1 ∷ [],
+    ) ∷ []
+    )
+unfolding opened readBegun swapBegun stepped ran fit recordFit cellsFit recordsFit hasNone openQuestions isCurrent usedByTask used unused
+examples = (refl, (refl, tt))
