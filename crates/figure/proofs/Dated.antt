@@ -27,7 +27,8 @@ use Rattle.figure.specs.Moments.{Notes, nothingNoted, noted, Sight, hold
 use Rattle.figure.proofs.LineLaws.{both, every, every-line, lines, same, same-is, extends, Leads, goes, done}
 use Rattle.figure.proofs.LineLaws as Laws
 use Rattle.figure.proofs.Records.{Pending, led}
-use Rattle.figure.proofs.Tallies.{opOf, doing}
+use Rattle.figure.proofs.AsBegun.{opOf}
+use Rattle.figure.proofs.Tallies.{doing}
 use Rattle.figure.proofs.Classes.{is, figureLine, busy, holding, swapping, stored, storing, replacing, lies-in, are-apart}
 use Rattle.figure.proofs.Invariant.{View, Knowledge, Owner, TaskOf, line, held}
 use Rattle.figure.proofs.Looking.{settled≢late, active-settled}

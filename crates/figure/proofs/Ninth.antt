@@ -21,12 +21,12 @@ use Rattle.lines.specs.Record.{noValue, idle}
 use Rattle.cells.specs.Pool.{offset}
 use Rattle.lines.specs.Lines.{Line, for25, for28, l1, l2, l3, l29, l30, lineOf, accessAt, accessOf, counted, nextAt, nextOf}
 use Rattle.history.specs.Basics.{upd, _∈_}
-use Rattle.history.specs.History.{Op, Action, begin, step, run}
+use Rattle.history.specs.History.{Op, read, swap, Action, begin, step, Answer, run}
 use Rattle.history.proofs.Basics.{upd-same, upd-off, upd-cases}
 use Rattle.figure.specs.Figure.{Cell, World, withBoth, After, store, install, memory, Memory, perform, recordAfter, outcomeOf, ran, opening, figure}
 use Rattle.cells.specs.Events.{eventOf, tried}
-use Rattle.figure.specs.Paths.{paths, reached, by25, Traced, Trace, noTrace, didLine, enterLine}
-use Rattle.figure.proofs.LineLaws.{every, every-in, every-line, has, same, same-is, imp, before}
+use Rattle.figure.specs.Paths.{paths, reached, by25, pathsOf, Traced, Trace, noTrace, didLine, enterLine}
+use Rattle.figure.proofs.LineLaws.{every, every-in, every-line, has, same, same-is, imp, before, waysOf}
 use Rattle.figure.proofs.Records.{OnPath, Sound, with-first, upd-both, firstOf, Begun, starts, begin-cases, Stepped, runs, step-cases, act-sound, figureTraces}
 use Rattle.figure.proofs.Paths.{start-sound, last-line}
 use Rattle.figure.proofs.Classes.{holding, swapping}
@@ -228,7 +228,12 @@ traces-kept v w i r s o (a ∷ l) = traces-kept v (figure w a .0) (next-reachabl
 pub never-ninth : (n v : ℕ) (vs : List ℕ) → ((k : ℕ) → getD vs k 0 ≢ noValue) → (l : List Action) (x : Traced) → x ∈ figureTraces (opening n v vs) noTrace l .done → x .lines ≢ by25
 never-ninth n v vs ok l = traces-kept v (opening n v vs) (opening-reachable n v vs ok) noTrace (start-sound n v vs) (record { late = λ t h. absurd (false≢true h); done = λ x i. absurd i }) l .done
 
--- so it is one of the twelve others
+-- so it is on a path that is its own, and on one of the twelve others
+pub own-path : (op : Op) (a : Answer) (p : List Line) → p ∈ waysOf op a → p ≢ by25 → p ∈ pathsOf op a
+own-path (read k) a p i n = i
+own-path (swap k e m) a p (inl z) n = absurd (n z)
+own-path (swap k e m) a p (inr i) n = i
+
 pub one-of-twelve : (p : List Line) → p ∈ paths → p ≢ by25 → p ∈ reached
 one-of-twelve p i n = go (take 8 paths) i
   where

@@ -1,11 +1,11 @@
 -- A busy record's operation, and what the sequential specification says of it.
-use mathlib.Core.Path.{_≡_, refl, sym, ap, subst, _∙_}
-use mathlib.Core.Logic.{_≢_, _⊎_, inl, inr}
-use mathlib.Core.Bool.{Bool, true, false, not, _&&_, _||_, cond, false≢true}
+use mathlib.Core.Path.{_≡_, refl, sym, subst, _∙_}
+use mathlib.Core.Logic.{_≢_, inl, inr}
+use mathlib.Core.Bool.{Bool, true, false, not, _||_, cond}
 use mathlib.Core.Option.{some}
 use Prim.Native.Nat.{ℕ}
 use lib.Dec.{eqb, T}
-use borrow.Author.Tests.{eqb-true, eqb-false, eq-eqb, ne-eqb}
+use borrow.Author.Tests.{eqb-true, eq-eqb, ne-eqb}
 use Rattle.lines.specs.declared.Record.{Record}
 use Rattle.lines.specs.declared.Answer.the-variants as Code
 use Rattle.lines.specs.Record.{isIdle}
@@ -16,7 +16,8 @@ use Rattle.history.specs.Linearization.{reply, after, apply}
 use Rattle.history.specs.Demand3.{Unequal}
 use Rattle.cells.specs.Events.{answerOf}
 use Rattle.figure.proofs.LineLaws.{every-line, imp}
-use Rattle.figure.proofs.Tallies.{opOf, tally, tallyOf}
+use Rattle.figure.proofs.AsBegun.{opOf, swap-op, Reads, read-op}
+use Rattle.figure.proofs.Tallies.{tally, tallyOf}
 use Rattle.figure.proofs.Classes.{busy, swapping, are-apart}
 
 pub cell-of : (q : Record) → cellOf (opOf q) ≡ q .cell
@@ -53,35 +54,13 @@ module _ (q : Record) (e : lineFit q ≡ true) where
       go true z = z
       go false z = absurd (are-apart (λ l. not (swapping l)) (λ l. ofKind l false (swaps q)) tt (lineOf q) b (subst T (sym (rw z at e)) tt))
 
-  pub swap-op : T (swapping (lineOf q)) → (opOf q ≡ swap (q .cell) (q .expected) (q .new)) × (q .expected ≢ q .new)
-  swap-op b = go (eqb (q .kind) 2) (eqb (q .expected) (q .new)) refl refl (is-swap b)
-    where
-      go : (x y : Bool) → eqb (q .kind) 2 ≡ x → eqb (q .expected) (q .new) ≡ y → (x && not y) ≡ true → (opOf q ≡ swap (q .cell) (q .expected) (q .new)) × (q .expected ≢ q .new)
-      go true false ex ey z = (rw (eqb-true (q .kind) 2 ex) refl, eqb-false _ _ ey)
-      go true true ex ey z = absurd (false≢true z)
-      go false y ex ey z = absurd (false≢true z)
-
-  -- a read, or a swap of equal values
-  abbrev Reads : Type 0
-  Reads = ((opOf q ≡ read (q .cell)) × (q .kind ≡ 1)) ⊎ ((opOf q ≡ swap (q .cell) (q .expected) (q .expected)) × (q .kind ≡ 2))
-
-  read-op : T (not (swapping (lineOf q))) → Reads
-  read-op b = go (eqb (q .kind) 1) (eqb (q .kind) 2) (eqb (q .expected) (q .new)) refl refl refl (is-read b)
-    where
-      go : (x y z : Bool) → eqb (q .kind) 1 ≡ x → eqb (q .kind) 2 ≡ y → eqb (q .expected) (q .new) ≡ z → (x || (y && z)) ≡ true
-          → Reads
-      go true y z ex ey ez h = inl (rw ex, eqb-true _ _ ex)
-      go false true true ex ey ez h = inr (rw ex (ap (λ n. swap (q .cell) (q .expected) n) (sym (eqb-true (q .expected) (q .new) ez))), eqb-true _ _ ey)
-      go false true false ex ey ez h = absurd (false≢true h)
-      go false false z ex ey ez h = absurd (false≢true h)
-
   -- WHAT THE SEQUENTIAL SPECIFICATION ANSWERS
 
   -- a read's answer is right for the value that it returns, and it changes nothing
   pub reads-right : T (not (swapping (lineOf q))) → (v : ℕ) → (reply v (opOf q) ≡ answerOf (readAnswer q v)) × (after v (opOf q) ≡ v)
-  reads-right b v = go (read-op b)
+  reads-right b v = go (read-op q (is-read b))
     where
-      go : Reads → (reply v (opOf q) ≡ answerOf (readAnswer q v)) × (after v (opOf q) ≡ v)
+      go : Reads q → (reply v (opOf q) ≡ answerOf (readAnswer q v)) × (after v (opOf q) ≡ v)
       go (inl (o, k)) = rw (o, k) (refl, refl)
       go (inr (o, k)) = rw (o, k) (test (eqb v (q .expected)) refl)
         where
@@ -92,13 +71,13 @@ module _ (q : Record) (e : lineFit q ≡ true) where
   -- a swap that finds its expected value succeeds and puts the new one there; with another it does nothing
   module _ (b : T (swapping (lineOf q))) where
     pub swap-yes : (v : ℕ) → v ≡ q .expected → (reply v (opOf q) ≡ Yes) × (after v (opOf q) ≡ q .new)
-    swap-yes v z = rw (swap-op b .0, eq-eqb v (q .expected) z) (refl, refl)
+    swap-yes v z = rw (swap-op q (is-swap b) .0, eq-eqb v (q .expected) z) (refl, refl)
 
     pub swap-no : (v : ℕ) → v ≢ q .expected → (reply v (opOf q) ≡ No) × (after v (opOf q) ≡ v)
-    swap-no v z = rw (swap-op b .0, ne-eqb v (q .expected) z) (refl, refl)
+    swap-no v z = rw (swap-op q (is-swap b) .0, ne-eqb v (q .expected) z) (refl, refl)
 
     pub is-unequal : Unequal (opOf q)
-    is-unequal = rw (swap-op b .0) (swap-op b .1)
+    is-unequal = rw (swap-op q (is-swap b) .0) (swap-op q (is-swap b) .1)
 
 -- the cells after an operation: its own, and the others
 pub apply-here : (cells : ℕ → ℕ) (op : Op) (k : ℕ) → cellOf op ≡ k → apply cells op k ≡ after (cells k) op

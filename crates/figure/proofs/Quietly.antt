@@ -23,7 +23,8 @@ use Rattle.figure.specs.Figure.{Cell, World, withRecord, recordAfter, pe
 use Rattle.cells.specs.Events.{tried}
 use Rattle.figure.proofs.LineLaws.{Leads, goes, done}
 use Rattle.figure.proofs.Records.{Pending, OnPath, AllOnPath, Accepted, firstOf, led}
-use Rattle.figure.proofs.Tallies.{opOf, tally, tallyOf, doing}
+use Rattle.figure.proofs.AsBegun.{opOf}
+use Rattle.figure.proofs.Tallies.{tally, tallyOf, doing}
 use Rattle.figure.proofs.Classes.{busy, swapping, marking, lies-in, holding, uncontended}
 use Rattle.figure.proofs.Invariant.{none, Knowledge, line}
 use Rattle.figure.proofs.Views.{on, on-in, on-it, on-changed, on-elsewhere, view}

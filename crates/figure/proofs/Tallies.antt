@@ -3,30 +3,27 @@ use mathlib.Core.Path.{_≡_, refl, subst}
 use mathlib.Core.Logic.{_⊎_, _≢_, inl, inr}
 use mathlib.Core.Bool.{Bool, true, false, cond}
 use mathlib.Core.Option.{Option, none, some}
-use mathlib.Core.List.{List, [], _∷_, _++_}
+use mathlib.Core.List.{List}
 use Prim.Native.Nat.{ℕ, _≤_, _<_}
 use native.Mathlib.Numerals.{add-one}
 use native.Mathlib.Omega.{arith}
-use lib.Dec.{eqb, leb, T, leb→le}
+use lib.Dec.{eqb, leb, leb→le}
 use borrow.Author.Tests.{eqb-true}
 use Rattle.lines.specs.declared.Record.{Record}
 use Rattle.lines.specs.declared.Next.{Next}
 use Rattle.lines.specs.Record.{idle, isIdle}
 use Rattle.lines.specs.Lines.{Line, lineOf, accessOf, counted, hardware}
 use Rattle.history.specs.Basics.{upd, _∈_}
-use Rattle.history.specs.History.{Op, read, swap, Action, begin, step, cellOf, aRead, aSwap, kindOf}
+use Rattle.history.specs.History.{Op, read, swap, Action, begin, step, Answer, cellOf, aRead, aSwap, kindOf}
 use Rattle.history.specs.Demand3.{most, mostHard}
 use Rattle.history.proofs.Basics.{either, upd-at, upd-off}
 use Rattle.history.proofs.Simulation.{Tally, first, Follows}
 use Rattle.figure.specs.Figure.{Cell, World, After, withBoth, recordAfter, outcomeOf, ran, figure, perform}
 use Rattle.cells.specs.Events.{eventOf, tried}
-use Rattle.figure.specs.Paths.{paths, count}
-use Rattle.figure.proofs.LineLaws.{every, every-in, readPaths, Leads, goes, done}
+use Rattle.figure.specs.Paths.{readPaths, paths, count}
+use Rattle.figure.proofs.AsBegun.{opOf}
+use Rattle.figure.proofs.LineLaws.{every-in, waysOf, on-paths, on-read-paths, Leads, goes, done}
 use Rattle.figure.proofs.Records.{Pending, not-idle, led, Then, one-line, pending-bounds, read-bounds, firstOf, Begun, starts, begin-cases, Stepped, runs, step-cases, OnPath, AllOnPath}
-
--- the operation as begun: a swap of equal values reads, and is a swap
-abbrev pub opOf : Record → Op
-opOf q = cond (eqb (q .kind) 1) (read (q .cell)) (swap (q .cell) (q .expected) (q .new))
 
 abbrev pub tally : Record → Tally
 tally q = record { op = opOf q; steps = q .steps; hard = q .hard }
@@ -57,6 +54,11 @@ by-kind q P r s = go (eqb (q .kind) 1) refl
     go : (b : Bool) → eqb (q .kind) 1 ≡ b → P (cond b (read (q .cell)) (swap (q .cell) (q .expected) (q .new)))
     go true e = r (eqb-true (q .kind) 1 e)
     go false e = s
+
+-- found by computing over the paths
+few-hard : (op : Op) (a : Answer) (p : List Line) → p ∈ waysOf op a → count hardware p ≤ mostHard op
+few-hard (read k) a p i = leb→le _ _ (every-in (λ p. leb (count hardware p) 1) readPaths tt p (on-read-paths k a p i))
+few-hard (swap k e n) a p i = leb→le _ _ (every-in (λ p. leb (count hardware p) 3) paths tt p (on-paths (swap k e n) a p i))
 
 abbrev Few : Tally → Type 0
 Few n = (n .steps < most (n .op)) × (n .hard ≤ mostHard (n .op))
@@ -96,9 +98,6 @@ module _ (w : World) where
     abbrev q : Record
     q = w .records t
 
-    few : (x : ℕ) (ps : List (List Line)) → T (every (λ p. leb (count hardware p) x) ps) → (did ++ (lineOf q ∷ [])) ∈ ps → count hardware (did ++ (lineOf q ∷ [])) ≤ x
-    few x ps h i = leb→le _ _ (every-in (λ p. leb (count hardware p) x) ps h _ i)
-
     line-follows : (c : Cell) {n : Next} → Leads (lineOf q) (counted q (accessOf t q)) n → Then (w .cells) did q o n
         → Follows doing (w .cells) w (step t) (withBoth w (q .cell) c t (recordAfter n)) (eventOf (tried t q) (outcomeOf n))
     line-follows c (goes f) next = record { now = tally q; was = was-doing (w .cells) did q o; rest = put t _ _ (rw (not-idle _ (next .line), add-one)) }
@@ -110,7 +109,7 @@ module _ (w : World) where
       cell = as-begun q .1;
       steps = add-one (q .steps);
       hard = refl;
-      few = rw (end .all-hard) (by-kind q (λ op. count hardware (did ++ (lineOf q ∷ [])) ≤ mostHard op) (λ e. few 1 readPaths tt (end .read-path e)) (few 3 paths tt (end .path)));
+      few = rw (end .all-hard) (few-hard (opOf q) _ _ (end .path));
     }
 
   step-follows : (t : ℕ) (did : List Line) {f : After} → Stepped w t did f → Follows doing (w .cells) w (step t) (f .world) (eventOf (tried t (w .records t)) (f .outcome))

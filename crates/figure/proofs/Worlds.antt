@@ -20,7 +20,8 @@ use Rattle.figure.specs.Figure.{Cell, World, withBoth, recordAfter, perf
 use Rattle.figure.specs.Moments.{Notes, noted, names, sees}
 use Rattle.figure.proofs.LineLaws.{every, lines}
 use Rattle.figure.proofs.Records.{Pending, AllOnPath, OnPath}
-use Rattle.figure.proofs.Tallies.{opOf, tally, tallyOf, doing}
+use Rattle.figure.proofs.AsBegun.{opOf}
+use Rattle.figure.proofs.Tallies.{tally, tallyOf, doing}
 use Rattle.figure.proofs.Classes.{busy, holding, swapping, stored, viewing, lies-in}
 use Rattle.figure.proofs.Invariant.{none, View, Knowledge, TaskOf, line, held, Inv}
 use Rattle.figure.proofs.Frame as Frame
