@@ -6,12 +6,27 @@ use lib.Dec.{eqb}
 use borrow.Author.Tests.{eqb-true, eqb-false}
 use Rattle.lines.specs.declared.Record.{Record}
 use Rattle.questions.specs.Questions.{reads, swaps}
-use Rattle.history.specs.History.{Op, read, swap}
+use Rattle.history.specs.History.{Op, read, swap, cellOf, aRead, aSwap, kindOf}
 
 abbrev pub opOf : Record → Op
 opOf q = cond (eqb (q .kind) 1) (read (q .cell)) (swap (q .cell) (q .expected) (q .new))
 
 module _ (q : Record) where
+  -- kind and cell as a finished call reports them
+  pub kind-of : cond (eqb (q .kind) 1) aRead aSwap ≡ kindOf (opOf q)
+  kind-of = go (eqb (q .kind) 1)
+    where
+      go : (b : Bool) → cond b aRead aSwap ≡ kindOf (cond b (read (q .cell)) (swap (q .cell) (q .expected) (q .new)))
+      go true = refl
+      go false = refl
+
+  pub cell-of : cellOf (opOf q) ≡ q .cell
+  cell-of = go (eqb (q .kind) 1)
+    where
+      go : (b : Bool) → cellOf (cond b (read (q .cell)) (swap (q .cell) (q .expected) (q .new))) ≡ q .cell
+      go true = refl
+      go false = refl
+
   pub swap-op : swaps q ≡ true → (opOf q ≡ swap (q .cell) (q .expected) (q .new)) × (q .expected ≢ q .new)
   swap-op = go (eqb (q .kind) 2) (eqb (q .expected) (q .new)) refl refl
     where

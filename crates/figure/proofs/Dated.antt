@@ -24,18 +24,18 @@ use Rattle.history.proofs.Simulation.{Phase, settled, frozen, late, Ghost, unpl
 use Rattle.figure.specs.Figure.{Cell, World, withRecord, recordAfter, perform, figure}
 use Rattle.cells.specs.Events.{answerOf}
 use Rattle.figure.specs.Moments.{Notes, nothingNoted, noted, Sight, holdsBlock, sees, names, at, effect, lineC6, rules, ruleAt, ruled, stands}
-use Rattle.figure.proofs.LineLaws.{both, every, every-line, lines, same, same-is, extends, Leads, goes, done}
+use Rattle.figure.proofs.LineLaws.{both, every, every-line, lines, same, same-is, extends, Leads, goes, done, by-test}
 use Rattle.figure.proofs.LineLaws as Laws
 use Rattle.figure.proofs.Records.{Pending, led}
-use Rattle.figure.proofs.AsBegun.{opOf}
+use Rattle.figure.proofs.AsBegun.{opOf, cell-of}
 use Rattle.figure.proofs.Tallies.{doing}
 use Rattle.figure.proofs.Classes.{is, figureLine, busy, holding, swapping, stored, storing, replacing, lies-in, are-apart}
 use Rattle.figure.proofs.Invariant.{View, Knowledge, Owner, TaskOf, line, held}
 use Rattle.figure.proofs.Looking.{settled≢late, active-settled}
 use Rattle.figure.proofs.Notes.{cond-true, cond-false, with, equal, holds-block, figure-line-is, keeps-stored, keeps-inactive, notes-stored, notes-inactive}
-use Rattle.figure.proofs.Steps.{Change, still, act, freeze, delay, settle, land, phaseAfter, Can, Saw, loaded12, decided13, loaded22, decided28, replaced30, Reason, acts, acted, reads, declines, by-test}
+use Rattle.figure.proofs.Steps.{Change, still, act, freeze, delay, settle, land, phaseAfter, Can, Saw, loaded12, decided13, loaded22, decided28, replaced30, Reason, acts, acted, reads, declines}
 use Rattle.figure.proofs.Views.{on-in, view}
-use Rattle.figure.proofs.Operations.{cell-of, busy-line, reads-right, swap-no}
+use Rattle.figure.proofs.Operations.{busy-line, reads-right, swap-no}
 use Rattle.figure.proofs.Worlds as Worlds
 use Rattle.figure.proofs.Worlds.{Good, doingIn, clock, known, facts, there, pending-at, cellAfter, nextAfter, stepAfter}
 use Rattle.figure.proofs.Quietly.{is-busy}

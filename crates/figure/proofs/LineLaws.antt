@@ -55,6 +55,19 @@ module _ {A : Type 0} (f : A → Bool) where
   every-at (x ∷ xs) h d g zero = both (f x) (every f xs) h .0
   every-at (x ∷ xs) h d g (suc n) = every-at xs (both (f x) (every f xs) h .1) d g n
 
+-- whichever a test picks
+pub by-test : {A : Type 0} (P : A → Type 0) (b : Bool) (x y : A) → (b ≡ true → P x) → (b ≡ false → P y) → P (cond b x y)
+by-test P true x y f g = f refl
+by-test P false x y f g = g refl
+
+pub has-in : {A : Type 0} (eq : A → A → Bool) → ((x y : A) → T (eq x y) → x ≡ y) → (ys : List A) (x : A) → T (has eq ys x) → x ∈ ys
+has-in eq sound [] x h = absurd h
+has-in eq sound (y ∷ ys) x h = go (eq x y) (sound x y) (has-in eq sound ys x) h
+  where
+    go : (b : Bool) → (T b → x ≡ y) → (T (has eq ys x) → x ∈ ys) → T (b || has eq ys x) → x ∈ (y ∷ ys)
+    go true here there h = inl (here tt)
+    go false here there h = inr (there h)
+
 -- THE LIST OF ALL LINES
 
 abbrev pub lines : List Line
@@ -114,13 +127,8 @@ same-lines [] (b ∷ y) h = absurd h
 same-lines (a ∷ x) [] h = absurd h
 same-lines (a ∷ x) (b ∷ y) h = let k = both (same a b) _ h in rw (same-is a b (k .0), same-lines x y (k .1))
 
-has-in : (ys : List (List Line)) (x : List Line) → T (has sameLines ys x) → x ∈ ys
-has-in [] x h = absurd h
-has-in (y ∷ ys) x h = go (sameLines x y) (same-lines x y) (has-in ys x) h
-  where
-    go : (b : Bool) → (T b → x ≡ y) → (T (has sameLines ys x) → x ∈ ys) → T (b || has sameLines ys x) → x ∈ (y ∷ ys)
-    go true here there h = inl (here tt)
-    go false here there h = inr (there h)
+among : (ys : List (List Line)) (x : List Line) → T (has sameLines ys x) → x ∈ ys
+among = has-in sameLines same-lines
 
 -- WHICH LINES MAY FOLLOW
 
@@ -141,7 +149,7 @@ abbrev pub extends : Line → List (List Line) → Bool
 extends l ys = every (λ d. has sameLines ys (d ++ (l ∷ []))) (before l)
 
 pub extends-in : (l : Line) (ys : List (List Line)) → T (extends l ys) → (d : List Line) → d ∈ before l → (d ++ (l ∷ [])) ∈ ys
-extends-in l ys h d m = has-in ys _ (every-in (λ d. has sameLines ys (d ++ (l ∷ []))) (before l) h d m)
+extends-in l ys h d m = among ys _ (every-in (λ d. has sameLines ys (d ++ (l ∷ []))) (before l) h d m)
 
 -- line k may follow line l and is of the same kind; only the first line changes the block held, from b to h
 abbrev pub MayFollow : Line → Line → (b h : ℕ) → Type 0
@@ -154,19 +162,18 @@ waysOf (swap k e n) a = by25 ∷ pathsOf (swap k e n) a
 
 -- they are among the thirteen, a read's among its two
 pub on-paths : (op : Op) (a : Event.Answer) (x : List Line) → x ∈ waysOf op a → x ∈ paths
-on-paths op a x m = has-in paths x (every-in (has sameLines paths) (waysOf op a) (all op a) x m)
+on-paths op a x m = among paths x (every-in (has sameLines paths) (waysOf op a) (all op a) x m)
   where
-    reads-or : (b : Bool) (ys : List (List Line)) → T (every (has sameLines paths) ys) → T (every (has sameLines paths) (cond b readPaths ys))
-    reads-or true ys h = tt
-    reads-or false ys h = h
+    Passes : List (List Line) → Type 0
+    Passes ps = T (every (has sameLines paths) ps)
 
     all : (op : Op) (a : Event.Answer) → T (every (has sameLines paths) (waysOf op a))
     all (read k) (Event.Value v) = tt
     all (read k) Event.Yes = tt
     all (read k) Event.No = tt
     all (swap k e n) (Event.Value v) = tt
-    all (swap k e n) Event.Yes = reads-or (eqb e n) yesPaths tt
-    all (swap k e n) Event.No = reads-or (eqb e n) noPaths tt
+    all (swap k e n) Event.Yes = by-test Passes (eqb e n) readPaths yesPaths (λ z. tt) (λ z. tt)
+    all (swap k e n) Event.No = by-test Passes (eqb e n) readPaths noPaths (λ z. tt) (λ z. tt)
 
 pub on-read-paths : (k : ℕ) (a : Event.Answer) (x : List Line) → x ∈ waysOf (read k) a → x ∈ readPaths
 on-read-paths k (Event.Value v) x m = m

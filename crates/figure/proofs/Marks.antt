@@ -13,10 +13,10 @@ use Rattle.lines.specs.Lines.{for13, for25, for28, Line, l1, l2, l3, l10, l11, 
 use Rattle.history.specs.Basics.{upd}
 use Rattle.history.proofs.Basics.{either, upd-same, upd-off, upd-cases}
 use Rattle.figure.specs.Figure.{Cell, store, install, Memory, memory, perform, recordAfter}
+use Rattle.figure.proofs.LineLaws.{by-test}
 use Rattle.figure.proofs.Classes.{busy, contended, marking}
 use Rattle.figure.proofs.Invariant.{View, Knowledge, Inv, line, held}
 use Rattle.figure.proofs.Frame.{was}
-use Rattle.figure.proofs.Steps.{by-test}
 
 -- a task that set Y of the current block and has not reset it
 pub record Marked (L : ℕ) (f : ℕ → Record) : Type 0 where

@@ -26,12 +26,11 @@ use Rattle.history.proofs.Basics.{upd-same, upd-off, upd-cases}
 use Rattle.figure.specs.Figure.{Cell, World, withBoth, After, store, install, memory, Memory, perform, recordAfter, outcomeOf, ran, opening, figure}
 use Rattle.cells.specs.Events.{eventOf, tried}
 use Rattle.figure.specs.Paths.{paths, reached, by25, pathsOf, Traced, Trace, noTrace, didLine, enterLine}
-use Rattle.figure.proofs.LineLaws.{every, every-in, every-line, has, same, same-is, imp, before, waysOf}
+use Rattle.figure.proofs.LineLaws.{every, every-in, every-line, has, same, same-is, imp, before, waysOf, has-in, by-test}
 use Rattle.figure.proofs.Records.{OnPath, Sound, with-first, upd-both, firstOf, Begun, starts, begin-cases, Stepped, runs, step-cases, act-sound, figureTraces}
 use Rattle.figure.proofs.Paths.{start-sound, last-line}
 use Rattle.figure.proofs.Classes.{holding, swapping}
 use Rattle.figure.proofs.Invariant.{none, TaskOf}
-use Rattle.figure.proofs.Steps.{by-test}
 use Rattle.figure.proofs.Views.{view}
 use Rattle.figure.proofs.Worlds.{known, facts}
 use Rattle.figure.proofs.Reachable.{trivial, Reachable, next-reachable, opening-reachable}
@@ -45,17 +44,9 @@ through25 did = has same did (l3 for25)
 abbrev later : List Line
 later = l1 for28 ∷ l2 for28 ∷ l3 for28 ∷ l29 ∷ l30 ∷ []
 
-among : (ys : List Line) (x : Line) → T (has same ys x) → x ∈ ys
-among [] x h = absurd h
-among (y ∷ ys) x h = go (same x y) (same-is x y) (among ys x) h
-  where
-    go : (b : Bool) → (T b → x ≡ y) → (T (has same ys x) → x ∈ ys) → T (b || has same ys x) → x ∈ (y ∷ ys)
-    go true here there h = inl (here tt)
-    go false here there h = inr (there h)
-
 -- found by computing over all that may stand before a line
 comes-later : (ℓ : Line) (did : List Line) → did ∈ before ℓ → through25 did ≡ true → ℓ ∈ later
-comes-later ℓ did m h = among later ℓ (imp (through25 did) (has same later ℓ)
+comes-later ℓ did m h = has-in same same-is later ℓ (imp (through25 did) (has same later ℓ)
     (every-in (λ d. has same later ℓ || not (through25 d)) (before ℓ) (every-line (λ ℓ. every (λ d. has same later ℓ || not (through25 d)) (before ℓ)) tt ℓ) did m) h)
 
 -- with one more line

@@ -11,7 +11,7 @@ use Rattle.lines.specs.declared.Answer.the-variants as Code
 use Rattle.lines.specs.Record.{isIdle}
 use Rattle.lines.specs.Lines.{lineAt, lineOf, readAnswer}
 use Rattle.questions.specs.Questions.{ofKind, reads, swaps, lineFit}
-use Rattle.history.specs.History.{Op, read, swap, cellOf, Yes, No}
+use Rattle.history.specs.History.{Op, cellOf, Yes, No}
 use Rattle.history.specs.Linearization.{reply, after, apply}
 use Rattle.history.specs.Demand3.{Unequal}
 use Rattle.cells.specs.Events.{answerOf}
@@ -19,13 +19,6 @@ use Rattle.figure.proofs.LineLaws.{every-line, imp}
 use Rattle.figure.proofs.AsBegun.{opOf, swap-op, Reads, read-op}
 use Rattle.figure.proofs.Tallies.{tally, tallyOf}
 use Rattle.figure.proofs.Classes.{busy, swapping, are-apart}
-
-pub cell-of : (q : Record) → cellOf (opOf q) ≡ q .cell
-cell-of q = go (eqb (q .kind) 1)
-  where
-    go : (b : Bool) → cellOf (cond b (read (q .cell)) (swap (q .cell) (q .expected) (q .new))) ≡ q .cell
-    go true = refl
-    go false = refl
 
 -- a line that fits a kind is a line
 pub busy-line : (q : Record) → lineFit q ≡ true → T (busy (lineOf q))
@@ -38,21 +31,17 @@ busy-doing q b = go (isIdle q) refl
     go true e = absurd (subst (λ n. T (busy (lineAt n (q .wanted)))) (eqb-true (q .line) 0 e) b)
     go false e = rw e
 
+must : (x : Bool) → (x ≡ false → ⊥) → x ≡ true
+must true h = refl
+must false h = absurd (h refl)
+
 -- a line of a swap of unequal values is of such a swap, any other of a read or of a swap of equal values
 module _ (q : Record) (e : lineFit q ≡ true) where
   pub is-swap : T (swapping (lineOf q)) → swaps q ≡ true
-  is-swap b = go (swaps q) refl
-    where
-      go : (x : Bool) → swaps q ≡ x → swaps q ≡ true
-      go true z = z
-      go false z = absurd (are-apart swapping (λ l. ofKind l (reads q) false) tt (lineOf q) b (subst T (sym (rw z at e)) tt))
+  is-swap b = must (swaps q) (λ z. are-apart swapping (λ l. ofKind l (reads q) false) tt (lineOf q) b (subst T (sym (rw z at e)) tt))
 
   pub is-read : T (not (swapping (lineOf q))) → reads q ≡ true
-  is-read b = go (reads q) refl
-    where
-      go : (x : Bool) → reads q ≡ x → reads q ≡ true
-      go true z = z
-      go false z = absurd (are-apart (λ l. not (swapping l)) (λ l. ofKind l false (swaps q)) tt (lineOf q) b (subst T (sym (rw z at e)) tt))
+  is-read b = must (reads q) (λ z. are-apart (λ l. not (swapping l)) (λ l. ofKind l false (swaps q)) tt (lineOf q) b (subst T (sym (rw z at e)) tt))
 
   -- WHAT THE SEQUENTIAL SPECIFICATION ANSWERS
 

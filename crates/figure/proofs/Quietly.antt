@@ -23,12 +23,12 @@ use Rattle.figure.specs.Figure.{Cell, World, withRecord, recordAfter, pe
 use Rattle.cells.specs.Events.{tried}
 use Rattle.figure.proofs.LineLaws.{Leads, goes, done}
 use Rattle.figure.proofs.Records.{Pending, OnPath, AllOnPath, Accepted, firstOf, led}
-use Rattle.figure.proofs.AsBegun.{opOf}
+use Rattle.figure.proofs.AsBegun.{opOf, cell-of}
 use Rattle.figure.proofs.Tallies.{tally, tallyOf, doing}
 use Rattle.figure.proofs.Classes.{busy, swapping, marking, lies-in, holding, uncontended}
 use Rattle.figure.proofs.Invariant.{none, Knowledge, line}
-use Rattle.figure.proofs.Views.{on, on-in, on-it, on-changed, on-elsewhere, view}
-use Rattle.figure.proofs.Operations.{cell-of, busy-line, busy-doing, is-unequal}
+use Rattle.figure.proofs.Views.{on, on-in, on-it, on-changed, on-elsewhere, view, on-others}
+use Rattle.figure.proofs.Operations.{busy-line, busy-doing, is-unequal}
 use Rattle.figure.proofs.Worlds.{Good, cellAfter, nextAfter, stepAfter, pending-at}
 use Rattle.figure.proofs.Begins.{was-idle, idle-to, its-cell}
 use Rattle.figure.proofs.Marks.{Marks, marks-kept}
@@ -85,11 +85,7 @@ module _ (w : World) (g : Ghost) (κ : Knowledge) (G : Good w g κ) (marks : (k 
       go (inl e) = subst (λ j. Marks (upd (w .cell) k m j) (on (upd (w .records) t (recordAfter n)) j)) (sym e) (rw (upd-same (w .cell) k m, on-changed (w .records) t (recordAfter n) k (stays .0))
           (subst (λ (r : Record). let x = perform (w .cell k) (accessOf t r) in Marks (x .cell) (upd (on (w .records) k) t (recordAfter (nextOf t r (x .value))))) here
           (marks-kept (view w g k) κ t (G .cells k) (marks k) (lineOf (on (w .records) k t)) refl (rw here (busy-line q (o .line))))))
-      go (inr e) = rw (upd-off (w .cell) k m j e, on-elsewhere (w .records) t (recordAfter n) j (inl (λ z. e (sym z))) (elsewhere (stays .0))) (marks j)
-        where
-          elsewhere : (recordAfter n .cell ≡ k) ⊎ (recordAfter n ≡ idle) → (recordAfter n .cell ≢ j) ⊎ (recordAfter n ≡ idle)
-          elsewhere (inl z) = inl (λ y. e (sym y ∙ z))
-          elsewhere (inr z) = inr z
+      go (inr e) = rw (upd-off (w .cell) k m j e, on-others (w .records) t (recordAfter n) j e (stays .0)) (marks j)
 
   own-kept : (x : Next) → n ≡ x → (a : Tally) → tallyOf (recordAfter x) ≡ some a → QuietIn w t → Quiet (upd (w .cell) k m (recordAfter n .cell)) (on (w′ .records) (recordAfter n .cell)) t
   own-kept (Go r) e a d z =
@@ -127,11 +123,7 @@ module _ (w : World) (g : Ghost) (κ : Knowledge) (G : Good w g κ) (marks : (k 
           (rw (upd-same (w .cell) k m, on-changed (w .records) t (recordAfter n) k (stays .0))
           (subst (λ (p : Record). Quiet (perform (w .cell k) (accessOf t p) .cell) (upd (on (w .records) k) t (recordAfter n)) u) here
           (others-step (w .cell k) (on (w .records) k) u t (recordAfter n) y ne (λ b. no-swap (rw here (stays .1 b))) no-swap)))
-      go (inr e) = rw (upd-off (w .cell) k m j e, on-elsewhere (w .records) t (recordAfter n) j (inl (λ x. e (sym x))) (elsewhere (stays .0))) z
-        where
-          elsewhere : (recordAfter n .cell ≡ k) ⊎ (recordAfter n ≡ idle) → (recordAfter n .cell ≢ j) ⊎ (recordAfter n ≡ idle)
-          elsewhere (inl x) = inl (λ y. e (sym y ∙ x))
-          elsewhere (inr x) = inr x
+      go (inr e) = rw (upd-off (w .cell) k m j e, on-others (w .records) t (recordAfter n) j e (stays .0)) z
 
   pub step-quietly : QuietSteps doing clear QuietIn w w′ t (tried t q)
   step-quietly = record {

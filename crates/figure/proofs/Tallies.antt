@@ -1,5 +1,5 @@
 -- What the figure counts of its pending calls, as the simulation asks for it: each step adds one, within the bounds of demand 3.
-use mathlib.Core.Path.{_≡_, refl, subst}
+use mathlib.Core.Path.{_≡_, refl, sym, subst}
 use mathlib.Core.Logic.{_⊎_, _≢_, inl, inr}
 use mathlib.Core.Bool.{Bool, true, false, cond}
 use mathlib.Core.Option.{Option, none, some}
@@ -14,15 +14,15 @@ use Rattle.lines.specs.declared.Next.{Next}
 use Rattle.lines.specs.Record.{idle, isIdle}
 use Rattle.lines.specs.Lines.{Line, lineOf, accessOf, counted, hardware}
 use Rattle.history.specs.Basics.{upd, _∈_}
-use Rattle.history.specs.History.{Op, read, swap, Action, begin, step, Answer, cellOf, aRead, aSwap, kindOf}
+use Rattle.history.specs.History.{Op, read, swap, Action, begin, step, Answer}
 use Rattle.history.specs.Demand3.{most, mostHard}
 use Rattle.history.proofs.Basics.{either, upd-at, upd-off}
 use Rattle.history.proofs.Simulation.{Tally, first, Follows}
 use Rattle.figure.specs.Figure.{Cell, World, After, withBoth, recordAfter, outcomeOf, ran, figure, perform}
 use Rattle.cells.specs.Events.{eventOf, tried}
 use Rattle.figure.specs.Paths.{readPaths, paths, count}
-use Rattle.figure.proofs.AsBegun.{opOf}
-use Rattle.figure.proofs.LineLaws.{every-in, waysOf, on-paths, on-read-paths, Leads, goes, done}
+use Rattle.figure.proofs.AsBegun.{opOf, kind-of, cell-of}
+use Rattle.figure.proofs.LineLaws.{every-in, waysOf, on-paths, on-read-paths, Leads, goes, done, by-test}
 use Rattle.figure.proofs.Records.{Pending, not-idle, led, Then, one-line, pending-bounds, read-bounds, firstOf, Begun, starts, begin-cases, Stepped, runs, step-cases, OnPath, AllOnPath}
 
 abbrev pub tally : Record → Tally
@@ -37,23 +37,7 @@ doing w t = tallyOf (w .records t)
 pub was-doing : (v : ℕ) (did : List Line) (q : Record) → Pending v did q → tallyOf q ≡ some (tally q)
 was-doing v did q o = rw (not-idle q (o .line))
 
--- kind and cell as a finished call reports them
-as-begun : (q : Record) → (cond (eqb (q .kind) 1) aRead aSwap ≡ kindOf (opOf q)) × (q .cell ≡ cellOf (opOf q))
-as-begun q = go (eqb (q .kind) 1)
-  where
-    go : (b : Bool) → let op = cond b (read (q .cell)) (swap (q .cell) (q .expected) (q .new)) in (cond b aRead aSwap ≡ kindOf op) × (q .cell ≡ cellOf op)
-    go true = (refl, refl)
-    go false = (refl, refl)
-
 -- BOUNDS
-
--- what holds of a read where this is one, and of a swap, holds of its operation
-by-kind : (q : Record) (P : Op → Type 0) → (q .kind ≡ 1 → P (read (q .cell))) → P (swap (q .cell) (q .expected) (q .new)) → P (opOf q)
-by-kind q P r s = go (eqb (q .kind) 1) refl
-  where
-    go : (b : Bool) → eqb (q .kind) 1 ≡ b → P (cond b (read (q .cell)) (swap (q .cell) (q .expected) (q .new)))
-    go true e = r (eqb-true (q .kind) 1 e)
-    go false e = s
 
 -- found by computing over the paths
 few-hard : (op : Op) (a : Answer) (p : List Line) → p ∈ waysOf op a → count hardware p ≤ mostHard op
@@ -69,7 +53,7 @@ within w p t n e = go (w .records t) (p t .1) e
     go : (q : Record) → OnPath (w .tasks) (w .cells) t (p t .0) q → tallyOf q ≡ some n → Few n
     go q (inl i) e = let x : none ≡ some n = rw (i .0) at e in let z : _≡_ {A = ℕ} 0 1 = cc in omega arith
     go q (inr (m, o)) e = let k : tally q ≡ n = cc (was-doing (w .cells) (p t .0) q o) in
-        subst Few k (by-kind q (λ op. (q .steps < most op) × (q .hard ≤ mostHard op)) (read-bounds (w .cells) (p t .0) q o) (pending-bounds (w .cells) (p t .0) q o))
+        subst Few k (by-test (λ op. (q .steps < most op) × (q .hard ≤ mostHard op)) (eqb (q .kind) 1) (read (q .cell)) (swap (q .cell) (q .expected) (q .new)) (λ z. read-bounds (w .cells) (p t .0) q o (eqb-true _ _ z)) (λ z. pending-bounds (w .cells) (p t .0) q o))
 
 -- ACTIONS
 
@@ -105,8 +89,8 @@ module _ (w : World) where
       now = tally q;
       was = was-doing (w .cells) did q o;
       rest = put t idle none refl;
-      kind = as-begun q .0;
-      cell = as-begun q .1;
+      kind = kind-of q;
+      cell = sym (cell-of q);
       steps = add-one (q .steps);
       hard = refl;
       few = rw (end .all-hard) (few-hard (opOf q) _ _ (end .path));

@@ -20,7 +20,7 @@ use Rattle.figure.specs.Figure.{Cell, World, withBoth, recordAfter, perf
 use Rattle.figure.specs.Moments.{Notes, noted, names, sees}
 use Rattle.figure.proofs.LineLaws.{every, lines}
 use Rattle.figure.proofs.Records.{Pending, AllOnPath, OnPath}
-use Rattle.figure.proofs.AsBegun.{opOf}
+use Rattle.figure.proofs.AsBegun.{opOf, cell-of}
 use Rattle.figure.proofs.Tallies.{tally, tallyOf, doing}
 use Rattle.figure.proofs.Classes.{busy, holding, swapping, stored, viewing, lies-in}
 use Rattle.figure.proofs.Invariant.{none, View, Knowledge, TaskOf, line, held, Inv}
@@ -28,8 +28,8 @@ use Rattle.figure.proofs.Frame as Frame
 use Rattle.figure.proofs.Frame.{Grows}
 use Rattle.figure.proofs.Notes.{Holder, keeps-loaded, keeps-stored, keeps-decided, keeps-replaced, notes-held, notes-loaded, notes-stored, notes-decided, notes-replaced}
 use Rattle.figure.proofs.Steps.{Change, still, act, freeze, delay, settle, land, valueAfter, placedAfter, phaseAfter, after, Can, Future, Out, each}
-use Rattle.figure.proofs.Views.{on, on-in, on-it, on-changed, on-elsewhere, view, placed-changed}
-use Rattle.figure.proofs.Operations.{cell-of, busy-line, busy-doing, swap-yes, apply-here, apply-there}
+use Rattle.figure.proofs.Views.{on, on-in, on-it, on-changed, view, placed-changed, on-others}
+use Rattle.figure.proofs.Operations.{busy-line, busy-doing, swap-yes, apply-here, apply-there}
 
 -- what the proof keeps of the whole figure
 pub record Good (w : World) (g : Ghost) (κ : Knowledge) : Type 0 where
@@ -269,11 +269,7 @@ module _ (w : World) (notes : Notes) (g : Ghost) (κ : Sim.Knowledge) (G : Good 
     view-here = λ i. record { cell = upd-same (w .cell) k m i; task = on-changed (w .records) t q′ k stays i; value = value-here x c i; placed = placed-is x i; phase = phase-here x i }
 
     view-there : (j : ℕ) → j ≢ k → view w′ (g′ x) j ≡ record { cell = w .cell j; task = on (w .records) j; value = g .cells j; placed = g′ x .placed; phase = g .phase j }
-    view-there j n = λ i. record { cell = upd-off (w .cell) k m j n i; task = on-elsewhere (w .records) t q′ j (inl (λ z. n (sym z))) (elsewhere stays) i; value = value-there j n x c i; placed = g′ x .placed; phase = phase-there j n x i }
-      where
-        elsewhere : (q′ .cell ≡ k) ⊎ (q′ ≡ idle) → (q′ .cell ≢ j) ⊎ (q′ ≡ idle)
-        elsewhere (inl z) = inl (λ y. n (sym y ∙ z))
-        elsewhere (inr z) = inr z
+    view-there j n = λ i. record { cell = upd-off (w .cell) k m j n i; task = on-others (w .records) t q′ j n stays i; value = value-there j n x c i; placed = g′ x .placed; phase = phase-there j n x i }
 
     was-doing : (u : ℕ) (n′ : Tally) → doing w′ u ≡ some n′ → (n : Tally) × (doing w u ≡ some n)
     was-doing u n′ e = go (either u t)

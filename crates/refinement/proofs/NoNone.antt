@@ -25,10 +25,11 @@ use Rattle.history.specs.History.{Op, Action, begin, step, Answer, Value, Yes, 
 use Rattle.figure.specs.Figure.{Cell, World, After, perform, outcomeOf, ran, figure, opening}
 use Rattle.cells.specs.Events.{answerOf, eventOf, tried}
 use Rattle.figure.specs.Figure
+use Rattle.figure.proofs.LineLaws.{by-test}
 use Rattle.figure.proofs.Records.{Begun, starts, begin-cases, Stepped, runs, step-cases, with-first}
 use Rattle.figure.proofs.Invariant as Invariant
 use Rattle.figure.proofs.Invariant.{View, Knowledge}
-use Rattle.figure.proofs.Steps.{Change, Reason, acts, acted, reads, declines, Out, by-test}
+use Rattle.figure.proofs.Steps.{Change, Reason, acts, acted, reads, declines, Out}
 use Rattle.figure.proofs.Views.{view}
 use Rattle.figure.proofs.Worlds.{known, κ⁺, out}
 use Rattle.figure.proofs.Reachable.{trivial, Reachable, next-reachable, opening-reachable, reachable}
