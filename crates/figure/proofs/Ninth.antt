@@ -23,7 +23,7 @@ use Rattle.lines.specs.Lines.{Line, for25, for28, l1, l2, l3, l29, l30, lineOf,
 use Rattle.history.specs.Basics.{upd, _∈_}
 use Rattle.history.specs.History.{Op, read, swap, Action, begin, step, Answer, run}
 use Rattle.history.proofs.Basics.{upd-same, upd-off, upd-cases}
-use Rattle.figure.specs.Figure.{Cell, World, withBoth, After, store, install, memory, Memory, perform, recordAfter, outcomeOf, ran, opening, figure}
+use Rattle.figure.specs.Figure.{Cell, World, withBoth, WorldAfter, store, install, accessed, Accessed, accessCell, recordAfter, outcomeOf, figureRan, opening, figure}
 use Rattle.cells.specs.Events.{eventOf, tried}
 use Rattle.figure.specs.Paths.{paths, reached, by25, pathsOf, Traced, Trace, noTrace, didLine, enterLine}
 use Rattle.figure.proofs.LineLaws.{every, every-in, every-line, has, same, same-is, imp, before, waysOf, has-in, by-test}
@@ -86,7 +86,7 @@ spares (InstallCas k b n) = true
 spares (Allocate n) = true
 spares Nothing = true
 
-decision-stays : (m : Cell) (a : Access) (b : ℕ) → T (spares a) → b < m .next → m .d b ≢ none → perform m a .cell .d b ≡ m .d b
+decision-stays : (m : Cell) (a : Access) (b : ℕ) → T (spares a) → b < m .next → m .d b ≢ none → accessCell m a .cell .d b ≡ m .d b
 unfolding none
 decision-stays m (LoadCell k) b s l n = refl
 decision-stays m (Load c f) b s l n = refl
@@ -95,9 +95,9 @@ decision-stays m (Store c Y x) b s l n = refl
 decision-stays m (Store c C x) b s l n = refl
 decision-stays m (Store c Field.V x) b s l n = refl
 decision-stays m (Store c D x) b s l n = absurd s
-decision-stays m (DecideCas c x) b s l n = by-test (λ (z : Memory). z .cell .d b ≡ m .d b) (eqb (m .d c) noValue) (memory (store m c D x) 1) (memory m 0)
+decision-stays m (DecideCas c x) b s l n = by-test (λ (z : Accessed). z .cell .d b ≡ m .d b) (eqb (m .d c) noValue) (accessed (store m c D x) 1) (accessed m 0)
     (λ z. upd-off (m .d) c x b (λ e. n (ap (m .d) e ∙ eqb-true _ _ z))) (λ z. refl)
-decision-stays m (InstallCas k c x) b s l n = by-test (λ (z : Memory). z .cell .d b ≡ m .d b) (eqb (m .current) c) (memory (install m x) 1) (memory m 0) (λ z. refl) (λ z. refl)
+decision-stays m (InstallCas k c x) b s l n = by-test (λ (z : Accessed). z .cell .d b ≡ m .d b) (eqb (m .current) c) (accessed (install m x) 1) (accessed m 0) (λ z. refl) (λ z. refl)
 decision-stays m (Allocate x) b s l n = upd-off (m .d) (m .next) _ b (λ e. omega arith)
 decision-stays m Nothing b s l n = refl
 
@@ -136,10 +136,10 @@ module _ (v : ℕ) (w : World) (i : Reachable v w) (r : Trace) (s : Sound w r) (
     m = w .cell (q .cell)
 
     abbrev cells : ℕ → Cell
-    cells = upd (w .cell) (q .cell) (perform m (accessOf t q) .cell)
+    cells = upd (w .cell) (q .cell) (accessCell m (accessOf t q) .cell)
 
     abbrev next : Next
-    next = nextOf t q (perform m (accessOf t q) .value)
+    next = nextOf t q (accessCell m (accessOf t q) .value)
 
     -- a call's decision stays when t steps
     stays : (u : ℕ) → through25 (r .did u) ≡ true → Expected cells (w .records u)
@@ -149,8 +149,8 @@ module _ (v : ℕ) (w : World) (i : Reachable v w) (r : Trace) (s : Sound w r) (
         let low = task u .value .there (every-in holding later tt (now u) ℓ) in
         let decided : w .cell (p .cell) .d (p .held) ≢ none = λ z. task u .self .ev-some (every-in swapping later tt (now u) ℓ) (sym (o .late u h) ∙ z) in
         let kept = decision-stays (w .cell (p .cell)) (accessOf t q) (p .held) (every-line (λ k. spares (accessAt k t q)) tt (lineOf q)) low decided in
-        upd-cases (λ (c : Cell). c .d (p .held) ≡ p .expected) (w .cell) (q .cell) (perform m (accessOf t q) .cell) (p .cell)
-        (λ e. subst (λ k. perform (w .cell k) (accessOf t q) .cell .d (p .held) ≡ p .expected) e (kept ∙ o .late u h)) (λ e. o .late u h)
+        upd-cases (λ (c : Cell). c .d (p .held) ≡ p .expected) (w .cell) (q .cell) (accessCell m (accessOf t q) .cell) (p .cell)
+        (λ e. subst (λ k. accessCell (w .cell k) (accessOf t q) .cell .d (p .held) ≡ p .expected) e (kept ∙ o .late u h)) (λ e. o .late u h)
 
     -- line 25 found another value than the new one: the swap is not placed, so the decision is the expected value
     came-late : now t ≡ l3 for25 → m .d (q .held) ≢ q .new → m .d (q .held) ≡ q .expected
@@ -170,7 +170,7 @@ module _ (v : ℕ) (w : World) (i : Reachable v w) (r : Trace) (s : Sound w r) (
 
         go : (through25 (r .did t) ≡ true) ⊎ (now t ≡ l3 for25) → Goes cells next
         go (inl k) = kept next (keeps t _ (counted q (accessOf t q)) (now t) (its-line t k)) (stays t k)
-        go (inr e) = subst (λ ℓ. let x = perform m (accessAt ℓ t q) in Goes (upd (w .cell) (q .cell) (x .cell)) (nextAt ℓ t (counted q (accessAt ℓ t q)) (x .value))) (sym e)
+        go (inr e) = subst (λ ℓ. let x = accessCell m (accessAt ℓ t q) in Goes (upd (w .cell) (q .cell) (x .cell)) (nextAt ℓ t (counted q (accessAt ℓ t q)) (x .value))) (sym e)
             (by-test (Goes (upd (w .cell) (q .cell) m)) (eqb (m .d (q .held)) (q .new)) _ _ (λ z. tt)
             (λ z. ap (λ (c : Cell). c .d (q .held)) (upd-same (w .cell) (q .cell) m) ∙ came-late e (eqb-false _ _ z)))
 
@@ -183,7 +183,7 @@ module _ (v : ℕ) (w : World) (i : Reachable v w) (r : Trace) (s : Sound w r) (
 
         go : (through25 (r .did t) ≡ true) ⊎ (now t ≡ l3 for25) → ⊥
         go (inl k) =
-            let y = subst (λ ℓ. nextAt ℓ t (counted q (accessAt ℓ t q)) (perform m (accessAt ℓ t q) .value) ≡ Done f) at-28 e in
+            let y = subst (λ ℓ. nextAt ℓ t (counted q (accessAt ℓ t q)) (accessCell m (accessAt ℓ t q) .value) ≡ Done f) at-28 e in
             let g = rw (eq-eqb _ _ (o .late t k)) at y in
             let b : _≡_ {A = ℕ} 0 1 = cc in omega arith
         go (inr k) = false≢true (sym (ap (same (l3 for25)) (sym k ∙ at-28)))
@@ -194,16 +194,16 @@ module _ (v : ℕ) (w : World) (i : Reachable v w) (r : Trace) (s : Sound w r) (
     put c p did = upd-both (λ u did p. through25 did ≡ true → Expected c p) (r .did) (w .records) t did p
 
     line-kept : (n : Next) → next ≡ n → (through25 (didLine now r t) ≡ true → Goes cells n)
-        → NotNinth (withBoth w (q .cell) (perform m (accessOf t q) .cell) t (recordAfter n)) (enterLine now r (step t) (eventOf (tried t q) (outcomeOf n)))
+        → NotNinth (withBoth w (q .cell) (accessCell m (accessOf t q) .cell) t (recordAfter n)) (enterLine now r (step t) (eventOf (tried t q) (outcomeOf n)))
     line-kept (Go p) e g = record { late = put cells p (didLine now r t) g stays; done = o .done }
     line-kept (Done f) e g = record { late = put cells idle [] (λ h. absurd (false≢true h)) stays; done = with-first (λ x. x .lines ≢ by25) _ (r .done) (ends f e) (o .done) }
 
-    step-kept : {f : After} → Stepped w t (r .did t) f → NotNinth (f .world) (enterLine now r (step t) (eventOf (tried t q) (f .outcome)))
-    unfolding ran
+    step-kept : {f : WorldAfter} → Stepped w t (r .did t) f → NotNinth (f .world) (enterLine now r (step t) (eventOf (tried t q) (f .outcome)))
+    unfolding figureRan
     step-kept (Stepped.refuses n e) = o
     step-kept (runs n p) = line-kept next refl goes-on
 
-    begin-kept : (op : Op) {f : After} → Begun w t op f → NotNinth (f .world) (enterLine now r (begin t op) (eventOf 0 (f .outcome)))
+    begin-kept : (op : Op) {f : WorldAfter} → Begun w t op f → NotNinth (f .world) (enterLine now r (begin t op) (eventOf 0 (f .outcome)))
     begin-kept op (Begun.refuses n) = o
     begin-kept op (starts a) = record { late = put (w .cell) (firstOf op) [] (λ h. absurd (false≢true h)) (o .late); done = o .done }
 

@@ -20,7 +20,7 @@ use Rattle.lines.specs.Lines.{Line, l1, l2, l3, l10, l11, l12, l15, l16, l17, l
 use Rattle.questions.proofs.Numbers.{number}
 use Rattle.history.specs.Basics.{upd}
 use Rattle.history.proofs.Basics.{upd-at, upd-same, upd-off, upd-cases}
-use Rattle.figure.specs.Figure.{Cell, store, Memory, memory, perform}
+use Rattle.figure.specs.Figure.{Cell, store, Accessed, accessed, accessCell}
 use Rattle.figure.proofs.LineLaws.{by-test}
 use Rattle.figure.proofs.Classes.{holding, swapping, uncontended, lies-in}
 
@@ -85,13 +85,13 @@ module _ (m : Cell) (f : ℕ → Record) (t : ℕ) (z : Quiet m f t) where
   Goes m′ (Go r) = Quiet m′ (upd f t r) t
   Goes m′ (Done x) = Unit {0}
 
-  abbrev Does : Line → Memory → Type 0
+  abbrev Does : Line → Accessed → Type 0
   Does ℓ x = Goes (x .cell) (nextAt ℓ t (counted q (accessAt ℓ t q)) (x .value))
 
   unhard : q .hard + 0 ≡ 0
   unhard = omega (arith, z .no-hard)
 
-  pub quiet-step : (ℓ : Line) → lineOf q ≡ ℓ → T (uncontended ℓ) → Does ℓ (perform m (accessAt ℓ t q))
+  pub quiet-step : (ℓ : Line) → lineOf q ≡ ℓ → T (uncontended ℓ) → Does ℓ (accessCell m (accessAt ℓ t q))
   quiet-step l10 e b = onward l10 e l11 _ refl tt refl refl (λ x. absurd x) (λ x. absurd x)
   quiet-step l11 e b = onward l11 e l12 _ refl tt refl (here-at l11 e tt) (λ x. absurd x) (λ x. absurd x)
   quiet-step l12 e b = by-test (Goes m) (eqb (m .c (q .held)) 0) _ _ (λ x. tt) (λ x. absurd (eqb-false _ _ x (active-at l12 e tt)))
@@ -142,10 +142,10 @@ harmless Nothing = true
 abbrev SameWords : Cell → Cell → Type 0
 SameWords m m′ = (m′ .current ≡ m .current) × (m′ .c ≡ m .c) × (m′ .y ≡ m .y) × (m′ .x ≡ m .x)
 
-same-words : (m : Cell) (a : Access) → T (harmless a) → SameWords m (perform m a .cell)
+same-words : (m : Cell) (a : Access) → T (harmless a) → SameWords m (accessCell m a .cell)
 same-words m (LoadCell k) h = (refl, refl, refl, refl)
 same-words m (Load b f) h = (refl, refl, refl, refl)
-same-words m (DecideCas b n) h = by-test (λ (x : Memory). SameWords m (x .cell)) (eqb (m .d b) noValue) (memory (store m b D n) 1) (memory m 0) (λ z. (refl, refl, refl, refl)) (λ z. (refl, refl, refl, refl))
+same-words m (DecideCas b n) h = by-test (λ (x : Accessed). SameWords m (x .cell)) (eqb (m .d b) noValue) (accessed (store m b D n) 1) (accessed m 0) (λ z. (refl, refl, refl, refl)) (λ z. (refl, refl, refl, refl))
 same-words m Nothing h = (refl, refl, refl, refl)
 same-words m (Store b f n) h = absurd h
 same-words m (InstallCas k b n) h = absurd h
@@ -169,7 +169,7 @@ others m m′ f t u r w z ne n =
     at p q = λ j. p j (q j)
 
 -- a task u that swaps nothing takes a step, to another line that swaps nothing
-pub others-step : (m : Cell) (f : ℕ → Record) (t u : ℕ) (r : Record) → Quiet m f t → t ≢ u → (T (swapping (lineOf r)) → ⊥) → (T (swapping (lineOf (f u))) → ⊥) → Quiet (perform m (accessAt (lineOf (f u)) u (f u)) .cell) (upd f u r) t
+pub others-step : (m : Cell) (f : ℕ → Record) (t u : ℕ) (r : Record) → Quiet m f t → t ≢ u → (T (swapping (lineOf r)) → ⊥) → (T (swapping (lineOf (f u))) → ⊥) → Quiet (accessCell m (accessAt (lineOf (f u)) u (f u)) .cell) (upd f u r) t
 others-step m f t u r z ne n n′ = others m _ f t u r
     (same-words m (accessAt (lineOf (f u)) u (f u)) (lies-in (λ l. not (swapping l)) (λ l. harmless (accessAt l u (f u))) tt (lineOf (f u)) (not-T (swapping (lineOf (f u))) n′))) z ne n
 

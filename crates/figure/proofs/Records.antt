@@ -19,7 +19,7 @@ use Rattle.lines.specs.Record.{firstRead, firstSwap}
 use Rattle.history.specs.Basics.{upd, _∈_}
 use Rattle.history.specs.History.{Op, read, swap, cellOf, Action, begin, step, Report, run}
 use Rattle.history.proofs.Basics.{either, upd-at, upd-off, upd-cases}
-use Rattle.figure.specs.Figure.{Cell, World, withRecord, withBoth, After, leaving, unless, recordAfter, outcomeOf, ran, stepped, begins, opening, figure, perform}
+use Rattle.figure.specs.Figure.{Cell, World, withTask, withBoth, WorldAfter, worldAfter, unlessRefused, recordAfter, outcomeOf, figureRan, figureStepped, figureBegun, opening, figure, accessCell}
 use Rattle.cells.specs.Events.{answerOf, reportOf, eventOf, tried}
 use Rattle.figure.specs.Paths.{count, Traced, Trace, didLine, enterLine, traces}
 use Rattle.figure.specs.Paths as Paths
@@ -136,19 +136,19 @@ pub record Accepted (w : World) (t : ℕ) (op : Op) : Type 0 where
   pub free : isIdle (w .records t) ≡ true
   pub values : valuesFit (firstOf op) ≡ true
 
-pub data Begun (w : World) (t : ℕ) (op : Op) : After → Type 0 where
-  refuses : (n : ℕ) → Begun w t op (leaving w (Refused n))
-  starts : Accepted w t op → Begun w t op (leaving (withRecord w t (firstOf op)) Acted)
+pub data Begun (w : World) (t : ℕ) (op : Op) : WorldAfter → Type 0 where
+  refuses : (n : ℕ) → Begun w t op (worldAfter w (Refused n))
+  starts : Accepted w t op → Begun w t op (worldAfter (withTask w t (firstOf op)) Acted)
 
-pub begin-cases : (w : World) (t : ℕ) (op : Op) → Begun w t op (begins w t op)
-unfolding begins
+pub begin-cases : (w : World) (t : ℕ) (op : Op) → Begun w t op (figureBegun w t op)
+unfolding figureBegun
 begin-cases w t op = go op
   where
-    by : (op : Op) {l : List Question} {o : Option ℕ} → Asked l o → (AllYes l → Accepted w t op) → Begun w t op (unless o w (leaving (withRecord w t (firstOf op)) Acted))
+    by : (op : Op) {l : List Question} {o : Option ℕ} → Asked l o → (AllYes l → Accepted w t op) → Begun w t op (unlessRefused o w (worldAfter (withTask w t (firstOf op)) Acted))
     by op (denied n h) f = refuses n
     by op (granted y) f = starts (f y)
 
-    go : (op : Op) → Begun w t op (begins w t op)
+    go : (op : Op) → Begun w t op (figureBegun w t op)
     go (read k) = by (read k) (ask (beginQuestions (w .tasks) (w .cells) (w .records t) t k))
         (λ y. record { task = ltb-true _ _ (y .0); cell = ltb-true _ _ (y .1 .0); free = y .1 .1 .0; values = refl })
     go (swap k e n) = by (swap k e n) (ask (swapQuestions (w .tasks) (w .cells) (w .records t) t k e n))
@@ -159,15 +159,15 @@ abbrev pub OnPath : (tasks cells t : ℕ) → List Line → Record → Type 0
 OnPath n v t did q = ((q ≡ idle) × (did ≡ [])) ⊎ ((t < n) × Pending v did q)
 
 -- a step is refused where no call is pending, and only there
-pub data Stepped (w : World) (t : ℕ) (did : List Line) : After → Type 0 where
-  refuses : (n : ℕ) → w .records t ≡ idle → Stepped w t did (leaving w (Refused n))
-  runs : t < w .tasks → Pending (w .cells) did (w .records t) → Stepped w t did (ran w t (w .records t))
+pub data Stepped (w : World) (t : ℕ) (did : List Line) : WorldAfter → Type 0 where
+  refuses : (n : ℕ) → w .records t ≡ idle → Stepped w t did (worldAfter w (Refused n))
+  runs : t < w .tasks → Pending (w .cells) did (w .records t) → Stepped w t did (figureRan w t (w .records t))
 
-pub step-cases : (w : World) (t : ℕ) (did : List Line) → OnPath (w .tasks) (w .cells) t did (w .records t) → Stepped w t did (stepped w t)
-unfolding stepped
+pub step-cases : (w : World) (t : ℕ) (did : List Line) → OnPath (w .tasks) (w .cells) t did (w .records t) → Stepped w t did (figureStepped w t)
+unfolding figureStepped
 step-cases w t did p = go (ask (stepQuestions (w .tasks) (w .records t) t)) p
   where
-    go : {o : Option ℕ} → Asked (stepQuestions (w .tasks) (w .records t) t) o → OnPath (w .tasks) (w .cells) t did (w .records t) → Stepped w t did (unless o w (ran w t (w .records t)))
+    go : {o : Option ℕ} → Asked (stepQuestions (w .tasks) (w .records t) t) o → OnPath (w .tasks) (w .cells) t did (w .records t) → Stepped w t did (unlessRefused o w (figureRan w t (w .records t)))
     go (denied n h) (inl i) = refuses n (i .0)
     go (denied n h) (inr (m, o)) = absurd (h (lt-ltb _ _ m, (rw (not-idle (w .records t) (o .line)), tt)))
     go (granted y) (inl i) = absurd (false≢true (rw (i .0) at (y .1 .0)))
@@ -227,7 +227,7 @@ module _ (w : World) (r : Trace) (s : Sound w r) where
   put-begun : (t : ℕ) (q : Record) → Begins (r .op t) q → (u : ℕ) → Begins (r .op u) (upd (w .records) t q u)
   put-begun t q b u = upd-cases (Begins (r .op u)) (w .records) t q u (λ e. rw e b) (λ e. s .begun u)
 
-  begin-sound : (t : ℕ) (op : Op) {f : After} → Begun w t op f → Sound (f .world) (enterLine now r (begin t op) (eventOf 0 (f .outcome)))
+  begin-sound : (t : ℕ) (op : Op) {f : WorldAfter} → Begun w t op f → Sound (f .world) (enterLine now r (begin t op) (eventOf 0 (f .outcome)))
   begin-sound t op (refuses n) = s
   begin-sound t op (starts a) = record {
     pending = put t (firstOf op) [] (inr (a .task, first-on-path w t op a));
@@ -259,11 +259,11 @@ module _ (w : World) (r : Trace) (s : Sound w r) where
       complete = with-first CompleteCall _ (r .done) (rw its-op k) (s .complete);
     }
 
-  step-sound : (t : ℕ) {f : After} → Stepped w t (r .did t) f → Sound (f .world) (enterLine now r (step t) (eventOf (tried t (w .records t)) (f .outcome)))
-  unfolding ran
+  step-sound : (t : ℕ) {f : WorldAfter} → Stepped w t (r .did t) f → Sound (f .world) (enterLine now r (step t) (eventOf (tried t (w .records t)) (f .outcome)))
+  unfolding figureRan
   step-sound t (refuses n i) = s
   step-sound t (runs m o) =
-      let c = perform (w .cell (w .records t .cell)) (accessOf t (w .records t)) in
+      let c = accessCell (w .cell (w .records t .cell)) (accessOf t (w .records t)) in
       line-sound t m o (c .cell) (led (w .cells) (r .did t) (w .records t) o t (c .value)) (one-line (w .cells) (r .did t) (w .records t) o t (c .value))
 
   pub act-sound : (a : Action) → Sound (figure w a .0) (enterLine now r a (figure w a .1))
@@ -293,15 +293,15 @@ abbrev pub SameSizes : World → World → Type 0
 SameSizes w w' = (w' .tasks ≡ w .tasks) × (w' .cells ≡ w .cells)
 
 pub act-sizes : (w : World) (a : Action) → SameSizes w (figure w a .0)
-unfolding stepped ran
+unfolding figureStepped figureRan
 act-sizes w (begin t op) = go (begin-cases w t op)
   where
-    go : {f : After} → Begun w t op f → SameSizes w (f .world)
+    go : {f : WorldAfter} → Begun w t op f → SameSizes w (f .world)
     go (refuses n) = (refl, refl)
     go (starts a) = (refl, refl)
 act-sizes w (step t) = go (refusal (stepQuestions (w .tasks) (w .records t) t))
   where
-    go : (o : Option ℕ) → SameSizes w (unless o w (ran w t (w .records t)) .world)
+    go : (o : Option ℕ) → SameSizes w (unlessRefused o w (figureRan w t (w .records t)) .world)
     go none = (refl, refl)
     go (some n) = (refl, refl)
 

@@ -19,7 +19,7 @@ use Rattle.lines.specs.Lines.{Wanted, for13, for25, for28, Line, l1, l2, l3, l1
 use Rattle.history.specs.Basics.{upd}
 use Rattle.history.proofs.Basics.{either, upd-at, upd-off}
 use Rattle.history.proofs.Simulation.{Phase, settled, frozen, late}
-use Rattle.figure.specs.Figure.{Cell, store, install, Memory, memory, perform}
+use Rattle.figure.specs.Figure.{Cell, store, install, Accessed, accessed, accessCell}
 use Rattle.figure.proofs.Classes.{is, figureLine, busy, holding, swapping, stored, lies-in}
 use Rattle.figure.proofs.LineLaws.{wanted-is, by-test}
 use Rattle.figure.proofs.Invariant.{none, View, Knowledge, PhaseIs, line, held, Inv}
@@ -308,14 +308,14 @@ module _ (s : View) (κ : Knowledge) (κ⁺ : Phase → ℕ → Knowledge) (t : 
 
   -- ALL LINES
 
-  abbrev Does : Line → Memory → Type 0
+  abbrev Does : Line → Accessed → Type 0
   Does ℓ x = Out s κ κ⁺ t (x .cell) (nextAt ℓ t (counted q (accessAt ℓ t q)) (x .value))
 
-  pub each : (ℓ : Line) → line s t ≡ ℓ → T (busy ℓ) → Does ℓ (perform m (accessAt ℓ t q))
+  pub each : (ℓ : Line) → line s t ≡ ℓ → T (busy ℓ) → Does ℓ (accessCell m (accessAt ℓ t q))
   unfolding none
   each (l1 x) e b = looks (l2 x) _ (same-wanted q x .0 e) (from1 s κ₁ i⁺ t (accessAt (l1 x) t q) 2 (q .wanted) x e (at-line (l1 x) e))
   each (l2 x) e b =
-      by-test (Does (l2 x)) (eqb (m .d (q .held)) noValue) (memory (store m (q .held) D (q .loaded)) 1) (memory m 0) (λ z. decides x e (eqb-true _ _ z))
+      by-test (Does (l2 x)) (eqb (m .d (q .held)) noValue) (accessed (store m (q .held) D (q .loaded)) 1) (accessed m 0) (λ z. decides x e (eqb-true _ _ z))
       (λ z. looks (l3 x) _ (same-wanted q x .1 e) (from2 s κ₁ i⁺ t (accessAt (l2 x) t q) 3 (q .wanted) x (at-line (l2 x) e) (eqb-false _ _ z)))
   each (l3 for13) e b = let k = known (l3 for13) e .task in let d = k .decided .decided tt in reads-it (l3 for13) e tt tt (λ x. x) (m .d (q .held)) (decided13 (k .seen .decision tt d)) d
   each (l3 for25) e b =
@@ -375,7 +375,7 @@ module _ (s : View) (κ : Knowledge) (κ⁺ : Phase → ℕ → Knowledge) (t : 
   each l29 e b = record { change = still; can = tt; kept = Replacing.kept-grown s κ₁ t i⁺ e (accessAt l29 t q) 30 (q .wanted) refl; current = λ n. refl }
   each l30 e b =
       let k = known l30 e .task in
-      by-test (Does l30) (eqb (m .current) (q .held)) (memory (install m (q .taken)) 1) (memory m 0) (λ z. (installs e (sym (eqb-true _ _ z)), acts refl (rw e refl)))
+      by-test (Does l30) (eqb (m .current) (q .held)) (accessed (install m (q .taken)) 1) (accessed m 0) (λ z. (installs e (sym (eqb-true _ _ z)), acts refl (rw e refl)))
       (λ z. let r = k .seen .replaced tt (λ h. eqb-false _ _ z (sym h)) in
       (leaves (unawaited l30 e (λ x. x)), declines-it l30 e tt tt (λ x. x) (r .0) (replaced30 (r .1) refl) (λ g. r .2 (g ∙ sym (k .decided .expected tt)))))
   each nowhere e b = absurd b

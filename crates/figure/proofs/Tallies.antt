@@ -18,7 +18,7 @@ use Rattle.history.specs.History.{Op, read, swap, Action, begin, step, Answer}
 use Rattle.history.specs.Demand3.{most, mostHard}
 use Rattle.history.proofs.Basics.{either, upd-at, upd-off}
 use Rattle.history.proofs.Simulation.{Tally, first, Follows}
-use Rattle.figure.specs.Figure.{Cell, World, After, withBoth, recordAfter, outcomeOf, ran, figure, perform}
+use Rattle.figure.specs.Figure.{Cell, World, WorldAfter, withBoth, recordAfter, outcomeOf, figureRan, figure, accessCell}
 use Rattle.cells.specs.Events.{eventOf, tried}
 use Rattle.figure.specs.Paths.{readPaths, paths, count}
 use Rattle.figure.proofs.AsBegun.{opOf, kind-of, cell-of}
@@ -66,7 +66,7 @@ module _ (w : World) where
       go (inl i) = rw (upd-at (w .records) t q u i, upd-at (doing w) t x u i) e
       go (inr i) = rw (upd-off (w .records) t q u i, upd-off (doing w) t x u i)
 
-  begin-follows : (t : ℕ) (op : Op) {f : After} → Begun w t op f → Follows doing (w .cells) w (begin t op) (f .world) (eventOf 0 (f .outcome))
+  begin-follows : (t : ℕ) (op : Op) {f : WorldAfter} → Begun w t op f → Follows doing (w .cells) w (begin t op) (f .world) (eventOf 0 (f .outcome))
   begin-follows t op (Begun.refuses n) = refl
   begin-follows t op (starts a) = record { idle = rw (a .free); cell = a .cell; untried = refl; rest = put t (firstOf op) (some (first op)) (new op) }
     where
@@ -96,11 +96,11 @@ module _ (w : World) where
       few = rw (end .all-hard) (few-hard (opOf q) _ _ (end .path));
     }
 
-  step-follows : (t : ℕ) (did : List Line) {f : After} → Stepped w t did f → Follows doing (w .cells) w (step t) (f .world) (eventOf (tried t (w .records t)) (f .outcome))
-  unfolding ran
+  step-follows : (t : ℕ) (did : List Line) {f : WorldAfter} → Stepped w t did f → Follows doing (w .cells) w (step t) (f .world) (eventOf (tried t (w .records t)) (f .outcome))
+  unfolding figureRan
   step-follows t did (Stepped.refuses n i) = (refl, rw i)
   step-follows t did (runs m o) =
-      let c = perform (w .cell (w .records t .cell)) (accessOf t (w .records t)) in
+      let c = accessCell (w .cell (w .records t .cell)) (accessOf t (w .records t)) in
       line-follows t did o (c .cell) (led (w .cells) did (w .records t) o t (c .value)) (one-line (w .cells) did (w .records t) o t (c .value))
 
 pub follows : (w : World) → AllOnPath w → (a : Action) → Follows doing (w .cells) w a (figure w a .0) (figure w a .1)

@@ -16,7 +16,7 @@ use Rattle.history.specs.Linearization.{reply, apply}
 use Rattle.history.proofs.Basics.{either, upd-at, upd-same, upd-off}
 use Rattle.history.proofs.Simulation as Sim
 use Rattle.history.proofs.Simulation.{Phase, settled, frozen, late, Ghost, Tally, Move, shift, Grown, May}
-use Rattle.figure.specs.Figure.{Cell, World, withBoth, recordAfter, perform, figure}
+use Rattle.figure.specs.Figure.{Cell, World, withBoth, recordAfter, accessCell, figure}
 use Rattle.figure.specs.Moments.{Notes, noted, names, sees}
 use Rattle.figure.proofs.LineLaws.{every, lines}
 use Rattle.figure.proofs.Records.{Pending, AllOnPath, OnPath}
@@ -91,10 +91,10 @@ facts w g κ G u = let k = w .records u .cell in subst (λ (r : Record). TaskOf 
 
 -- what the next line of task t makes of its cell, what follows, and the figure afterwards
 abbrev pub cellAfter : World → ℕ → Cell
-cellAfter w t = perform (w .cell (w .records t .cell)) (accessOf t (w .records t)) .cell
+cellAfter w t = accessCell (w .cell (w .records t .cell)) (accessOf t (w .records t)) .cell
 
 abbrev pub nextAfter : World → ℕ → Next
-nextAfter w t = nextOf t (w .records t) (perform (w .cell (w .records t .cell)) (accessOf t (w .records t)) .value)
+nextAfter w t = nextOf t (w .records t) (accessCell (w .cell (w .records t .cell)) (accessOf t (w .records t)) .value)
 
 abbrev pub stepAfter : World → ℕ → World
 stepAfter w t = withBoth w (w .records t .cell) (cellAfter w t) t (recordAfter (nextAfter w t))
@@ -170,7 +170,7 @@ module _ (w : World) (notes : Notes) (g : Ghost) (κ : Sim.Knowledge) (G : Good 
   }
 
   pub out : Out s κ₀ κ⁺ t (cellAfter w t) (nextAfter w t)
-  out = subst (λ (r : Record). let m = perform (w .cell k) (accessOf t r) in Out s κ₀ κ⁺ t (m .cell) (nextOf t r (m .value))) here
+  out = subst (λ (r : Record). let m = accessCell (w .cell k) (accessOf t r) in Out s κ₀ κ⁺ t (m .cell) (nextOf t r (m .value))) here
       (each s κ₀ κ⁺ t (G .cells k) (λ z. G .eager t (tally q) (busy-doing q is-busy) (ap (g .phase) on-k ∙ z)) future (line s t) refl (rw its-line is-busy))
 
   -- THE MOVE
