@@ -17,7 +17,7 @@ use Rattle.history.specs.History.{Op, read, swap, cellOf}
 use Rattle.history.proofs.Basics.{either, upd-same, upd-off}
 use Rattle.history.proofs.Simulation.{late, Ghost, unplaced, Grown}
 use Rattle.history.proofs.Simulation as Sim
-use Rattle.figure.specs.Figure.{World, withRecord, opening, figure}
+use Rattle.figure.specs.Figure.{World, withTask, opening, figure}
 use Rattle.figure.specs.Moments.{Notes, nothingNoted, names, sees}
 use Rattle.figure.proofs.Records.{AllOnPath, OnPath, Accepted, firstOf, not-idle, opening-on-path}
 use Rattle.figure.proofs.Tallies.{tallyOf}
@@ -73,7 +73,7 @@ module _ (w : World) (g : Ghost) (κ : Knowledge) (G : Good w g κ) (t : ℕ) (o
 
 module _ (w : World) (notes : Notes) (g : Ghost) (κ : Sim.Knowledge) (G : Good w g (known notes κ)) (t : ℕ) (op : Op) (a : Accepted w t op) where
   abbrev w′ : World
-  w′ = withRecord w t (firstOf op)
+  w′ = withTask w t (firstOf op)
 
   abbrev g′ : Ghost
   g′ = unplaced g t

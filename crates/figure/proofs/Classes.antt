@@ -1,12 +1,14 @@
 -- Classes of lines, as tests of their numbers, and which class lies in which: each inclusion is one test computed over all lines.
 use mathlib.Core.Bool.{Bool, true, false, not, _&&_, _||_, cond}
+use mathlib.Core.List.{[], _∷_}
 use Prim.Native.Nat.{ℕ}
-use lib.Dec.{eqb, T}
+use lib.Dec.{eqb, T, not-T}
 use Rattle.lines.specs.Basics.{within}
 use Rattle.lines.specs.Lines.{Wanted, for13, for25, for28, Line, l1, l2, l3, l10, l11, l12, l15, l16, l17, l18, l19, l20, l21, l22, l23, l24, l26, l27, l29, l30, nowhere}
 use Rattle.questions.specs.Questions.{ofKind}
+use Rattle.history.specs.Basics.{_∈_}
 use Rattle.questions.proofs.Numbers.{number}
-use Rattle.figure.proofs.LineLaws.{every, every-line, lines}
+use Rattle.figure.proofs.LineLaws.{every, every-line, has, has-in, lines, same, same-is}
 use Rattle.figure.proofs.LineLaws as Laws
 
 abbrev pub wantedBy : Wanted → ℕ
@@ -119,3 +121,7 @@ lies-in a b h ℓ = implies (a ℓ) (b ℓ) (every-line (λ ℓ. not (a ℓ) || 
 -- two classes have no line in common
 pub are-apart : (a b : Line → Bool) → T (every (λ ℓ. not (a ℓ && b ℓ)) lines) → (ℓ : Line) → T (a ℓ) → T (b ℓ) → ⊥
 are-apart a b h ℓ = excludes (a ℓ) (b ℓ) (every-line (λ ℓ. not (a ℓ && b ℓ)) h ℓ)
+
+-- who holds no block yet
+pub holds-not : (ℓ : Line) → (T (holding ℓ) → ⊥) → ℓ ∈ (nowhere ∷ l10 ∷ l15 ∷ [])
+holds-not ℓ n = has-in same same-is (nowhere ∷ l10 ∷ l15 ∷ []) ℓ (lies-in (λ ℓ. not (holding ℓ)) (has same (nowhere ∷ l10 ∷ l15 ∷ [])) tt ℓ (not-T (holding ℓ) n))

@@ -21,20 +21,21 @@ use Rattle.history.specs.Moments.{before, after, C3, C4, Rule, Spot, changes}
 use Rattle.history.proofs.Basics.{either, upd-at, upd-same, upd-off, upd-cases}
 use Rattle.history.proofs.Simulation as Sim
 use Rattle.history.proofs.Simulation.{Phase, settled, frozen, late, Ghost, unplaced, Tally, Why, Sided, Named}
-use Rattle.figure.specs.Figure.{Cell, World, withRecord, recordAfter, perform, figure}
+use Rattle.figure.specs.Figure.{Cell, World, withTask, recordAfter, accessCell, figure}
 use Rattle.cells.specs.Events.{answerOf}
 use Rattle.figure.specs.Moments.{Notes, nothingNoted, noted, Sight, holdsBlock, sees, names, at, effect, lineC6, rules, ruleAt, ruled, stands}
-use Rattle.figure.proofs.LineLaws.{both, every, every-line, lines, same, same-is, extends, Leads, goes, done}
+use Rattle.figure.proofs.LineLaws.{both, every, every-line, lines, same, same-is, extends, Leads, goes, done, by-test}
 use Rattle.figure.proofs.LineLaws as Laws
 use Rattle.figure.proofs.Records.{Pending, led}
-use Rattle.figure.proofs.Tallies.{opOf, doing}
+use Rattle.figure.proofs.AsBegun.{opOf, cell-of}
+use Rattle.figure.proofs.Tallies.{doing}
 use Rattle.figure.proofs.Classes.{is, figureLine, busy, holding, swapping, stored, storing, replacing, lies-in, are-apart}
 use Rattle.figure.proofs.Invariant.{View, Knowledge, Owner, TaskOf, line, held}
 use Rattle.figure.proofs.Looking.{settled≢late, active-settled}
 use Rattle.figure.proofs.Notes.{cond-true, cond-false, with, equal, holds-block, figure-line-is, keeps-stored, keeps-inactive, notes-stored, notes-inactive}
-use Rattle.figure.proofs.Steps.{Change, still, act, freeze, delay, settle, land, phaseAfter, Can, Saw, loaded12, decided13, loaded22, decided28, replaced30, Reason, acts, acted, reads, declines, by-test}
+use Rattle.figure.proofs.Steps.{Change, still, act, freeze, delay, settle, land, phaseAfter, Can, Saw, loaded12, decided13, loaded22, decided28, replaced30, Reason, acts, acted, reads, declines}
 use Rattle.figure.proofs.Views.{on-in, view}
-use Rattle.figure.proofs.Operations.{cell-of, busy-line, reads-right, swap-no}
+use Rattle.figure.proofs.Operations.{busy-line, reads-right, swap-no}
 use Rattle.figure.proofs.Worlds as Worlds
 use Rattle.figure.proofs.Worlds.{Good, doingIn, clock, known, facts, there, pending-at, cellAfter, nextAfter, stepAfter}
 use Rattle.figure.proofs.Quietly.{is-busy}
@@ -46,7 +47,7 @@ pub record Dated (w : World) (o : Notes) (g : Ghost) : Type 0 where
   pub since : (u : ℕ) → T (storing (lineOf (w .records u))) → w .records u .held ≡ w .cell (w .records u .cell) .current → g .phase (w .records u .cell) ≢ settled → o .inactive u ≡ g .since (w .records u .cell)
 
 -- a call begins at a line where it is not storing
-pub dated-begun : (w : World) (notes : Notes) (g : Ghost) → Dated w notes g → (t : ℕ) (q : Record) → (T (storing (lineOf q)) → ⊥) → Dated (withRecord w t q) (nothingNoted notes) (unplaced g t)
+pub dated-begun : (w : World) (notes : Notes) (g : Ghost) → Dated w notes g → (t : ℕ) (q : Record) → (T (storing (lineOf q)) → ⊥) → Dated (withTask w t q) (nothingNoted notes) (unplaced g t)
 dated-begun w notes g D t q h = record {
   placed = λ u. upd-cases (λ a. T (busy (lineOf (upd (w .records) t q u))) → T a → g .when u ≡ effect notes u) (g .placed) t false u (λ e b z. absurd z) (λ e b. D .placed u (rw (upd-off (w .records) t q u e) at b));
   since = λ u. upd-cases (λ (r : Record). T (storing (lineOf r)) → r .held ≡ w .cell (r .cell) .current → g .phase (r .cell) ≢ settled → notes .inactive u ≡ g .since (r .cell)) (w .records) t q u (λ e b. absurd (h b)) (λ e. D .since u);
@@ -228,7 +229,7 @@ module _ (w : World) (notes : Notes) (g : Ghost) (κ : Sim.Knowledge) (G : Good 
 
     -- what t's step leads to, by its line; which line it is, by its number
     abbrev next : Line → Next
-    next l = nextAt l t (counted q (accessAt l t q)) (perform m (accessAt l t q) .value)
+    next l = nextAt l t (counted q (accessAt l t q)) (accessCell m (accessAt l t q) .value)
 
     line-is : (n : ℕ) (l : Line) → T (every (λ ℓ. not (is n ℓ) || same ℓ l) lines) → T (is n ℓ) → ℓ ≡ l
     line-is n l h b = same-is ℓ l (lies-in (is n) (λ ℓ. same ℓ l) h ℓ b)
@@ -239,7 +240,7 @@ module _ (w : World) (notes : Notes) (g : Ghost) (κ : Sim.Knowledge) (G : Good 
       where
         -- line 30 ends the call
         ends : T (busy (lineOf (recordAfter (next l30)))) → ⊥
-        ends = by-test (λ (n : Next). T (busy (lineOf (recordAfter n))) → ⊥) (eqb (perform m (accessAt l30 t q) .value) 1) _ _ (λ z b. b) (λ z b. b)
+        ends = by-test (λ (n : Next). T (busy (lineOf (recordAfter n))) → ⊥) (eqb (accessCell m (accessAt l30 t q) .value) 1) _ _ (λ z b. b) (λ z b. b)
 
         acts-now : (T (is 23 (line s t)) × (m .c (held s t) ≡ 0)) ⊎ T (is 30 (line s t)) → T (busy (lineOf (w₁ .records t))) → notes .now ≡ effect notes₁ t
         acts-now (inl (b, z)) y =

@@ -14,7 +14,7 @@ use Rattle.history.proofs.Simulation.{Phase, settled, frozen, late}
 use Rattle.figure.specs.Figure.{store}
 use Rattle.figure.proofs.Classes.{is, busy, holding, swapping, won, loaded, stored, replacing, lies-in, are-apart}
 use Rattle.figure.proofs.Invariant.{none, View, Knowledge, Decided, Seen, Store, Owner, TaskOf, PhaseIs, line, held, Inv}
-use Rattle.figure.proofs.Frame.{moved, Rest, Mine, finish, was, undecided, one-winner, not-taken}
+use Rattle.figure.proofs.Frame.{moved, Rest, Mine, finish, was, undecided, one-winner, not-taken, decided-with}
 use Rattle.figure.proofs.Looking.{off, same-wins, same-loses, settled≢late}
 
 -- whose swap took effect when t decides its block for what it loaded
@@ -79,19 +79,7 @@ module _ (s : View) (κ : Knowledge) (t : ℕ) (x : Wanted) (i : Inv s κ) (e : 
     decided-far u h =
         let r = i .tasks u .decided in
         let z : T (stored (line s u)) → s .cell .d (held s u) ≡ none → ⊥ = λ b g. h (undecided s κ i u (lies-in stored holding tt (line s u) b) g ∙ sym is-L) in
-        record {
-          replaced-decided = r .replaced-decided;
-          decided-inactive = r .decided-inactive;
-          before-store = r .before-store;
-          placed-value = λ b g c. absurd (z b c);
-          placed-decided = λ b g. r .placed-decided b (rw (y .elsewhere u b h) at g);
-          late-inactive = λ b g. r .late-inactive b (rw (y .elsewhere u b h) at g);
-          late-phase = λ b g c. absurd (z b c);
-          late-decided = λ b g. r .late-decided b (rw (y .elsewhere u b h) at g);
-          inactive = r .inactive;
-          decided = r .decided;
-          expected = r .expected;
-        }
+        decided-with r (λ c. c) (λ b. y .elsewhere u b h) (r .replaced-decided) (λ b g c. absurd (z b c)) (λ b g c. absurd (z b c))
 
     task′ : (u : ℕ) → TaskOf done κ u (line s u) (s .task u)
     task′ u = let k = i .tasks u in record {

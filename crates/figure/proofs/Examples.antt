@@ -5,7 +5,7 @@ use Prim.Native.Nat.{ℕ}
 use lib.ListN.{replicate}
 use Rattle.history.specs.Basics.{upd}
 use Rattle.history.specs.History.{Op, swap, aSwap, Action, begin, step, Answer, Yes, No, Event, refused, accepted, answered, history}
-use Rattle.figure.specs.Figure.{opening, ran, stepped, begins, figure}
+use Rattle.figure.specs.Figure.{opening, figureRan, figureStepped, figureBegun, figure}
 
 abbrev ends : List (Action × Event) → List Event
 ends [] = []
@@ -31,20 +31,20 @@ abbrev alone : Op → ℕ → List Action
 alone op n = begin 0 op ∷ steps n 0
 
 pub p5 : five (alone (swap 0 5 5) 3) ≡ swapped 0 Yes 3 0 ∷ []
-unfolding upd ran stepped begins
+unfolding upd figureRan figureStepped figureBegun
 p5 = refl
 
 pub p6 : five (alone (swap 0 4 6) 8) ≡ swapped 0 No 8 0 ∷ []
-unfolding upd ran stepped begins
+unfolding upd figureRan figureStepped figureBegun
 p6 = refl
 
 -- the inactive block is replaced by the swap of 9 to 4, and the new one is active: the next swap attempts no hardware CAS
 pub p9 : five (meeting ++ steps 2 0 ++ steps 5 1 ++ steps 3 0 ++ alone (swap 0 9 4) 9 ++ alone (swap 0 4 6) 10) ≡
     swapped 0 Yes 12 1 ∷ swapped 0 No 7 1 ∷ swapped 1 Yes 9 2 ∷ swapped 0 Yes 10 0 ∷ []
-unfolding upd ran stepped begins
+unfolding upd figureRan figureStepped figureBegun
 p9 = refl
 
 -- task 1 replaces the block; task 0's hardware CAS of it then fails
 pub p10 : five (meeting ++ steps 5 0 ++ steps 10 1 ++ steps 2 0) ≡ swapped 1 Yes 17 3 ∷ swapped 1 No 9 2 ∷ []
-unfolding upd ran stepped begins
+unfolding upd figureRan figureStepped figureBegun
 p10 = refl

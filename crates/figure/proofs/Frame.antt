@@ -2,15 +2,16 @@
 -- invariant again. The quantifiers over tasks are met here once.
 use mathlib.Core.Path.{_≡_, refl, sym, subst, _∙_}
 use mathlib.Core.Logic.{_≢_, _⊎_, inl, inr}
-use mathlib.Core.Bool.{not}
+use mathlib.Core.Bool.{Bool, not}
 use Prim.Native.Nat.{ℕ}
 use lib.Dec.{T}
 use Rattle.lines.specs.declared.Record.{Record}
 use Rattle.lines.specs.Lines.{Line, lineOf}
 use Rattle.history.specs.Basics.{upd}
 use Rattle.history.proofs.Basics.{either, upd-cases}
+use Rattle.history.proofs.Simulation.{Phase, late}
 use Rattle.figure.proofs.Classes.{is, busy, holding, stored, won, checking, viewing, lies-in}
-use Rattle.figure.proofs.Invariant.{none, View, Knowledge, TaskOf, Rival, CurrentOf, line, held, RivalOf, Inv}
+use Rattle.figure.proofs.Invariant.{none, View, Knowledge, Decided, TaskOf, Rival, CurrentOf, line, held, RivalOf, Inv}
 
 abbrev pub moved : View → ℕ → Record → View
 moved s t q = record { cell = s .cell; task = upd (s .task) t q; value = s .value; placed = s .placed; phase = s .phase }
@@ -100,6 +101,24 @@ grow s κ κ′ m i = record { current = i .current; tasks = λ u. more u (line 
         replaced = λ a h. let r = k .seen .replaced a h in (r .0, m .replaced a h _ (r .1), r .2);
       };
     }
+
+-- C stays set, and who stored stays placed or not; what is said anew is of the current block, the value and the phase
+pub decided-with : {u : ℕ} {ℓ : Line} {q : Record} {placed placed′ : Bool} {d c c′ L L′ P P′ : ℕ} {p p′ : Phase} → Decided u ℓ q placed d c L P p
+    → (c ≢ 0 → c′ ≢ 0) → (T (stored ℓ) → placed′ ≡ placed) → (T (holding ℓ) → q .held ≢ L′ → d ≢ none)
+    → (T (stored ℓ) → T placed → d ≡ none → P′ ≡ q .new) → (T (stored ℓ) → T (not placed) → d ≡ none → p′ ≡ late u) → Decided u ℓ q placed′ d c′ L′ P′ p′
+decided-with r set same current value phase = record {
+  replaced-decided = current;
+  decided-inactive = λ b z. set (r .decided-inactive b z);
+  before-store = r .before-store;
+  placed-value = λ b z. value b (subst T (same b) z);
+  placed-decided = λ b z. r .placed-decided b (subst T (same b) z);
+  late-inactive = λ b z. set (r .late-inactive b (subst (λ x. T (not x)) (same b) z));
+  late-phase = λ b z. phase b (subst (λ x. T (not x)) (same b) z);
+  late-decided = λ b z. r .late-decided b (subst (λ x. T (not x)) (same b) z);
+  inactive = λ b. set (r .inactive b);
+  decided = r .decided;
+  expected = r .expected;
+}
 
 -- CONSEQUENCES
 

@@ -1,3 +1,4 @@
+pub mod AsBegun
 pub mod LineLaws
 pub mod Records
 pub mod Paths

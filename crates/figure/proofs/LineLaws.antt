@@ -6,16 +6,22 @@ use mathlib.Core.List.{List, [], _∷_, _++_, map}
 use Prim.Native.Nat.{ℕ, zero, suc}
 use lib.Dec.{eqb, T, eqb→eq}
 use lib.ListN.{getD}
+use borrow.Author.Tests.{eq-eqb, ne-eqb}
 use Rattle.lines.specs.declared.Record.{Record}
 use Rattle.lines.specs.declared.Answer.{Answer}
+use Rattle.lines.specs.declared.Answer.the-variants.{Value, Yes, No}
 use Rattle.lines.specs.declared.Access.{Access}
 use Rattle.lines.specs.declared.Next.{Next}
 use Rattle.lines.specs.declared.Next.the-variants.{Go}
 use Rattle.lines.specs.Record.{idle}
-use Rattle.lines.specs.Lines.{Line, for13, for25, for28, l1, l2, l3, l10, l11, l12, l15, l16, l17, l18, l19, l20, l21, l22, l23, l24, l26, l27, l29, l30, nowhere, lineAt, lineOf, accessAt, loads, stores, hardware, at, answer, nextAt}
-use Rattle.questions.specs.Questions.{ofKind}
+use Rattle.lines.specs.Lines.{Line, for13, for25, for28, l1, l2, l3, l10, l11, l12, l15, l16, l17, l18, l19, l20, l21, l22, l23, l24, l26, l27, l29, l30, nowhere, lineAt, lineOf, accessAt, loads, stores, hardware, at, answer, readAnswer, nextAt}
+use Rattle.questions.specs.Questions.{ofKind, reads, swaps}
 use Rattle.history.specs.Basics.{_∈_}
-use Rattle.figure.specs.Paths.{decision, readActive, readDecided, paths}
+use Rattle.history.specs.History as Event
+use Rattle.history.specs.History.{Op, read, swap}
+use Rattle.cells.specs.Events.{answerOf}
+use Rattle.figure.specs.Paths.{decision, readPaths, yesPaths, noPaths, paths, by25, pathsOf}
+use Rattle.figure.proofs.AsBegun.{opOf, swap-op, Reads, read-op}
 
 -- TESTS OF LISTS
 
@@ -48,6 +54,19 @@ module _ {A : Type 0} (f : A → Bool) where
   every-at [] h d g n = g
   every-at (x ∷ xs) h d g zero = both (f x) (every f xs) h .0
   every-at (x ∷ xs) h d g (suc n) = every-at xs (both (f x) (every f xs) h .1) d g n
+
+-- whichever a test picks
+pub by-test : {A : Type 0} (P : A → Type 0) (b : Bool) (x y : A) → (b ≡ true → P x) → (b ≡ false → P y) → P (cond b x y)
+by-test P true x y f g = f refl
+by-test P false x y f g = g refl
+
+pub has-in : {A : Type 0} (eq : A → A → Bool) → ((x y : A) → T (eq x y) → x ≡ y) → (ys : List A) (x : A) → T (has eq ys x) → x ∈ ys
+has-in eq sound [] x h = absurd h
+has-in eq sound (y ∷ ys) x h = go (eq x y) (sound x y) (has-in eq sound ys x) h
+  where
+    go : (b : Bool) → (T b → x ≡ y) → (T (has eq ys x) → x ∈ ys) → T (b || has eq ys x) → x ∈ (y ∷ ys)
+    go true here there h = inl (here tt)
+    go false here there h = inr (there h)
 
 -- THE LIST OF ALL LINES
 
@@ -108,13 +127,8 @@ same-lines [] (b ∷ y) h = absurd h
 same-lines (a ∷ x) [] h = absurd h
 same-lines (a ∷ x) (b ∷ y) h = let k = both (same a b) _ h in rw (same-is a b (k .0), same-lines x y (k .1))
 
-has-in : (ys : List (List Line)) (x : List Line) → T (has sameLines ys x) → x ∈ ys
-has-in [] x h = absurd h
-has-in (y ∷ ys) x h = go (sameLines x y) (same-lines x y) (has-in ys x) h
-  where
-    go : (b : Bool) → (T b → x ≡ y) → (T (has sameLines ys x) → x ∈ ys) → T (b || has sameLines ys x) → x ∈ (y ∷ ys)
-    go true here there h = inl (here tt)
-    go false here there h = inr (there h)
+among : (ys : List (List Line)) (x : List Line) → T (has sameLines ys x) → x ∈ ys
+among = has-in sameLines same-lines
 
 -- WHICH LINES MAY FOLLOW
 
@@ -130,27 +144,45 @@ beforeAll l (x ∷ xs) = beforeIn l x ++ beforeAll l xs
 abbrev pub before : Line → List (List Line)
 before l = beforeAll l paths
 
-abbrev pub readPaths : List (List Line)
-readPaths = readActive ∷ readDecided ∷ []
-
--- the complete paths of the line's kind: a read's, or all
-abbrev pub endings : Line → List (List Line)
-endings l = cond (ofKind l true false) readPaths paths
-
 -- what stands before the line, with the line, is always one of these
 abbrev pub extends : Line → List (List Line) → Bool
 extends l ys = every (λ d. has sameLines ys (d ++ (l ∷ []))) (before l)
 
 pub extends-in : (l : Line) (ys : List (List Line)) → T (extends l ys) → (d : List Line) → d ∈ before l → (d ++ (l ∷ [])) ∈ ys
-extends-in l ys h d m = has-in ys _ (every-in (λ d. has sameLines ys (d ++ (l ∷ []))) (before l) h d m)
+extends-in l ys h d m = among ys _ (every-in (λ d. has sameLines ys (d ++ (l ∷ []))) (before l) h d m)
 
 -- line k may follow line l and is of the same kind; only the first line changes the block held, from b to h
 abbrev pub MayFollow : Line → Line → (b h : ℕ) → Type 0
 MayFollow l k b h = T (extends l (before k)) × ((read swap : Bool) → ofKind l read swap ≡ ofKind k read swap) × (T (not (same l l10 || same l l15)) → h ≡ b)
 
--- a call may end with the line
-abbrev pub MayEnd : Line → Type 0
-MayEnd l = T (extends l (endings l))
+-- the paths of an operation with this answer; a swap's with the ninth, which takes an invariant to rule out
+abbrev pub waysOf : Op → Event.Answer → List (List Line)
+waysOf (read k) a = pathsOf (read k) a
+waysOf (swap k e n) a = by25 ∷ pathsOf (swap k e n) a
+
+-- they are among the thirteen, a read's among its two
+pub on-paths : (op : Op) (a : Event.Answer) (x : List Line) → x ∈ waysOf op a → x ∈ paths
+on-paths op a x m = among paths x (every-in (has sameLines paths) (waysOf op a) (all op a) x m)
+  where
+    Passes : List (List Line) → Type 0
+    Passes ps = T (every (has sameLines paths) ps)
+
+    all : (op : Op) (a : Event.Answer) → T (every (has sameLines paths) (waysOf op a))
+    all (read k) (Event.Value v) = tt
+    all (read k) Event.Yes = tt
+    all (read k) Event.No = tt
+    all (swap k e n) (Event.Value v) = tt
+    all (swap k e n) Event.Yes = by-test Passes (eqb e n) readPaths yesPaths (λ z. tt) (λ z. tt)
+    all (swap k e n) Event.No = by-test Passes (eqb e n) readPaths noPaths (λ z. tt) (λ z. tt)
+
+pub on-read-paths : (k : ℕ) (a : Event.Answer) (x : List Line) → x ∈ waysOf (read k) a → x ∈ readPaths
+on-read-paths k (Event.Value v) x m = m
+on-read-paths k Event.Yes x m = absurd m
+on-read-paths k Event.No x m = absurd m
+
+-- a call of this record may end with the line, and answer so
+abbrev pub MayEnd : Line → Record → Answer → Type 0
+MayEnd l r a = T (extends l (waysOf (opOf r) (answerOf a)))
 
 -- the number of the line that wanted the decision; 0 outside the deciding part
 abbrev pub wantedBy : Line → ℕ
@@ -200,26 +232,47 @@ module _ (l : Line) (p : ℕ) (q : Record) where
 -- from line l and record r: on to a line that may follow, with the call's own words as they were; or the call ends where it may
 pub data Leads (l : Line) (r : Record) : Next → Type 0 where
   goes : {n w h t v : ℕ} → MayFollow l (lineAt n w) (r .held) h → Leads l r (Go (at r n w h t v))
-  done : {a : Answer} → MayEnd l → Leads l r (answer r a)
+  done : {a : Answer} → MayEnd l r a → Leads l r (answer r a)
 
 module _ {l : Line} {r : Record} where
   either : (b : Bool) {x y : Next} → Leads l r x → Leads l r y → Leads l r (cond b x y)
   either true p q = p
   either false p q = q
 
-pub leads : (l : Line) (p : ℕ) (r : Record) (v : ℕ) → lineOf r ≡ l → T (not (same l nowhere)) → Leads l r (nextAt l p r v)
+  -- a swap of unequal values ends
+  swap-ends : swaps r ≡ true → {a : Answer} → T (extends l (waysOf (swap 0 0 1) (answerOf a))) → Leads l r (answer r a)
+  swap-ends s {a} h = done {a = a} (rw (swap-op r s .0) (go a h))
+    where
+      go : (a : Answer) → T (extends l (waysOf (swap 0 0 1) (answerOf a))) → T (extends l (waysOf (swap (r .cell) (r .expected) (r .new)) (answerOf a)))
+      go (Value v) h = h
+      go Yes h = rw (ne-eqb _ _ (swap-op r s .1)) h
+      go No h = rw (ne-eqb _ _ (swap-op r s .1)) h
+
+  -- a read ends, or a swap of equal values
+  read-ends : reads r ≡ true → (v : ℕ) → T (extends l readPaths && extends l (by25 ∷ readPaths)) → Leads l r (answer r (readAnswer r v))
+  read-ends s v h = done {a = readAnswer r v} (go (read-op r s))
+    where
+      test : (b : Bool) → T (extends l (waysOf (swap (r .cell) (r .expected) (r .expected)) (answerOf (cond b Yes No))))
+      test true = rw (eq-eqb (r .expected) (r .expected) refl) (both (extends l readPaths) _ h .1)
+      test false = rw (eq-eqb (r .expected) (r .expected) refl) (both (extends l readPaths) _ h .1)
+
+      go : Reads r → MayEnd l r (readAnswer r v)
+      go (inl (o, k)) = rw (o, k) (both (extends l readPaths) _ h .0)
+      go (inr (o, k)) = rw (o, k) (test (eqb v (r .expected)))
+
+pub leads : (l : Line) (p : ℕ) (r : Record) (v : ℕ) → lineOf r ≡ l → ofKind l (reads r) (swaps r) ≡ true → Leads l r (nextAt l p r v)
 leads (l1 for13) p r v e h = goes {n = 2} {w = r .wanted} {h = r .held} (rw (wanted-is r e tt) (tt, (λ a b. refl), λ z. refl))
 leads (l1 for25) p r v e h = goes {n = 2} {w = r .wanted} {h = r .held} (rw (wanted-is r e tt) (tt, (λ a b. refl), λ z. refl))
 leads (l1 for28) p r v e h = goes {n = 2} {w = r .wanted} {h = r .held} (rw (wanted-is r e tt) (tt, (λ a b. refl), λ z. refl))
 leads (l2 for13) p r v e h = goes {n = 3} {w = r .wanted} {h = r .held} (rw (wanted-is r e tt) (tt, (λ a b. refl), λ z. refl))
 leads (l2 for25) p r v e h = goes {n = 3} {w = r .wanted} {h = r .held} (rw (wanted-is r e tt) (tt, (λ a b. refl), λ z. refl))
 leads (l2 for28) p r v e h = goes {n = 3} {w = r .wanted} {h = r .held} (rw (wanted-is r e tt) (tt, (λ a b. refl), λ z. refl))
-leads (l3 for13) p r v e h = done tt
-leads (l3 for25) p r v e h = either (eqb v (r .new)) (done tt) (goes (tt, (λ a b. refl), λ z. refl))
-leads (l3 for28) p r v e h = either (eqb v (r .expected)) (goes (tt, (λ a b. refl), λ z. refl)) (done tt)
+leads (l3 for13) p r v e h = read-ends h v tt
+leads (l3 for25) p r v e h = either (eqb v (r .new)) (swap-ends h tt) (goes (tt, (λ a b. refl), λ z. refl))
+leads (l3 for28) p r v e h = either (eqb v (r .expected)) (goes (tt, (λ a b. refl), λ z. refl)) (swap-ends h tt)
 leads l10 p r v e h = goes (tt, (λ a b. refl), λ z. absurd z)
 leads l11 p r v e h = goes (tt, (λ a b. refl), λ z. refl)
-leads l12 p r v e h = either (eqb v 0) (done tt) (goes (tt, (λ a b. refl), λ z. refl))
+leads l12 p r v e h = either (eqb v 0) (read-ends h (r .loaded) tt) (goes (tt, (λ a b. refl), λ z. refl))
 leads l15 p r v e h = goes (tt, (λ a b. refl), λ z. absurd z)
 leads l16 p r v e h = goes (tt, (λ a b. refl), λ z. refl)
 leads l17 p r v e h = either (eqb v 0) (goes (tt, (λ a b. refl), λ z. refl)) (goes (tt, (λ a b. refl), λ z. refl))
@@ -227,11 +280,11 @@ leads l18 p r v e h = goes (tt, (λ a b. refl), λ z. refl)
 leads l19 p r v e h = either (eqb v p) (goes (tt, (λ a b. refl), λ z. refl)) (goes (tt, (λ a b. refl), λ z. refl))
 leads l20 p r v e h = goes (tt, (λ a b. refl), λ z. refl)
 leads l21 p r v e h = either (eqb v 0) (either (eqb (r .loaded) (r .expected)) (goes (tt, (λ a b. refl), λ z. refl)) (goes (tt, (λ a b. refl), λ z. refl))) (goes (tt, (λ a b. refl), λ z. refl))
-leads l22 p r v e h = done tt
+leads l22 p r v e h = swap-ends h tt
 leads l23 p r v e h = goes (tt, (λ a b. refl), λ z. refl)
 leads l24 p r v e h = either (eqb v 0) (goes (tt, (λ a b. refl), λ z. refl)) (goes (tt, (λ a b. refl), λ z. refl))
-leads l26 p r v e h = done tt
+leads l26 p r v e h = swap-ends h tt
 leads l27 p r v e h = goes (tt, (λ a b. refl), λ z. refl)
 leads l29 p r v e h = goes (tt, (λ a b. refl), λ z. refl)
-leads l30 p r v e h = either (eqb v 1) (done tt) (done tt)
-leads nowhere p r v e h = absurd h
+leads l30 p r v e h = either (eqb v 1) (swap-ends h tt) (swap-ends h tt)
+leads nowhere p r v e h = absurd (false≢true h)

@@ -12,11 +12,11 @@ use Rattle.lines.specs.Record.{noValue}
 use Rattle.lines.specs.Lines.{for13, for25, for28, Line, l1, l2, l3, l10, l11, l12, l15, l16, l17, l18, l19, l20, l21, l22, l23, l24, l26, l27, l29, l30, nowhere, lineOf, accessAt, counted, nextAt}
 use Rattle.history.specs.Basics.{upd}
 use Rattle.history.proofs.Basics.{either, upd-same, upd-off, upd-cases}
-use Rattle.figure.specs.Figure.{Cell, store, install, Memory, memory, perform, recordAfter}
+use Rattle.figure.specs.Figure.{Cell, store, install, Accessed, accessed, accessCell, recordAfter}
+use Rattle.figure.proofs.LineLaws.{by-test}
 use Rattle.figure.proofs.Classes.{busy, contended, marking}
 use Rattle.figure.proofs.Invariant.{View, Knowledge, Inv, line, held}
 use Rattle.figure.proofs.Frame.{was}
-use Rattle.figure.proofs.Steps.{by-test}
 
 -- a task that set Y of the current block and has not reset it
 pub record Marked (L : ℕ) (f : ℕ → Record) : Type 0 where
@@ -71,7 +71,7 @@ module _ (s : View) (κ : Knowledge) (t : ℕ) (i : Inv s κ) (k : Marks (s .cel
   closes : (r : Record) → Marks (store m (q .held) C 1) (upd (s .task) t r)
   closes r = upd-cases (λ z. z ≡ 0 → m .y L ≢ 0 → Marked L (upd (s .task) t r)) (m .c) (q .held) 1 L (λ z g. absurd (omega arith)) (λ z c y. other r (λ b h. z (sym h)) (k c y))
 
-  abbrev Does : Line → Memory → Type 0
+  abbrev Does : Line → Accessed → Type 0
   Does ℓ x = Marks (x .cell) (upd (s .task) t (recordAfter (nextAt ℓ t (counted q (accessAt ℓ t q)) (x .value))))
 
   abbrev Leaves : Next → Type 0
@@ -80,9 +80,9 @@ module _ (s : View) (κ : Knowledge) (t : ℕ) (i : Inv s κ) (k : Marks (s .cel
   decided-inactive : (ℓ : Line) → line s t ≡ ℓ → T (contended ℓ) → m .c (q .held) ≢ 0
   decided-inactive ℓ e b = was s κ t ℓ e i .task .decided .inactive b
 
-  pub marks-kept : (ℓ : Line) → line s t ≡ ℓ → T (busy ℓ) → Does ℓ (perform m (accessAt ℓ t q))
+  pub marks-kept : (ℓ : Line) → line s t ≡ ℓ → T (busy ℓ) → Does ℓ (accessCell m (accessAt ℓ t q))
   marks-kept (l1 x) e b = from-inactive _ (decided-inactive (l1 x) e tt)
-  marks-kept (l2 x) e b = by-test (Does (l2 x)) (eqb (m .d (q .held)) noValue) (memory (store m (q .held) D (q .loaded)) 1) (memory m 0) (λ z. from-inactive _ (decided-inactive (l2 x) e tt)) (λ z. from-inactive _ (decided-inactive (l2 x) e tt))
+  marks-kept (l2 x) e b = by-test (Does (l2 x)) (eqb (m .d (q .held)) noValue) (accessed (store m (q .held) D (q .loaded)) 1) (accessed m 0) (λ z. from-inactive _ (decided-inactive (l2 x) e tt)) (λ z. from-inactive _ (decided-inactive (l2 x) e tt))
   marks-kept (l3 for13) e b = from-inactive _ (decided-inactive (l3 for13) e tt)
   marks-kept (l3 for25) e b = from-inactive _ (decided-inactive (l3 for25) e tt)
   marks-kept (l3 for28) e b = from-inactive _ (decided-inactive (l3 for28) e tt)
@@ -105,6 +105,6 @@ module _ (s : View) (κ : Knowledge) (t : ℕ) (i : Inv s κ) (k : Marks (s .cel
     where
       low : L ≢ m .next
       low z = let h : L < m .next = i .current .low in omega arith
-  marks-kept l30 e b = by-test (Does l30) (eqb (m .current) (q .held)) (memory (install m (q .taken)) 1) (memory m 0)
+  marks-kept l30 e b = by-test (Does l30) (eqb (m .current) (q .held)) (accessed (install m (q .taken)) 1) (accessed m 0)
       (λ z c y. absurd (y (was s κ t l30 e i .task .fresh tt .y-is))) (λ z. from-outside l30 e (λ x. x) _)
   marks-kept nowhere e b = absurd b

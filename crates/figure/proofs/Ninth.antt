@@ -21,17 +21,16 @@ use Rattle.lines.specs.Record.{noValue, idle}
 use Rattle.cells.specs.Pool.{offset}
 use Rattle.lines.specs.Lines.{Line, for25, for28, l1, l2, l3, l29, l30, lineOf, accessAt, accessOf, counted, nextAt, nextOf}
 use Rattle.history.specs.Basics.{upd, _∈_}
-use Rattle.history.specs.History.{Op, Action, begin, step, run}
+use Rattle.history.specs.History.{Op, read, swap, Action, begin, step, Answer, run}
 use Rattle.history.proofs.Basics.{upd-same, upd-off, upd-cases}
-use Rattle.figure.specs.Figure.{Cell, World, withBoth, After, store, install, memory, Memory, perform, recordAfter, outcomeOf, ran, opening, figure}
+use Rattle.figure.specs.Figure.{Cell, World, withBoth, WorldAfter, store, install, accessed, Accessed, accessCell, recordAfter, outcomeOf, figureRan, opening, figure}
 use Rattle.cells.specs.Events.{eventOf, tried}
-use Rattle.figure.specs.Paths.{paths, reached, by25, Traced, Trace, noTrace, didLine, enterLine}
-use Rattle.figure.proofs.LineLaws.{every, every-in, every-line, has, same, same-is, imp, before}
+use Rattle.figure.specs.Paths.{paths, reached, by25, pathsOf, Traced, Trace, noTrace, didLine, enterLine}
+use Rattle.figure.proofs.LineLaws.{every, every-in, every-line, has, same, same-is, imp, before, waysOf, has-in, by-test}
 use Rattle.figure.proofs.Records.{OnPath, Sound, with-first, upd-both, firstOf, Begun, starts, begin-cases, Stepped, runs, step-cases, act-sound, figureTraces}
 use Rattle.figure.proofs.Paths.{start-sound, last-line}
 use Rattle.figure.proofs.Classes.{holding, swapping}
 use Rattle.figure.proofs.Invariant.{none, TaskOf}
-use Rattle.figure.proofs.Steps.{by-test}
 use Rattle.figure.proofs.Views.{view}
 use Rattle.figure.proofs.Worlds.{known, facts}
 use Rattle.figure.proofs.Reachable.{trivial, Reachable, next-reachable, opening-reachable}
@@ -45,17 +44,9 @@ through25 did = has same did (l3 for25)
 abbrev later : List Line
 later = l1 for28 ∷ l2 for28 ∷ l3 for28 ∷ l29 ∷ l30 ∷ []
 
-among : (ys : List Line) (x : Line) → T (has same ys x) → x ∈ ys
-among [] x h = absurd h
-among (y ∷ ys) x h = go (same x y) (same-is x y) (among ys x) h
-  where
-    go : (b : Bool) → (T b → x ≡ y) → (T (has same ys x) → x ∈ ys) → T (b || has same ys x) → x ∈ (y ∷ ys)
-    go true here there h = inl (here tt)
-    go false here there h = inr (there h)
-
 -- found by computing over all that may stand before a line
 comes-later : (ℓ : Line) (did : List Line) → did ∈ before ℓ → through25 did ≡ true → ℓ ∈ later
-comes-later ℓ did m h = among later ℓ (imp (through25 did) (has same later ℓ)
+comes-later ℓ did m h = has-in same same-is later ℓ (imp (through25 did) (has same later ℓ)
     (every-in (λ d. has same later ℓ || not (through25 d)) (before ℓ) (every-line (λ ℓ. every (λ d. has same later ℓ || not (through25 d)) (before ℓ)) tt ℓ) did m) h)
 
 -- with one more line
@@ -95,7 +86,7 @@ spares (InstallCas k b n) = true
 spares (Allocate n) = true
 spares Nothing = true
 
-decision-stays : (m : Cell) (a : Access) (b : ℕ) → T (spares a) → b < m .next → m .d b ≢ none → perform m a .cell .d b ≡ m .d b
+decision-stays : (m : Cell) (a : Access) (b : ℕ) → T (spares a) → b < m .next → m .d b ≢ none → accessCell m a .cell .d b ≡ m .d b
 unfolding none
 decision-stays m (LoadCell k) b s l n = refl
 decision-stays m (Load c f) b s l n = refl
@@ -104,9 +95,9 @@ decision-stays m (Store c Y x) b s l n = refl
 decision-stays m (Store c C x) b s l n = refl
 decision-stays m (Store c Field.V x) b s l n = refl
 decision-stays m (Store c D x) b s l n = absurd s
-decision-stays m (DecideCas c x) b s l n = by-test (λ (z : Memory). z .cell .d b ≡ m .d b) (eqb (m .d c) noValue) (memory (store m c D x) 1) (memory m 0)
+decision-stays m (DecideCas c x) b s l n = by-test (λ (z : Accessed). z .cell .d b ≡ m .d b) (eqb (m .d c) noValue) (accessed (store m c D x) 1) (accessed m 0)
     (λ z. upd-off (m .d) c x b (λ e. n (ap (m .d) e ∙ eqb-true _ _ z))) (λ z. refl)
-decision-stays m (InstallCas k c x) b s l n = by-test (λ (z : Memory). z .cell .d b ≡ m .d b) (eqb (m .current) c) (memory (install m x) 1) (memory m 0) (λ z. refl) (λ z. refl)
+decision-stays m (InstallCas k c x) b s l n = by-test (λ (z : Accessed). z .cell .d b ≡ m .d b) (eqb (m .current) c) (accessed (install m x) 1) (accessed m 0) (λ z. refl) (λ z. refl)
 decision-stays m (Allocate x) b s l n = upd-off (m .d) (m .next) _ b (λ e. omega arith)
 decision-stays m Nothing b s l n = refl
 
@@ -145,10 +136,10 @@ module _ (v : ℕ) (w : World) (i : Reachable v w) (r : Trace) (s : Sound w r) (
     m = w .cell (q .cell)
 
     abbrev cells : ℕ → Cell
-    cells = upd (w .cell) (q .cell) (perform m (accessOf t q) .cell)
+    cells = upd (w .cell) (q .cell) (accessCell m (accessOf t q) .cell)
 
     abbrev next : Next
-    next = nextOf t q (perform m (accessOf t q) .value)
+    next = nextOf t q (accessCell m (accessOf t q) .value)
 
     -- a call's decision stays when t steps
     stays : (u : ℕ) → through25 (r .did u) ≡ true → Expected cells (w .records u)
@@ -158,8 +149,8 @@ module _ (v : ℕ) (w : World) (i : Reachable v w) (r : Trace) (s : Sound w r) (
         let low = task u .value .there (every-in holding later tt (now u) ℓ) in
         let decided : w .cell (p .cell) .d (p .held) ≢ none = λ z. task u .self .ev-some (every-in swapping later tt (now u) ℓ) (sym (o .late u h) ∙ z) in
         let kept = decision-stays (w .cell (p .cell)) (accessOf t q) (p .held) (every-line (λ k. spares (accessAt k t q)) tt (lineOf q)) low decided in
-        upd-cases (λ (c : Cell). c .d (p .held) ≡ p .expected) (w .cell) (q .cell) (perform m (accessOf t q) .cell) (p .cell)
-        (λ e. subst (λ k. perform (w .cell k) (accessOf t q) .cell .d (p .held) ≡ p .expected) e (kept ∙ o .late u h)) (λ e. o .late u h)
+        upd-cases (λ (c : Cell). c .d (p .held) ≡ p .expected) (w .cell) (q .cell) (accessCell m (accessOf t q) .cell) (p .cell)
+        (λ e. subst (λ k. accessCell (w .cell k) (accessOf t q) .cell .d (p .held) ≡ p .expected) e (kept ∙ o .late u h)) (λ e. o .late u h)
 
     -- line 25 found another value than the new one: the swap is not placed, so the decision is the expected value
     came-late : now t ≡ l3 for25 → m .d (q .held) ≢ q .new → m .d (q .held) ≡ q .expected
@@ -179,7 +170,7 @@ module _ (v : ℕ) (w : World) (i : Reachable v w) (r : Trace) (s : Sound w r) (
 
         go : (through25 (r .did t) ≡ true) ⊎ (now t ≡ l3 for25) → Goes cells next
         go (inl k) = kept next (keeps t _ (counted q (accessOf t q)) (now t) (its-line t k)) (stays t k)
-        go (inr e) = subst (λ ℓ. let x = perform m (accessAt ℓ t q) in Goes (upd (w .cell) (q .cell) (x .cell)) (nextAt ℓ t (counted q (accessAt ℓ t q)) (x .value))) (sym e)
+        go (inr e) = subst (λ ℓ. let x = accessCell m (accessAt ℓ t q) in Goes (upd (w .cell) (q .cell) (x .cell)) (nextAt ℓ t (counted q (accessAt ℓ t q)) (x .value))) (sym e)
             (by-test (Goes (upd (w .cell) (q .cell) m)) (eqb (m .d (q .held)) (q .new)) _ _ (λ z. tt)
             (λ z. ap (λ (c : Cell). c .d (q .held)) (upd-same (w .cell) (q .cell) m) ∙ came-late e (eqb-false _ _ z)))
 
@@ -192,7 +183,7 @@ module _ (v : ℕ) (w : World) (i : Reachable v w) (r : Trace) (s : Sound w r) (
 
         go : (through25 (r .did t) ≡ true) ⊎ (now t ≡ l3 for25) → ⊥
         go (inl k) =
-            let y = subst (λ ℓ. nextAt ℓ t (counted q (accessAt ℓ t q)) (perform m (accessAt ℓ t q) .value) ≡ Done f) at-28 e in
+            let y = subst (λ ℓ. nextAt ℓ t (counted q (accessAt ℓ t q)) (accessCell m (accessAt ℓ t q) .value) ≡ Done f) at-28 e in
             let g = rw (eq-eqb _ _ (o .late t k)) at y in
             let b : _≡_ {A = ℕ} 0 1 = cc in omega arith
         go (inr k) = false≢true (sym (ap (same (l3 for25)) (sym k ∙ at-28)))
@@ -203,16 +194,16 @@ module _ (v : ℕ) (w : World) (i : Reachable v w) (r : Trace) (s : Sound w r) (
     put c p did = upd-both (λ u did p. through25 did ≡ true → Expected c p) (r .did) (w .records) t did p
 
     line-kept : (n : Next) → next ≡ n → (through25 (didLine now r t) ≡ true → Goes cells n)
-        → NotNinth (withBoth w (q .cell) (perform m (accessOf t q) .cell) t (recordAfter n)) (enterLine now r (step t) (eventOf (tried t q) (outcomeOf n)))
+        → NotNinth (withBoth w (q .cell) (accessCell m (accessOf t q) .cell) t (recordAfter n)) (enterLine now r (step t) (eventOf (tried t q) (outcomeOf n)))
     line-kept (Go p) e g = record { late = put cells p (didLine now r t) g stays; done = o .done }
     line-kept (Done f) e g = record { late = put cells idle [] (λ h. absurd (false≢true h)) stays; done = with-first (λ x. x .lines ≢ by25) _ (r .done) (ends f e) (o .done) }
 
-    step-kept : {f : After} → Stepped w t (r .did t) f → NotNinth (f .world) (enterLine now r (step t) (eventOf (tried t q) (f .outcome)))
-    unfolding ran
+    step-kept : {f : WorldAfter} → Stepped w t (r .did t) f → NotNinth (f .world) (enterLine now r (step t) (eventOf (tried t q) (f .outcome)))
+    unfolding figureRan
     step-kept (Stepped.refuses n e) = o
     step-kept (runs n p) = line-kept next refl goes-on
 
-    begin-kept : (op : Op) {f : After} → Begun w t op f → NotNinth (f .world) (enterLine now r (begin t op) (eventOf 0 (f .outcome)))
+    begin-kept : (op : Op) {f : WorldAfter} → Begun w t op f → NotNinth (f .world) (enterLine now r (begin t op) (eventOf 0 (f .outcome)))
     begin-kept op (Begun.refuses n) = o
     begin-kept op (starts a) = record { late = put (w .cell) (firstOf op) [] (λ h. absurd (false≢true h)) (o .late); done = o .done }
 
@@ -228,7 +219,12 @@ traces-kept v w i r s o (a ∷ l) = traces-kept v (figure w a .0) (next-reachabl
 pub never-ninth : (n v : ℕ) (vs : List ℕ) → ((k : ℕ) → getD vs k 0 ≢ noValue) → (l : List Action) (x : Traced) → x ∈ figureTraces (opening n v vs) noTrace l .done → x .lines ≢ by25
 never-ninth n v vs ok l = traces-kept v (opening n v vs) (opening-reachable n v vs ok) noTrace (start-sound n v vs) (record { late = λ t h. absurd (false≢true h); done = λ x i. absurd i }) l .done
 
--- so it is one of the twelve others
+-- so it is on a path that is its own, and on one of the twelve others
+pub own-path : (op : Op) (a : Answer) (p : List Line) → p ∈ waysOf op a → p ≢ by25 → p ∈ pathsOf op a
+own-path (read k) a p i n = i
+own-path (swap k e m) a p (inl z) n = absurd (n z)
+own-path (swap k e m) a p (inr i) n = i
+
 pub one-of-twelve : (p : List Line) → p ∈ paths → p ≢ by25 → p ∈ reached
 one-of-twelve p i n = go (take 8 paths) i
   where

@@ -1,30 +1,24 @@
 -- A busy record's operation, and what the sequential specification says of it.
-use mathlib.Core.Path.{_≡_, refl, sym, ap, subst, _∙_}
-use mathlib.Core.Logic.{_≢_, _⊎_, inl, inr}
-use mathlib.Core.Bool.{Bool, true, false, not, _&&_, _||_, cond, false≢true}
+use mathlib.Core.Path.{_≡_, refl, sym, subst, _∙_}
+use mathlib.Core.Logic.{_≢_, inl, inr}
+use mathlib.Core.Bool.{Bool, true, false, not, _||_, cond}
 use mathlib.Core.Option.{some}
 use Prim.Native.Nat.{ℕ}
 use lib.Dec.{eqb, T}
-use borrow.Author.Tests.{eqb-true, eqb-false, eq-eqb, ne-eqb}
+use borrow.Author.Tests.{eqb-true, eq-eqb, ne-eqb}
 use Rattle.lines.specs.declared.Record.{Record}
 use Rattle.lines.specs.declared.Answer.the-variants as Code
 use Rattle.lines.specs.Record.{isIdle}
 use Rattle.lines.specs.Lines.{lineAt, lineOf, readAnswer}
 use Rattle.questions.specs.Questions.{ofKind, reads, swaps, lineFit}
-use Rattle.history.specs.History.{Op, read, swap, cellOf, Yes, No}
+use Rattle.history.specs.History.{Op, cellOf, Yes, No}
 use Rattle.history.specs.Linearization.{reply, after, apply}
 use Rattle.history.specs.Demand3.{Unequal}
 use Rattle.cells.specs.Events.{answerOf}
 use Rattle.figure.proofs.LineLaws.{every-line, imp}
-use Rattle.figure.proofs.Tallies.{opOf, tally, tallyOf}
+use Rattle.figure.proofs.AsBegun.{opOf, swap-op, Reads, read-op}
+use Rattle.figure.proofs.Tallies.{tally, tallyOf}
 use Rattle.figure.proofs.Classes.{busy, swapping, are-apart}
-
-pub cell-of : (q : Record) → cellOf (opOf q) ≡ q .cell
-cell-of q = go (eqb (q .kind) 1)
-  where
-    go : (b : Bool) → cellOf (cond b (read (q .cell)) (swap (q .cell) (q .expected) (q .new))) ≡ q .cell
-    go true = refl
-    go false = refl
 
 -- a line that fits a kind is a line
 pub busy-line : (q : Record) → lineFit q ≡ true → T (busy (lineOf q))
@@ -37,51 +31,25 @@ busy-doing q b = go (isIdle q) refl
     go true e = absurd (subst (λ n. T (busy (lineAt n (q .wanted)))) (eqb-true (q .line) 0 e) b)
     go false e = rw e
 
+must : (x : Bool) → (x ≡ false → ⊥) → x ≡ true
+must true h = refl
+must false h = absurd (h refl)
+
 -- a line of a swap of unequal values is of such a swap, any other of a read or of a swap of equal values
 module _ (q : Record) (e : lineFit q ≡ true) where
   pub is-swap : T (swapping (lineOf q)) → swaps q ≡ true
-  is-swap b = go (swaps q) refl
-    where
-      go : (x : Bool) → swaps q ≡ x → swaps q ≡ true
-      go true z = z
-      go false z = absurd (are-apart swapping (λ l. ofKind l (reads q) false) tt (lineOf q) b (subst T (sym (rw z at e)) tt))
+  is-swap b = must (swaps q) (λ z. are-apart swapping (λ l. ofKind l (reads q) false) tt (lineOf q) b (subst T (sym (rw z at e)) tt))
 
   pub is-read : T (not (swapping (lineOf q))) → reads q ≡ true
-  is-read b = go (reads q) refl
-    where
-      go : (x : Bool) → reads q ≡ x → reads q ≡ true
-      go true z = z
-      go false z = absurd (are-apart (λ l. not (swapping l)) (λ l. ofKind l false (swaps q)) tt (lineOf q) b (subst T (sym (rw z at e)) tt))
-
-  pub swap-op : T (swapping (lineOf q)) → (opOf q ≡ swap (q .cell) (q .expected) (q .new)) × (q .expected ≢ q .new)
-  swap-op b = go (eqb (q .kind) 2) (eqb (q .expected) (q .new)) refl refl (is-swap b)
-    where
-      go : (x y : Bool) → eqb (q .kind) 2 ≡ x → eqb (q .expected) (q .new) ≡ y → (x && not y) ≡ true → (opOf q ≡ swap (q .cell) (q .expected) (q .new)) × (q .expected ≢ q .new)
-      go true false ex ey z = (rw (eqb-true (q .kind) 2 ex) refl, eqb-false _ _ ey)
-      go true true ex ey z = absurd (false≢true z)
-      go false y ex ey z = absurd (false≢true z)
-
-  -- a read, or a swap of equal values
-  abbrev Reads : Type 0
-  Reads = ((opOf q ≡ read (q .cell)) × (q .kind ≡ 1)) ⊎ ((opOf q ≡ swap (q .cell) (q .expected) (q .expected)) × (q .kind ≡ 2))
-
-  read-op : T (not (swapping (lineOf q))) → Reads
-  read-op b = go (eqb (q .kind) 1) (eqb (q .kind) 2) (eqb (q .expected) (q .new)) refl refl refl (is-read b)
-    where
-      go : (x y z : Bool) → eqb (q .kind) 1 ≡ x → eqb (q .kind) 2 ≡ y → eqb (q .expected) (q .new) ≡ z → (x || (y && z)) ≡ true
-          → Reads
-      go true y z ex ey ez h = inl (rw ex, eqb-true _ _ ex)
-      go false true true ex ey ez h = inr (rw ex (ap (λ n. swap (q .cell) (q .expected) n) (sym (eqb-true (q .expected) (q .new) ez))), eqb-true _ _ ey)
-      go false true false ex ey ez h = absurd (false≢true h)
-      go false false z ex ey ez h = absurd (false≢true h)
+  is-read b = must (reads q) (λ z. are-apart (λ l. not (swapping l)) (λ l. ofKind l false (swaps q)) tt (lineOf q) b (subst T (sym (rw z at e)) tt))
 
   -- WHAT THE SEQUENTIAL SPECIFICATION ANSWERS
 
   -- a read's answer is right for the value that it returns, and it changes nothing
   pub reads-right : T (not (swapping (lineOf q))) → (v : ℕ) → (reply v (opOf q) ≡ answerOf (readAnswer q v)) × (after v (opOf q) ≡ v)
-  reads-right b v = go (read-op b)
+  reads-right b v = go (read-op q (is-read b))
     where
-      go : Reads → (reply v (opOf q) ≡ answerOf (readAnswer q v)) × (after v (opOf q) ≡ v)
+      go : Reads q → (reply v (opOf q) ≡ answerOf (readAnswer q v)) × (after v (opOf q) ≡ v)
       go (inl (o, k)) = rw (o, k) (refl, refl)
       go (inr (o, k)) = rw (o, k) (test (eqb v (q .expected)) refl)
         where
@@ -92,13 +60,13 @@ module _ (q : Record) (e : lineFit q ≡ true) where
   -- a swap that finds its expected value succeeds and puts the new one there; with another it does nothing
   module _ (b : T (swapping (lineOf q))) where
     pub swap-yes : (v : ℕ) → v ≡ q .expected → (reply v (opOf q) ≡ Yes) × (after v (opOf q) ≡ q .new)
-    swap-yes v z = rw (swap-op b .0, eq-eqb v (q .expected) z) (refl, refl)
+    swap-yes v z = rw (swap-op q (is-swap b) .0, eq-eqb v (q .expected) z) (refl, refl)
 
     pub swap-no : (v : ℕ) → v ≢ q .expected → (reply v (opOf q) ≡ No) × (after v (opOf q) ≡ v)
-    swap-no v z = rw (swap-op b .0, ne-eqb v (q .expected) z) (refl, refl)
+    swap-no v z = rw (swap-op q (is-swap b) .0, ne-eqb v (q .expected) z) (refl, refl)
 
     pub is-unequal : Unequal (opOf q)
-    is-unequal = rw (swap-op b .0) (swap-op b .1)
+    is-unequal = rw (swap-op q (is-swap b) .0) (swap-op q (is-swap b) .1)
 
 -- the cells after an operation: its own, and the others
 pub apply-here : (cells : ℕ → ℕ) (op : Op) (k : ℕ) → cellOf op ≡ k → apply cells op k ≡ after (cells k) op

@@ -22,7 +22,7 @@ use Rattle.figure.proofs.Records.{CompleteCall, Sound, figureTraces, tr
 -- FINISHED CALLS
 
 pub start-sound : (n v : ℕ) (vs : List ℕ) → Sound (opening n v vs) noTrace
-start-sound n v vs = record { pending = λ t. inl (refl, refl); begun = λ t k e. inl refl; complete = λ x i. absurd i }
+start-sound n v vs = record { pending = λ t. inl (refl, refl); begun = λ t. inl refl; complete = λ x i. absurd i }
 
 pub calls-on-paths : (n v : ℕ) (vs : List ℕ) (l : List Action) (x : Traced) → x ∈ figureTraces (opening n v vs) noTrace l .done → CompleteCall x
 calls-on-paths n v vs l = traces-sound (opening n v vs) noTrace (start-sound n v vs) l .complete

@@ -2,10 +2,10 @@
 -- lines that attempt none.
 use mathlib.Core.Path.{_≡_, refl, sym, ap, _∙_}
 use mathlib.Core.Logic.{_≢_}
-use mathlib.Core.Bool.{Bool, true, false, not, _||_}
+use mathlib.Core.Bool.{Bool, true, false, not}
 use Prim.Native.Nat.{ℕ, _+_}
 use native.Mathlib.Omega.{arith}
-use lib.Dec.{eqb, T, eqb→eq}
+use lib.Dec.{eqb, T, not-T, eqb→eq}
 use borrow.Author.Tests.{eqb-false}
 use Rattle.lines.specs.declared.Record.{Record}
 use Rattle.lines.specs.declared.Field.{Field}
@@ -20,10 +20,9 @@ use Rattle.lines.specs.Lines.{Line, l1, l2, l3, l10, l11, l12, l15, l16, l17, l
 use Rattle.questions.proofs.Numbers.{number}
 use Rattle.history.specs.Basics.{upd}
 use Rattle.history.proofs.Basics.{upd-at, upd-same, upd-off, upd-cases}
-use Rattle.figure.specs.Figure.{Cell, store, Memory, memory, perform}
-use Rattle.figure.proofs.LineLaws.{every-line}
-use Rattle.figure.proofs.Classes.{holding, swapping, uncontended}
-use Rattle.figure.proofs.Steps.{by-test}
+use Rattle.figure.specs.Figure.{Cell, store, Accessed, accessed, accessCell}
+use Rattle.figure.proofs.LineLaws.{by-test}
+use Rattle.figure.proofs.Classes.{holding, swapping, uncontended, lies-in}
 
 -- has not set Y yet; has written X and not yet looked at it
 abbrev pub entering : Line → Bool
@@ -86,13 +85,13 @@ module _ (m : Cell) (f : ℕ → Record) (t : ℕ) (z : Quiet m f t) where
   Goes m′ (Go r) = Quiet m′ (upd f t r) t
   Goes m′ (Done x) = Unit {0}
 
-  abbrev Does : Line → Memory → Type 0
+  abbrev Does : Line → Accessed → Type 0
   Does ℓ x = Goes (x .cell) (nextAt ℓ t (counted q (accessAt ℓ t q)) (x .value))
 
   unhard : q .hard + 0 ≡ 0
   unhard = omega (arith, z .no-hard)
 
-  pub quiet-step : (ℓ : Line) → lineOf q ≡ ℓ → T (uncontended ℓ) → Does ℓ (perform m (accessAt ℓ t q))
+  pub quiet-step : (ℓ : Line) → lineOf q ≡ ℓ → T (uncontended ℓ) → Does ℓ (accessCell m (accessAt ℓ t q))
   quiet-step l10 e b = onward l10 e l11 _ refl tt refl refl (λ x. absurd x) (λ x. absurd x)
   quiet-step l11 e b = onward l11 e l12 _ refl tt refl (here-at l11 e tt) (λ x. absurd x) (λ x. absurd x)
   quiet-step l12 e b = by-test (Goes m) (eqb (m .c (q .held)) 0) _ _ (λ x. tt) (λ x. absurd (eqb-false _ _ x (active-at l12 e tt)))
@@ -125,11 +124,7 @@ module _ (m : Cell) (f : ℕ → Record) (t : ℕ) (z : Quiet m f t) where
   quiet-step nowhere e b = absurd b
 
   pub untried : hardware (accessAt (lineOf q) t q) ≡ 0
-  untried = eqb→eq _ _ (implied (uncontended (lineOf q)) (eqb (hardware (accessAt (lineOf q) t q)) 0) (every-line (λ l. not (uncontended l) || eqb (hardware (accessAt l t q)) 0) tt (lineOf q)) (z .line))
-    where
-      implied : (a b : Bool) → T (not a || b) → T a → T b
-      implied true b h x = h
-      implied false b h x = absurd x
+  untried = eqb→eq _ _ (lies-in uncontended (λ l. eqb (hardware (accessAt l t q)) 0) tt (lineOf q) (z .line))
 
 -- THE STEPS OF OTHERS
 
@@ -147,47 +142,37 @@ harmless Nothing = true
 abbrev SameWords : Cell → Cell → Type 0
 SameWords m m′ = (m′ .current ≡ m .current) × (m′ .c ≡ m .c) × (m′ .y ≡ m .y) × (m′ .x ≡ m .x)
 
-same-words : (m : Cell) (a : Access) → T (harmless a) → SameWords m (perform m a .cell)
+same-words : (m : Cell) (a : Access) → T (harmless a) → SameWords m (accessCell m a .cell)
 same-words m (LoadCell k) h = (refl, refl, refl, refl)
 same-words m (Load b f) h = (refl, refl, refl, refl)
-same-words m (DecideCas b n) h = by-test (λ (x : Memory). SameWords m (x .cell)) (eqb (m .d b) noValue) (memory (store m b D n) 1) (memory m 0) (λ z. (refl, refl, refl, refl)) (λ z. (refl, refl, refl, refl))
+same-words m (DecideCas b n) h = by-test (λ (x : Accessed). SameWords m (x .cell)) (eqb (m .d b) noValue) (accessed (store m b D n) 1) (accessed m 0) (λ z. (refl, refl, refl, refl)) (λ z. (refl, refl, refl, refl))
 same-words m Nothing h = (refl, refl, refl, refl)
 same-words m (Store b f n) h = absurd h
 same-words m (InstallCas k b n) h = absurd h
 same-words m (Allocate n) h = absurd h
 
--- a task u that swaps nothing takes a step, to another line that swaps nothing
-pub others-step : (m : Cell) (f : ℕ → Record) (t u : ℕ) (r : Record) → Quiet m f t → t ≢ u → (T (swapping (lineOf r)) → ⊥) → (T (swapping (lineOf (f u))) → ⊥) → Quiet (perform m (accessAt (lineOf (f u)) u (f u)) .cell) (upd f u r) t
-others-step m f t u r z ne n n′ =
-    let w = same-words m (accessAt (lineOf (f u)) u (f u)) (excluded (swapping (lineOf (f u))) (harmless (accessAt (lineOf (f u)) u (f u))) (every-line (λ l. swapping l || harmless (accessAt l u (f u))) tt (lineOf (f u))) n′) in
+-- another record of task u, at a line that swaps nothing, and these words as they were
+others : (m m′ : Cell) (f : ℕ → Record) (t u : ℕ) (r : Record) → SameWords m m′ → Quiet m f t → t ≢ u → (T (swapping (lineOf r)) → ⊥) → Quiet m′ (upd f u r) t
+others m m′ f t u r w z ne n =
     let e = upd-off f u r t ne in
     record {
-      active = ap₂-at (w .1) (w .0) ∙ z .active;
+      active = at (w .1) (w .0) ∙ z .active;
       no-hard = rw e (z .no-hard);
       line = rw e (z .line);
       here = rw e (λ b. z .here b ∙ sym (w .0));
-      clear = rw e (λ b. ap₂-at (w .2) (w .0) ∙ z .clear b);
-      mine = rw e (λ b. ap₂-at (w .3) (w .0) ∙ z .mine b);
+      clear = rw e (λ b. at (w .2) (w .0) ∙ z .clear b);
+      mine = rw e (λ b. at (w .3) (w .0) ∙ z .mine b);
       lonely = λ v nv. upd-cases (λ (x : Record). T (swapping (lineOf x)) → ⊥) f u r v (λ x. n) (λ x. z .lonely v nv);
     }
   where
-    ap₂-at : {g g′ : ℕ → ℕ} {i i′ : ℕ} → g′ ≡ g → i′ ≡ i → g′ i′ ≡ g i
-    ap₂-at p q = λ j. p j (q j)
+    at : {g g′ : ℕ → ℕ} {i i′ : ℕ} → g′ ≡ g → i′ ≡ i → g′ i′ ≡ g i
+    at p q = λ j. p j (q j)
 
-    excluded : (a b : Bool) → T (a || b) → (T a → ⊥) → T b
-    excluded true b h x = absurd (x tt)
-    excluded false b h x = h
+-- a task u that swaps nothing takes a step, to another line that swaps nothing
+pub others-step : (m : Cell) (f : ℕ → Record) (t u : ℕ) (r : Record) → Quiet m f t → t ≢ u → (T (swapping (lineOf r)) → ⊥) → (T (swapping (lineOf (f u))) → ⊥) → Quiet (accessCell m (accessAt (lineOf (f u)) u (f u)) .cell) (upd f u r) t
+others-step m f t u r z ne n n′ = others m _ f t u r
+    (same-words m (accessAt (lineOf (f u)) u (f u)) (lies-in (λ l. not (swapping l)) (λ l. harmless (accessAt l u (f u))) tt (lineOf (f u)) (not-T (swapping (lineOf (f u))) n′))) z ne n
 
 -- another call begins, with a record that swaps nothing or on another cell
 pub others-begin : (m : Cell) (f : ℕ → Record) (t u : ℕ) (r : Record) → Quiet m f t → t ≢ u → (T (swapping (lineOf r)) → ⊥) → Quiet m (upd f u r) t
-others-begin m f t u r z ne n =
-    let e = upd-off f u r t ne in
-    record {
-      active = z .active;
-      no-hard = rw e (z .no-hard);
-      line = rw e (z .line);
-      here = rw e (z .here);
-      clear = rw e (z .clear);
-      mine = rw e (z .mine);
-      lonely = λ v nv. upd-cases (λ (x : Record). T (swapping (lineOf x)) → ⊥) f u r v (λ x. n) (λ x. z .lonely v nv);
-    }
+others-begin m f t u r z ne n = others m m f t u r (refl, refl, refl, refl) z ne n

@@ -19,15 +19,16 @@ use Rattle.history.specs.History.{Op, read, swap, cellOf}
 use Rattle.history.specs.Demand3.{Unequal}
 use Rattle.history.proofs.Basics.{either, upd-at, upd-same, upd-off}
 use Rattle.history.proofs.Simulation.{Ghost, Tally, QuietStarts, QuietSteps, Free}
-use Rattle.figure.specs.Figure.{Cell, World, withRecord, recordAfter, perform, clear}
+use Rattle.figure.specs.Figure.{Cell, World, withTask, recordAfter, accessCell, clear}
 use Rattle.cells.specs.Events.{tried}
 use Rattle.figure.proofs.LineLaws.{Leads, goes, done}
 use Rattle.figure.proofs.Records.{Pending, OnPath, AllOnPath, Accepted, firstOf, led}
-use Rattle.figure.proofs.Tallies.{opOf, tally, tallyOf, doing}
+use Rattle.figure.proofs.AsBegun.{opOf, cell-of}
+use Rattle.figure.proofs.Tallies.{tally, tallyOf, doing}
 use Rattle.figure.proofs.Classes.{busy, swapping, marking, lies-in, holding, uncontended}
 use Rattle.figure.proofs.Invariant.{none, Knowledge, line}
-use Rattle.figure.proofs.Views.{on, on-in, on-it, on-changed, on-elsewhere, view}
-use Rattle.figure.proofs.Operations.{cell-of, busy-line, busy-doing, is-unequal}
+use Rattle.figure.proofs.Views.{on, on-in, on-it, on-changed, on-elsewhere, view, on-others}
+use Rattle.figure.proofs.Operations.{busy-line, busy-doing, is-unequal}
 use Rattle.figure.proofs.Worlds.{Good, cellAfter, nextAfter, stepAfter, pending-at}
 use Rattle.figure.proofs.Begins.{was-idle, idle-to, its-cell}
 use Rattle.figure.proofs.Marks.{Marks, marks-kept}
@@ -82,13 +83,9 @@ module _ (w : World) (g : Ghost) (κ : Knowledge) (G : Good w g κ) (marks : (k 
     where
       go : (j ≡ k) ⊎ (j ≢ k) → Marks (w′ .cell j) (on (w′ .records) j)
       go (inl e) = subst (λ j. Marks (upd (w .cell) k m j) (on (upd (w .records) t (recordAfter n)) j)) (sym e) (rw (upd-same (w .cell) k m, on-changed (w .records) t (recordAfter n) k (stays .0))
-          (subst (λ (r : Record). let x = perform (w .cell k) (accessOf t r) in Marks (x .cell) (upd (on (w .records) k) t (recordAfter (nextOf t r (x .value))))) here
+          (subst (λ (r : Record). let x = accessCell (w .cell k) (accessOf t r) in Marks (x .cell) (upd (on (w .records) k) t (recordAfter (nextOf t r (x .value))))) here
           (marks-kept (view w g k) κ t (G .cells k) (marks k) (lineOf (on (w .records) k t)) refl (rw here (busy-line q (o .line))))))
-      go (inr e) = rw (upd-off (w .cell) k m j e, on-elsewhere (w .records) t (recordAfter n) j (inl (λ z. e (sym z))) (elsewhere (stays .0))) (marks j)
-        where
-          elsewhere : (recordAfter n .cell ≡ k) ⊎ (recordAfter n ≡ idle) → (recordAfter n .cell ≢ j) ⊎ (recordAfter n ≡ idle)
-          elsewhere (inl z) = inl (λ y. e (sym y ∙ z))
-          elsewhere (inr z) = inr z
+      go (inr e) = rw (upd-off (w .cell) k m j e, on-others (w .records) t (recordAfter n) j e (stays .0)) (marks j)
 
   own-kept : (x : Next) → n ≡ x → (a : Tally) → tallyOf (recordAfter x) ≡ some a → QuietIn w t → Quiet (upd (w .cell) k m (recordAfter n .cell)) (on (w′ .records) (recordAfter n .cell)) t
   own-kept (Go r) e a d z =
@@ -101,7 +98,7 @@ module _ (w : World) (g : Ghost) (κ : Knowledge) (G : Good w g κ) (marks : (k 
 
       stepped : (r : Record) → n ≡ Go r → Quiet m (upd (on (w .records) k) t r) t
       stepped r e = subst (λ (y : Next). Goes y) e
-          (subst (λ (p : Record). let x = perform (w .cell k) (accessOf t p) in Goes′ (x .cell) (nextOf t p (x .value))) here
+          (subst (λ (p : Record). let x = accessCell (w .cell k) (accessOf t p) in Goes′ (x .cell) (nextOf t p (x .value))) here
           (quiet-step (w .cell k) (on (w .records) k) t z (lineOf (on (w .records) k t)) refl (z .line)))
         where
           Goes′ : Cell → Next → Type 0
@@ -124,13 +121,9 @@ module _ (w : World) (g : Ghost) (κ : Knowledge) (G : Good w g κ) (marks : (k 
           let no-swap : T (swapping (lineOf (on (w .records) k t))) → ⊥ = y .lonely t (λ x. ne (sym x)) in
           subst (λ j. Quiet (upd (w .cell) k m j) (on (upd (w .records) t (recordAfter n)) j) u) (sym e)
           (rw (upd-same (w .cell) k m, on-changed (w .records) t (recordAfter n) k (stays .0))
-          (subst (λ (p : Record). Quiet (perform (w .cell k) (accessOf t p) .cell) (upd (on (w .records) k) t (recordAfter n)) u) here
+          (subst (λ (p : Record). Quiet (accessCell (w .cell k) (accessOf t p) .cell) (upd (on (w .records) k) t (recordAfter n)) u) here
           (others-step (w .cell k) (on (w .records) k) u t (recordAfter n) y ne (λ b. no-swap (rw here (stays .1 b))) no-swap)))
-      go (inr e) = rw (upd-off (w .cell) k m j e, on-elsewhere (w .records) t (recordAfter n) j (inl (λ x. e (sym x))) (elsewhere (stays .0))) z
-        where
-          elsewhere : (recordAfter n .cell ≡ k) ⊎ (recordAfter n ≡ idle) → (recordAfter n .cell ≢ j) ⊎ (recordAfter n ≡ idle)
-          elsewhere (inl x) = inl (λ y. e (sym y ∙ x))
-          elsewhere (inr x) = inr x
+      go (inr e) = rw (upd-off (w .cell) k m j e, on-others (w .records) t (recordAfter n) j e (stays .0)) z
 
   pub step-quietly : QuietSteps doing clear QuietIn w w′ t (tried t q)
   step-quietly = record {
@@ -147,7 +140,7 @@ module _ (w : World) (g : Ghost) (κ : Knowledge) (G : Good w g κ) (marks : (k 
 
 module _ (w : World) (g : Ghost) (κ : Knowledge) (G : Good w g κ) (marks : (k : ℕ) → Marks (w .cell k) (on (w .records) k)) (t : ℕ) (op : Op) (a : Accepted w t op) where
   abbrev v′ : World
-  v′ = withRecord w t (firstOf op)
+  v′ = withTask w t (firstOf op)
 
   idle-here : (j : ℕ) → on (w .records) j t ≡ idle
   idle-here j = idle-to w g κ G t op a j

@@ -13,17 +13,18 @@ use Rattle.cells.specs.declared.Outcome.the-variants.{Refused, Acted}
 use Rattle.lines.specs.declared.Next.{Next}
 use Rattle.lines.specs.declared.Next.the-variants.{Go, Done}
 use Rattle.lines.specs.Record.{idle, isIdle}
-use Rattle.lines.specs.Lines.{Line, lineAt, lineOf, nowhere, accessAt, accessOf, counted, nextOf, hardware}
+use Rattle.lines.specs.Lines.{Line, lineAt, lineOf, accessAt, accessOf, counted, nextOf, hardware}
 use Rattle.questions.specs.Questions.{Question, refusal, ofKind, reads, swaps, lineFit, valuesFit, beginQuestions, swapQuestions, stepQuestions}
 use Rattle.lines.specs.Record.{firstRead, firstSwap}
 use Rattle.history.specs.Basics.{upd, _∈_}
-use Rattle.history.specs.History.{Op, read, swap, cellOf, Action, begin, step, run}
+use Rattle.history.specs.History.{Op, read, swap, cellOf, Action, begin, step, Report, run}
 use Rattle.history.proofs.Basics.{either, upd-at, upd-off, upd-cases}
-use Rattle.figure.specs.Figure.{Cell, World, withRecord, withBoth, After, leaving, unless, recordAfter, outcomeOf, ran, stepped, begins, opening, figure, perform}
-use Rattle.cells.specs.Events.{eventOf, tried}
-use Rattle.figure.specs.Paths.{paths, count, Traced, Trace, didLine, enterLine, traces}
+use Rattle.figure.specs.Figure.{Cell, World, withTask, withBoth, WorldAfter, worldAfter, unlessRefused, recordAfter, outcomeOf, figureRan, figureStepped, figureBegun, opening, figure, accessCell}
+use Rattle.cells.specs.Events.{answerOf, reportOf, eventOf, tried}
+use Rattle.figure.specs.Paths.{count, Traced, Trace, didLine, enterLine, traces}
 use Rattle.figure.specs.Paths as Paths
-use Rattle.figure.proofs.LineLaws.{every, every-in, every-line, both, imp, lines, same, before, readPaths, endings, extends-in, hardware-alike, Leads, goes, done, leads}
+use Rattle.figure.proofs.AsBegun.{opOf}
+use Rattle.figure.proofs.LineLaws.{every, every-in, every-line, both, imp, lines, before, extends-in, waysOf, hardware-alike, Leads, goes, done, leads}
 
 -- A CALL AND THE LINES THAT IT DID
 
@@ -36,12 +37,11 @@ pub record Pending (v : ℕ) (did : List Line) (q : Record) : Type 0 where
   pub hard : q .hard ≡ count hardware did
   pub lines : did ∈ before (lineOf q)
 
--- a finished call with these lines that reported these counts; whether it was begun as a read
-pub record Complete (reads : Type 0) (lines : List Line) (steps hard : ℕ) : Type 0 where
-  pub path : lines ∈ paths
-  pub read-path : reads → lines ∈ readPaths
-  pub all-steps : steps ≡ Paths.steps lines
-  pub all-hard : hard ≡ count hardware lines
+-- a finished call of this operation, with these lines and this report
+pub record Complete (op : Op) (lines : List Line) (r : Report) : Type 0 where
+  pub path : lines ∈ waysOf op (r .answer)
+  pub all-steps : r .steps ≡ Paths.steps lines
+  pub all-hard : r .hard ≡ count hardware lines
 
 pub steps-on : (d : List Line) (l : Line) → Paths.steps (d ++ (l ∷ [])) ≡ Paths.steps d + 1
 steps-on [] l = refl
@@ -55,18 +55,6 @@ hardware-on (a ∷ d) l = omega (arith, hardware-on d l)
 reading : (q : Record) → q .kind ≡ 1 → lineFit q ≡ true → ofKind (lineOf q) true false ≡ true
 reading q e k = rw e at k
 
-read-paths : (l : Line) (x : List Line) → x ∈ endings l → x ∈ paths
-read-paths l x m = go (ofKind l true false) m
-  where
-    go : (b : Bool) → x ∈ cond b readPaths paths → x ∈ paths
-    go true (inl e) = inl e
-    go true (inr (inl e)) = inr (inl e)
-    go false m = m
-
--- a fit line is a line
-not-nowhere : (q : Record) → lineFit q ≡ true → T (not (same (lineOf q) nowhere))
-not-nowhere q k = imp (lineFit q) (not (same (lineOf q) nowhere)) (every-line (λ l. not (same l nowhere) || not (ofKind l (reads q) (swaps q))) tt (lineOf q)) k
-
 pub not-idle : (q : Record) → lineFit q ≡ true → isIdle q ≡ false
 not-idle q k = ne-eqb (q .line) 0 (λ e. false≢true (rw e at k))
 
@@ -75,12 +63,12 @@ few n x d = ltb (Paths.steps d) n && leb (count hardware d) x
 
 module _ (v : ℕ) (did : List Line) (q : Record) (o : Pending v did q) where
   pub led : (t x : ℕ) → Leads (lineOf q) (counted q (accessOf t q)) (nextOf t q x)
-  led t x = leads (lineOf q) t (counted q (accessOf t q)) x refl (not-nowhere q (o .line))
+  led t x = leads (lineOf q) t (counted q (accessOf t q)) x refl (o .line)
 
   -- what its next line makes of it
   abbrev pub Then : Next → Type 0
   Then (Go r) = Pending v (did ++ (lineOf q ∷ [])) r
-  Then (Done f) = Complete (f .kind ≡ 1) (did ++ (lineOf q ∷ [])) (f .steps) (f .hard)
+  Then (Done f) = Complete (opOf q) (did ++ (lineOf q ∷ [])) (reportOf f)
 
   pub one-line : (t x : ℕ) → Then (nextOf t q x)
   one-line t x = go (led t x)
@@ -100,9 +88,7 @@ module _ (v : ℕ) (did : List Line) (q : Record) (o : Pending v did q) where
         hard = hard;
         lines = extends-in (lineOf q) (before (lineAt n w)) (h .0) did (o .lines);
       }
-      go (done h) =
-          let m = extends-in (lineOf q) (endings (lineOf q)) h did (o .lines) in
-          record { path = read-paths (lineOf q) _ m; read-path = λ e. rw (reading q e (o .line)) at m; all-steps = steps; all-hard = hard }
+      go (done {a} h) = record { path = extends-in (lineOf q) (waysOf (opOf q) (answerOf a)) h did (o .lines); all-steps = steps; all-hard = hard }
 
   -- bounds, found by computing over all that may stand before a line that passes the test
   bounded : (n x : ℕ) (test : Line → Bool) → T (every (λ l. every (few n x) (before l) || not (test l)) lines) → test (lineOf q) ≡ true → (q .steps < n) × (q .hard ≤ x)
@@ -150,19 +136,19 @@ pub record Accepted (w : World) (t : ℕ) (op : Op) : Type 0 where
   pub free : isIdle (w .records t) ≡ true
   pub values : valuesFit (firstOf op) ≡ true
 
-pub data Begun (w : World) (t : ℕ) (op : Op) : After → Type 0 where
-  refuses : (n : ℕ) → Begun w t op (leaving w (Refused n))
-  starts : Accepted w t op → Begun w t op (leaving (withRecord w t (firstOf op)) Acted)
+pub data Begun (w : World) (t : ℕ) (op : Op) : WorldAfter → Type 0 where
+  refuses : (n : ℕ) → Begun w t op (worldAfter w (Refused n))
+  starts : Accepted w t op → Begun w t op (worldAfter (withTask w t (firstOf op)) Acted)
 
-pub begin-cases : (w : World) (t : ℕ) (op : Op) → Begun w t op (begins w t op)
-unfolding begins
+pub begin-cases : (w : World) (t : ℕ) (op : Op) → Begun w t op (figureBegun w t op)
+unfolding figureBegun
 begin-cases w t op = go op
   where
-    by : (op : Op) {l : List Question} {o : Option ℕ} → Asked l o → (AllYes l → Accepted w t op) → Begun w t op (unless o w (leaving (withRecord w t (firstOf op)) Acted))
+    by : (op : Op) {l : List Question} {o : Option ℕ} → Asked l o → (AllYes l → Accepted w t op) → Begun w t op (unlessRefused o w (worldAfter (withTask w t (firstOf op)) Acted))
     by op (denied n h) f = refuses n
     by op (granted y) f = starts (f y)
 
-    go : (op : Op) → Begun w t op (begins w t op)
+    go : (op : Op) → Begun w t op (figureBegun w t op)
     go (read k) = by (read k) (ask (beginQuestions (w .tasks) (w .cells) (w .records t) t k))
         (λ y. record { task = ltb-true _ _ (y .0); cell = ltb-true _ _ (y .1 .0); free = y .1 .1 .0; values = refl })
     go (swap k e n) = by (swap k e n) (ask (swapQuestions (w .tasks) (w .cells) (w .records t) t k e n))
@@ -173,15 +159,15 @@ abbrev pub OnPath : (tasks cells t : ℕ) → List Line → Record → Type 0
 OnPath n v t did q = ((q ≡ idle) × (did ≡ [])) ⊎ ((t < n) × Pending v did q)
 
 -- a step is refused where no call is pending, and only there
-pub data Stepped (w : World) (t : ℕ) (did : List Line) : After → Type 0 where
-  refuses : (n : ℕ) → w .records t ≡ idle → Stepped w t did (leaving w (Refused n))
-  runs : t < w .tasks → Pending (w .cells) did (w .records t) → Stepped w t did (ran w t (w .records t))
+pub data Stepped (w : World) (t : ℕ) (did : List Line) : WorldAfter → Type 0 where
+  refuses : (n : ℕ) → w .records t ≡ idle → Stepped w t did (worldAfter w (Refused n))
+  runs : t < w .tasks → Pending (w .cells) did (w .records t) → Stepped w t did (figureRan w t (w .records t))
 
-pub step-cases : (w : World) (t : ℕ) (did : List Line) → OnPath (w .tasks) (w .cells) t did (w .records t) → Stepped w t did (stepped w t)
-unfolding stepped
+pub step-cases : (w : World) (t : ℕ) (did : List Line) → OnPath (w .tasks) (w .cells) t did (w .records t) → Stepped w t did (figureStepped w t)
+unfolding figureStepped
 step-cases w t did p = go (ask (stepQuestions (w .tasks) (w .records t) t)) p
   where
-    go : {o : Option ℕ} → Asked (stepQuestions (w .tasks) (w .records t) t) o → OnPath (w .tasks) (w .cells) t did (w .records t) → Stepped w t did (unless o w (ran w t (w .records t)))
+    go : {o : Option ℕ} → Asked (stepQuestions (w .tasks) (w .records t) t) o → OnPath (w .tasks) (w .cells) t did (w .records t) → Stepped w t did (unlessRefused o w (figureRan w t (w .records t)))
     go (denied n h) (inl i) = refuses n (i .0)
     go (denied n h) (inr (m, o)) = absurd (h (lt-ltb _ _ m, (rw (not-idle (w .records t) (o .line)), tt)))
     go (granted y) (inl i) = absurd (false≢true (rw (i .0) at (y .1 .0)))
@@ -197,10 +183,10 @@ opening-on-path n v vs t = ([], inl (refl, refl))
 
 -- the record is of the operation as begun
 abbrev Begins : Op → Record → Type 0
-Begins op q = (k : ℕ) → op ≡ read k → (q ≡ idle) ⊎ (q .kind ≡ 1)
+Begins op q = (q ≡ idle) ⊎ (op ≡ opOf q)
 
 abbrev pub CompleteCall : Traced → Type 0
-CompleteCall x = Complete ((k : ℕ) × (x .op ≡ read k)) (x .lines) (x .report .steps) (x .report .hard)
+CompleteCall x = Complete (x .op) (x .lines) (x .report)
 
 -- a trace of the figure, now w, whose calls keep to the paths: each task with the lines that its pending call did, and every finished
 -- call complete
@@ -241,7 +227,7 @@ module _ (w : World) (r : Trace) (s : Sound w r) where
   put-begun : (t : ℕ) (q : Record) → Begins (r .op t) q → (u : ℕ) → Begins (r .op u) (upd (w .records) t q u)
   put-begun t q b u = upd-cases (Begins (r .op u)) (w .records) t q u (λ e. rw e b) (λ e. s .begun u)
 
-  begin-sound : (t : ℕ) (op : Op) {f : After} → Begun w t op f → Sound (f .world) (enterLine now r (begin t op) (eventOf 0 (f .outcome)))
+  begin-sound : (t : ℕ) (op : Op) {f : WorldAfter} → Begun w t op f → Sound (f .world) (enterLine now r (begin t op) (eventOf 0 (f .outcome)))
   begin-sound t op (refuses n) = s
   begin-sound t op (starts a) = record {
     pending = put t (firstOf op) [] (inr (a .task, first-on-path w t op a));
@@ -250,34 +236,34 @@ module _ (w : World) (r : Trace) (s : Sound w r) where
   }
     where
       kind : (op : Op) → Begins op (firstOf op)
-      kind (read j) k e = inr refl
-      kind (swap j o n) k e = absurd (let z : _≡_ {A = ℕ} 0 1 = cc in omega arith)
+      kind (read j) = inr refl
+      kind (swap j o n) = inr refl
 
   module _ (t : ℕ) (m : t < w .tasks) (o : Pending (w .cells) (r .did t) (w .records t)) where
     abbrev q : Record
     q = w .records t
 
-    is-read : (k : ℕ) → r .op t ≡ read k → q .kind ≡ 1
-    is-read k e = go (s .begun t k e)
+    its-op : r .op t ≡ opOf q
+    its-op = go (s .begun t)
       where
-        go : (q ≡ idle) ⊎ (q .kind ≡ 1) → q .kind ≡ 1
+        go : Begins (r .op t) q → r .op t ≡ opOf q
         go (inl i) = absurd (false≢true (sym (not-idle q (o .line)) ∙ ap isIdle i))
         go (inr i) = i
 
     line-sound : (c : Cell) {n : Next} → Leads (lineOf q) (counted q (accessOf t q)) n → Then (w .cells) (r .did t) q o n
         → Sound (withBoth w (q .cell) c t (recordAfter n)) (enterLine now r (step t) (eventOf (tried t q) (outcomeOf n)))
-    line-sound c (goes f) k = record { pending = put t _ (didLine now r t) (inr (m, k)); begun = put-begun t _ (λ j e. inr (is-read j e)); complete = s .complete }
+    line-sound c (goes f) k = record { pending = put t _ (didLine now r t) (inr (m, k)); begun = put-begun t _ (inr its-op); complete = s .complete }
     line-sound c (done f) k = record {
       pending = put t idle [] (inl (refl, refl));
-      begun = put-begun t idle (λ j e. inl refl);
-      complete = with-first CompleteCall _ (r .done) (record { path = k .path; read-path = λ b. k .read-path (is-read (b .0) (b .1)); all-steps = k .all-steps; all-hard = k .all-hard }) (s .complete);
+      begun = put-begun t idle (inl refl);
+      complete = with-first CompleteCall _ (r .done) (rw its-op k) (s .complete);
     }
 
-  step-sound : (t : ℕ) {f : After} → Stepped w t (r .did t) f → Sound (f .world) (enterLine now r (step t) (eventOf (tried t (w .records t)) (f .outcome)))
-  unfolding ran
+  step-sound : (t : ℕ) {f : WorldAfter} → Stepped w t (r .did t) f → Sound (f .world) (enterLine now r (step t) (eventOf (tried t (w .records t)) (f .outcome)))
+  unfolding figureRan
   step-sound t (refuses n i) = s
   step-sound t (runs m o) =
-      let c = perform (w .cell (w .records t .cell)) (accessOf t (w .records t)) in
+      let c = accessCell (w .cell (w .records t .cell)) (accessOf t (w .records t)) in
       line-sound t m o (c .cell) (led (w .cells) (r .did t) (w .records t) o t (c .value)) (one-line (w .cells) (r .did t) (w .records t) o t (c .value))
 
   pub act-sound : (a : Action) → Sound (figure w a .0) (enterLine now r a (figure w a .1))
@@ -294,8 +280,8 @@ traces-sound w r s (a ∷ l) = traces-sound (figure w a .0) (enterLine (λ t. li
 
 pub act-on-path : (w : World) → AllOnPath w → (a : Action) → AllOnPath (figure w a .0)
 act-on-path w p a =
-    let r : Trace = record { op = λ t. swap 0 0 0; did = λ t. p t .0; done = [] } in
-    let s : Sound w r = record { pending = λ t. p t .1; begun = λ t k e. absurd (let z : _≡_ {A = ℕ} 0 1 = cc in omega arith); complete = λ x i. absurd i } in
+    let r : Trace = record { op = λ t. opOf (w .records t); did = λ t. p t .0; done = [] } in
+    let s : Sound w r = record { pending = λ t. p t .1; begun = λ t. inr refl; complete = λ x i. absurd i } in
     λ t. (enterLine (λ t. lineOf (w .records t)) r a (figure w a .1) .did t, act-sound w r s a .pending t)
 
 pub run-on-path : (w : World) → AllOnPath w → (l : List Action) → AllOnPath (run figure w l)
@@ -307,15 +293,15 @@ abbrev pub SameSizes : World → World → Type 0
 SameSizes w w' = (w' .tasks ≡ w .tasks) × (w' .cells ≡ w .cells)
 
 pub act-sizes : (w : World) (a : Action) → SameSizes w (figure w a .0)
-unfolding stepped ran
+unfolding figureStepped figureRan
 act-sizes w (begin t op) = go (begin-cases w t op)
   where
-    go : {f : After} → Begun w t op f → SameSizes w (f .world)
+    go : {f : WorldAfter} → Begun w t op f → SameSizes w (f .world)
     go (refuses n) = (refl, refl)
     go (starts a) = (refl, refl)
 act-sizes w (step t) = go (refusal (stepQuestions (w .tasks) (w .records t) t))
   where
-    go : (o : Option ℕ) → SameSizes w (unless o w (ran w t (w .records t)) .world)
+    go : (o : Option ℕ) → SameSizes w (unlessRefused o w (figureRan w t (w .records t)) .world)
     go none = (refl, refl)
     go (some n) = (refl, refl)
 

@@ -1,20 +1,23 @@
 -- Lines 29 and 30: a new block that nobody knows, and the cell that gets it.
-use mathlib.Core.Path.{_≡_, sym, ap, _∙_}
+use mathlib.Core.Path.{_≡_, refl, sym, ap, _∙_}
 use mathlib.Core.Logic.{_≢_, _⊎_, inl, inr}
 use mathlib.Core.Bool.{Bool, true}
+use mathlib.Core.List.{[], _∷_}
 use Prim.Native.Nat.{ℕ, _<_}
 use native.Mathlib.Omega.{arith}
 use lib.Dec.{T}
 use Rattle.lines.specs.declared.Record.{Record}
+use Rattle.lines.specs.declared.Field.{Field}
+use Rattle.lines.specs.declared.Field.the-variants.{X, Y, C, D}
 use Rattle.lines.specs.declared.Access.{Access}
-use Rattle.lines.specs.Lines.{Line, l29, l30, nowhere, lineOf, at, counted}
-use Rattle.history.specs.Basics.{upd}
+use Rattle.lines.specs.Lines.{Line, l10, l15, l29, l30, nowhere, lineOf, at, counted}
+use Rattle.history.specs.Basics.{upd, _∈_}
 use Rattle.history.proofs.Basics.{either, upd-same, upd-off}
 use Rattle.history.proofs.Simulation.{Phase, settled, late}
-use Rattle.figure.specs.Figure.{Cell, install, allocate}
-use Rattle.figure.proofs.Classes.{is, holding, racing, won, loaded, stored, contended, replacing, checking, lies-in}
+use Rattle.figure.specs.Figure.{Cell, wordOf, install, allocate}
+use Rattle.figure.proofs.Classes.{is, holding, racing, loaded, stored, lies-in, holds-not}
 use Rattle.figure.proofs.Invariant.{none, View, Knowledge, Store, Split, Value, Decided, Seen, Planned, Fresh, Owner, TaskOf, line, held, Inv}
-use Rattle.figure.proofs.Frame.{moved, Rest, Mine, finish, was, undecided}
+use Rattle.figure.proofs.Frame.{moved, Rest, Mine, finish, was, undecided, decided-with}
 use Rattle.figure.proofs.Looking.{off, idle-mine, not-late, settled≢late, decided-settled}
 
 -- LINE 30, where the held block is the current one
@@ -76,19 +79,7 @@ module _ (s : View) (κ : Knowledge) (t : ℕ) (i : Inv s κ) (e : line s t ≡ 
         value = k .value;
         early = k .early;
         store = k .store;
-        decided = let r = k .decided in record {
-          replaced-decided = λ b z. all-decided u b;
-          decided-inactive = r .decided-inactive;
-          before-store = r .before-store;
-          placed-value = λ b g z. absurd (all-decided u (lies-in stored holding tt (line s u) b) z);
-          placed-decided = r .placed-decided;
-          late-inactive = r .late-inactive;
-          late-phase = r .late-phase;
-          late-decided = r .late-decided;
-          inactive = r .inactive;
-          decided = r .decided;
-          expected = r .expected;
-        };
+        decided = let r = k .decided in decided-with r (λ z. z) (λ b. refl) (λ b z. all-decided u b) (λ b g z. absurd (all-decided u (lies-in stored holding tt (line s u) b) z)) (r .late-phase);
         seen = let r = k .seen in record { active-value = r .active-value; refusing = r .refusing; decision = r .decision; replaced = λ b z. other u b (either (held s u) L) };
         planned = record { plan-some = k .planned .plan-some; plan = λ b z. absurd (all-decided u (lies-in (is 2) holding tt (line s u) b) z) };
         fresh = λ b. let f = k .fresh b in record { below = f .below; other = i .apart u t ne b (rw e tt); v-is = f .v-is; d-is = f .d-is; y-is = f .y-is; c-is = f .c-is };
@@ -101,29 +92,16 @@ module _ (s : View) (κ : Knowledge) (t : ℕ) (i : Inv s κ) (e : line s t ≡ 
 
 -- LINE 29
 
--- of a task that holds nothing, nothing is said of any block's words
-module _ (u : ℕ) (ℓ : Line) (q : Record) (κ : Knowledge) (nv next : ℕ) (placed : Bool) (L P : ℕ) (phase : Phase) (n : T (holding ℓ) → ⊥) where
-  holds-nothing : (x y c v d vL : ℕ) → Split u ℓ x y × Value ℓ nv (q .held) (q .loaded) next v × Decided u ℓ q placed d c L P phase × Seen ℓ (q .held) (q .loaded) (κ .loaded u) (κ .decided u) (κ .replaced u) d c L × Planned ℓ (q .loaded) d P vL × Store ℓ (κ .storedActive u) placed d c
-  holds-nothing x y c v d vL = (
-    record { about-to-win = λ a. absurd (n (lies-in (is 19) holding tt ℓ a)); kept = λ a. absurd (n (lies-in won holding tt ℓ a)) },
-    record { there = λ a. absurd (n a); some = λ a. absurd (n a); still-loaded = λ a. absurd (n (lies-in loaded holding tt ℓ a)); still-stored = λ a. absurd (n (lies-in stored holding tt ℓ a)) },
-    record {
-      replaced-decided = λ a. absurd (n a);
-      decided-inactive = λ a. absurd (n a);
-      before-store = λ a. absurd (n (lies-in (is 23) holding tt ℓ a));
-      placed-value = λ a. absurd (n (lies-in stored holding tt ℓ a));
-      placed-decided = λ a. absurd (n (lies-in stored holding tt ℓ a));
-      late-inactive = λ a. absurd (n (lies-in stored holding tt ℓ a));
-      late-phase = λ a. absurd (n (lies-in stored holding tt ℓ a));
-      late-decided = λ a. absurd (n (lies-in stored holding tt ℓ a));
-      inactive = λ a. absurd (n (lies-in contended holding tt ℓ a));
-      decided = λ a. absurd (n (lies-in (is 3) holding tt ℓ a));
-      expected = λ a. absurd (n (lies-in replacing holding tt ℓ a));
-    },
-    record { active-value = λ a. absurd (n (lies-in checking holding tt ℓ a)); refusing = λ a. absurd (n (lies-in (is 22) holding tt ℓ a)); decision = λ a. absurd (n a); replaced = λ a. absurd (n a) },
-    record { plan-some = λ a. absurd (n (lies-in (is 2) holding tt ℓ a)); plan = λ a. absurd (n (lies-in (is 2) holding tt ℓ a)) },
-    record { active-placed = λ a. absurd (n (lies-in stored holding tt ℓ a)); late-placed = λ a. absurd (n (lies-in stored holding tt ℓ a)); late-store = λ a. absurd (n (lies-in stored holding tt ℓ a)); yes-active = λ a. absurd (n (lies-in (is 26) holding tt ℓ a)) },
-  )
+-- what is said of the words of the block that a task holds; of one that holds nothing, nothing
+module _ (u : ℕ) (q : Record) (κ : Knowledge) (next : ℕ) (placed : Bool) (L P : ℕ) (phase : Phase) where
+  abbrev Words : Line → (x y c v d vL : ℕ) → Type 0
+  Words ℓ x y c v d vL = Split u ℓ x y × Value ℓ (q .new) (q .held) (q .loaded) next v × Decided u ℓ q placed d c L P phase ×
+      Seen ℓ (q .held) (q .loaded) (κ .loaded u) (κ .decided u) (κ .replaced u) d c L × Planned ℓ (q .loaded) d P vL × Store ℓ (κ .storedActive u) placed d c
+
+  holds-nothing : (ℓ : Line) → ℓ ∈ (nowhere ∷ l10 ∷ l15 ∷ []) → (x y c v d vL : ℕ) → Words ℓ x y c v d vL
+  holds-nothing ℓ (inl e) x y c v d vL = rw e (search off, search off, search off, search off, search off, search off)
+  holds-nothing ℓ (inr (inl e)) x y c v d vL = rw e (search off, search off, search off, search off, search off, search off)
+  holds-nothing ℓ (inr (inr (inl e))) x y c v d vL = rw e (search off, search off, search off, search off, search off, search off)
 
 module _ (s : View) (κ : Knowledge) (t : ℕ) (i : Inv s κ) (e : line s t ≡ l29) (a : Access) (n w : ℕ) where
   abbrev p : Record
@@ -141,53 +119,46 @@ module _ (s : View) (κ : Knowledge) (t : ℕ) (i : Inv s κ) (e : line s t ≡ 
   abbrev pub grown : View
   grown = record { cell = m′; task = s .task; value = s .value; placed = s .placed; phase = s .phase }
 
-  -- an old block keeps its words
-  module _ (b : ℕ) (h : b < m .next) where
-    oldX : m′ .x b ≡ m .x b
-    oldX = upd-off (m .x) (m .next) _ b (omega arith)
-
-    oldY : m′ .y b ≡ m .y b
-    oldY = upd-off (m .y) (m .next) _ b (omega arith)
-
-    oldC : m′ .c b ≡ m .c b
-    oldC = upd-off (m .c) (m .next) _ b (omega arith)
-
-    oldV : m′ .v b ≡ m .v b
-    oldV = upd-off (m .v) (m .next) _ b (omega arith)
-
-    oldD : m′ .d b ≡ m .d b
-    oldD = upd-off (m .d) (m .next) _ b (omega arith)
+  -- any block but the new one keeps its words
+  old : (b : ℕ) → b ≢ m .next → (f : Field) → wordOf m′ b f ≡ wordOf m b f
+  old b h X = upd-off (m .x) (m .next) _ b h
+  old b h Y = upd-off (m .y) (m .next) _ b h
+  old b h C = upd-off (m .c) (m .next) _ b h
+  old b h Field.V = upd-off (m .v) (m .next) _ b h
+  old b h D = upd-off (m .d) (m .next) _ b h
 
   low : m .current < m .next
   low = i .current .low
 
-  abbrev Words : ℕ → Line → Record → (x y c v d vL : ℕ) → Type 0
-  Words u ℓ q x y c v d vL = Split u ℓ x y × Value ℓ (q .new) (q .held) (q .loaded) (m′ .next) v × Decided u ℓ q (s .placed u) d c (m .current) (s .value) (s .phase) ×
-      Seen ℓ (q .held) (q .loaded) (κ .loaded u) (κ .decided u) (κ .replaced u) d c (m .current) × Planned ℓ (q .loaded) d (s .value) vL × Store ℓ (κ .storedActive u) (s .placed u) d c
+  old-L : (f : Field) → wordOf m′ (m .current) f ≡ wordOf m (m .current) f
+  old-L = old (m .current) (λ z. omega (arith, low))
 
-  words : (u : ℕ) (ℓ : Line) (q : Record) → TaskOf s κ u ℓ q → Words u ℓ q (m′ .x (q .held)) (m′ .y (q .held)) (m′ .c (q .held)) (m′ .v (q .held)) (m′ .d (q .held)) (m′ .v (m .current))
+  abbrev Says : ℕ → Line → Record → Type 0
+  Says u ℓ q = Words u q κ (m′ .next) (s .placed u) (m .current) (s .value) (s .phase) ℓ (m′ .x (q .held)) (m′ .y (q .held)) (m′ .c (q .held)) (m′ .v (q .held)) (m′ .d (q .held)) (m′ .v (m .current))
+
+  words : (u : ℕ) (ℓ : Line) (q : Record) → TaskOf s κ u ℓ q → Says u ℓ q
   words u ℓ q k = go (either (q .held) (m .next))
     where
-      go : (q .held ≡ m .next) ⊎ (q .held ≢ m .next) → Words u ℓ q (m′ .x (q .held)) (m′ .y (q .held)) (m′ .c (q .held)) (m′ .v (q .held)) (m′ .d (q .held)) (m′ .v (m .current))
-      go (inl z) = holds-nothing u ℓ q κ (q .new) (m′ .next) (s .placed u) (m .current) (s .value) (s .phase) (λ b. let g : q .held < m .next = k .value .there b in omega arith) _ _ _ _ _ _
-      go (inr z) = rw (upd-off (m .x) (m .next) 255 (q .held) z, upd-off (m .y) (m .next) 0 (q .held) z, upd-off (m .c) (m .next) 0 (q .held) z, upd-off (m .v) (m .next) (p .new) (q .held) z, upd-off (m .d) (m .next) _ (q .held) z, oldV (m .current) low)
+      go : (q .held ≡ m .next) ⊎ (q .held ≢ m .next) → Says u ℓ q
+      go (inl z) = holds-nothing u q κ (m′ .next) (s .placed u) (m .current) (s .value) (s .phase) ℓ (holds-not ℓ (λ b. let g : q .held < m .next = k .value .there b in omega arith)) _ _ _ _ _ _
+      go (inr z) = let o = old (q .held) z in rw (o X, o Y, o C, o Field.V, o D, old-L Field.V)
           (let v = k .value in (k .split, record { there = λ b. let g : q .held < m .next = v .there b in omega arith; some = v .some; still-loaded = v .still-loaded; still-stored = v .still-stored }, k .decided, k .seen, k .planned, k .store))
 
   older : (b nv : ℕ) → Fresh b nv (m .next) (m .v b) (m .d b) (m .y b) (m .c b) (m .current) → Fresh b nv (m′ .next) (m′ .v b) (m′ .d b) (m′ .y b) (m′ .c b) (m .current)
-  older b nv f = let g : b < m .next = f .below in rw (oldV b g, oldD b g, oldY b g, oldC b g) record { below = omega arith; other = f .other; v-is = f .v-is; d-is = f .d-is; y-is = f .y-is; c-is = f .c-is }
+  older b nv f = let g : b < m .next = f .below in let o = old b (λ z. omega arith) in rw (o Field.V, o D, o Y, o C) record { below = omega arith; other = f .other; v-is = f .v-is; d-is = f .d-is; y-is = f .y-is; c-is = f .c-is }
 
   kept-owner : (u : ℕ) (ℓ : Line) (q : Record) → TaskOf s κ u ℓ q → s .phase ≡ late u → Owner ℓ q (s .placed u) (m .current) (s .value) (m′ .v (m .current))
-  kept-owner u ℓ q k z = rw (oldV (m .current) low) (k .owner z)
+  kept-owner u ℓ q k z = rw (old-L Field.V) (k .owner z)
 
   rest-grown : Rest grown κ t
   rest-grown = record {
     apart = λ u w ne ne′. i .apart u w;
-    current = let k = i .current in rw (oldC (m .current) low, oldV (m .current) low, oldD (m .current) low) record
+    current = let k = i .current in rw (old-L C, old-L Field.V, old-L D) record
         { low = omega arith; P-some = k .P-some; v-some = k .v-some; decided-inactive = k .decided-inactive; decision = k .decision; phase-is = k .phase-is };
     tasks = λ u ne. let k = i .tasks u in let g = words u (line s u) (s .task u) k in record
         { self = k .self; split = g .0; value = g .1; decided = g .2; seen = g .3; planned = g .4; store = g .5; early = k .early; fresh = λ b. older (s .task u .taken) (s .task u .new) (k .fresh b); owner = kept-owner u (line s u) (s .task u) k };
     rivals = λ u w ne ne′ z g. let k = i .rivals u w z g in record
-        { one-won = k .one-won; no-race = λ b c. rw (oldX (held s w) (i .tasks w .value .there (lies-in racing holding tt (line s w) c))) (k .no-race b c) };
+        { one-won = k .one-won; no-race = λ b c. let l : held s w < m .next = i .tasks w .value .there (lies-in racing holding tt (line s w) c) in rw (old (held s w) (λ z. omega arith) X) (k .no-race b c) };
   }
 
   mine-grown : Mine grown κ t l30 next

@@ -19,15 +19,16 @@ use Rattle.history.proofs.Moments as Placing
 use Rattle.history.proofs.Moments.{marks-linearize, marks-answers}
 use Rattle.history.proofs.Simulation.{Phase, Ghost, Knowledge, Keeps, Forward, Quietly, QuietSteps}
 use Rattle.history.proofs.Simulation as Sim
-use Rattle.figure.specs.Figure.{World, withBoth, After, recordAfter, outcomeOf, ran, opening, figure, clear}
+use Rattle.figure.specs.Figure.{World, withBoth, WorldAfter, recordAfter, outcomeOf, figureRan, opening, figure, clear}
 use Rattle.cells.specs.Events.{answerOf, eventOf, tried}
 use Rattle.figure.specs.Moments.{Notes, noNotes, nothingNoted, noted, noteStep, note, names, sees, moments}
 use Rattle.figure.proofs.Records.{Pending, AllOnPath, Begun, starts, firstOf, begin-cases, Stepped, runs, step-cases, act-on-path}
 use Rattle.figure.proofs.Tallies.{tally, doing, follows, within}
+use Rattle.figure.proofs.LineLaws.{by-test}
 use Rattle.figure.proofs.Classes.{storing}
 use Rattle.figure.proofs.Invariant.{none, View}
 use Rattle.figure.proofs.Invariant as Local
-use Rattle.figure.proofs.Steps.{Step, Reason, Out, by-test}
+use Rattle.figure.proofs.Steps.{Step, Reason, Out}
 use Rattle.figure.proofs.Views.{on, view}
 use Rattle.figure.proofs.Operations.{busy-line, busy-doing}
 use Rattle.figure.proofs.Worlds.{Good, Noted, doingIn, clock, known, pending-at, cellAfter, nextAfter, stepAfter, κ⁺, out, moveOf, may, kept-all}
@@ -98,12 +99,12 @@ module _ (n v : ℕ) (w : World) (notes : Notes) (g : Ghost) (κ : Knowledge) (i
   passing : Keeps doingIn clock (names figure sees) Inv (w, notes) (w, nothingNoted notes) g κ
   passing κ′ grown = record { size = i .size; tasks = i .tasks; good = good-grown w notes g κ κ′ (i .good) grown; dated = record { placed = i .dated .placed; since = i .dated .since }; marks = i .marks }
 
-  step-forward : (t : ℕ) (did : List Line) {f : After} → Stepped w t did f → AllOnPath (f .world) → let e = eventOf (tried t (w .records t)) (f .outcome) in Forwards (step t) (f .world, noteStep e notes t (sees w t)) e
-  unfolding ran
+  step-forward : (t : ℕ) (did : List Line) {f : WorldAfter} → Stepped w t did f → AllOnPath (f .world) → let e = eventOf (tried t (w .records t)) (f .outcome) in Forwards (step t) (f .world, noteStep e notes t (sees w t)) e
+  unfolding figureRan
   step-forward t did (Stepped.refuses x e) p = passing
   step-forward t did (runs x o) p = line-forward t did o (nextAfter w t) refl (out w notes g κ (i .good) t did o) p
 
-  begin-forward : (t : ℕ) (op : Op) {f : After} → Begun w t op f → AllOnPath (f .world) → Forwards (begin t op) (f .world, nothingNoted notes) (eventOf 0 (f .outcome))
+  begin-forward : (t : ℕ) (op : Op) {f : WorldAfter} → Begun w t op f → AllOnPath (f .world) → Forwards (begin t op) (f .world, nothingNoted notes) (eventOf 0 (f .outcome))
   begin-forward t op (Begun.refuses x) p = passing
   begin-forward t op (starts a) p = λ κ′ grown. record {
     size = i .size;
@@ -123,8 +124,8 @@ module _ (n v : ℕ) (w : World) (notes : Notes) (g : Ghost) (κ : Knowledge) (i
 
   -- QUIET TASKS
 
-  step-quiet : (t : ℕ) (did : List Line) {f : After} → Stepped w t did f → Quietly doing clear QuietIn w (step t) (f .world) (eventOf (tried t (w .records t)) (f .outcome))
-  unfolding ran
+  step-quiet : (t : ℕ) (did : List Line) {f : WorldAfter} → Stepped w t did f → Quietly doing clear QuietIn w (step t) (f .world) (eventOf (tried t (w .records t)) (f .outcome))
+  unfolding figureRan
   step-quiet t did (Stepped.refuses x e) = tt
   step-quiet t did (runs x o) = go (nextAfter w t) (step-quietly w g κ₀ (i .good) (i .marks) t did o)
     where
@@ -132,7 +133,7 @@ module _ (n v : ℕ) (w : World) (notes : Notes) (g : Ghost) (κ : Knowledge) (i
       go (Go r) z = z
       go (Done f) z = z
 
-  begin-quiet : (t : ℕ) (op : Op) {f : After} → Begun w t op f → Quietly doing clear QuietIn w (begin t op) (f .world) (eventOf 0 (f .outcome))
+  begin-quiet : (t : ℕ) (op : Op) {f : WorldAfter} → Begun w t op f → Quietly doing clear QuietIn w (begin t op) (f .world) (eventOf 0 (f .outcome))
   begin-quiet t op (Begun.refuses x) = tt
   begin-quiet t op (starts a) = begin-quietly w g κ₀ (i .good) (i .marks) t op a
 

@@ -1,5 +1,5 @@
 -- The lines that change the splitter's words or make a block inactive: 16, 18, 22, 26 and 27.
-use mathlib.Core.Path.{_≡_, sym}
+use mathlib.Core.Path.{_≡_, refl, sym}
 use mathlib.Core.Logic.{_≢_}
 use Prim.Native.Nat.{ℕ}
 use native.Mathlib.Omega.{arith}
@@ -14,14 +14,14 @@ use Rattle.history.proofs.Simulation.{Phase, late}
 use Rattle.figure.specs.Figure.{Cell, store}
 use Rattle.figure.proofs.Classes.{is, holding, racing, won, lies-in}
 use Rattle.figure.proofs.Invariant.{View, Knowledge, Split, PhaseIs, line, held, Inv}
-use Rattle.figure.proofs.Frame.{moved, Rest, finish, forget, was, not-taken}
+use Rattle.figure.proofs.Frame.{moved, Rest, finish, forget, was, not-taken, decided-with}
 use Rattle.figure.proofs.Looking.{off, same-loses, idle-mine, not-late}
 
 -- the view with other memory and another phase
 abbrev pub inMemory : View → Cell → Phase → View
 inMemory s m p = record { cell = m; task = s .task; value = s .value; placed = s .placed; phase = p }
 
-not-zero : (f : ℕ → ℕ) (b m : ℕ) → f m ≢ 0 → upd f b 1 m ≢ 0
+pub not-zero : (f : ℕ → ℕ) (b m : ℕ) → f m ≢ 0 → upd f b 1 m ≢ 0
 not-zero f b m h = upd-cases (λ n. n ≢ 0) f b 1 m (λ e z. omega arith) (λ e. h)
 
 -- OF THE OTHERS
@@ -90,19 +90,7 @@ module _ (s : View) (κ : Knowledge) (t : ℕ) (r : Rest s κ t) where
         value = k .value;
         planned = k .planned;
         early = k .early;
-        decided = let d = k .decided in record {
-          replaced-decided = d .replaced-decided;
-          decided-inactive = λ a e. not-zero (m .c) b (held s u) (d .decided-inactive a e);
-          before-store = d .before-store;
-          placed-value = d .placed-value;
-          placed-decided = d .placed-decided;
-          late-inactive = λ a e. not-zero (m .c) b (held s u) (d .late-inactive a e);
-          late-phase = λ a e z. lates u .0 (d .late-phase a e z);
-          late-decided = d .late-decided;
-          inactive = λ a. not-zero (m .c) b (held s u) (d .inactive a);
-          decided = d .decided;
-          expected = d .expected;
-        };
+        decided = let d = k .decided in decided-with d (not-zero (m .c) b (held s u)) (λ a. refl) (d .replaced-decided) (d .placed-value) (λ a e z. lates u .0 (d .late-phase a e z));
         store = let d = k .store in record { active-placed = d .active-placed; late-placed = d .late-placed; late-store = λ a z. not-zero (m .c) b (held s u) (d .late-store a z); yes-active = d .yes-active };
         seen = let d = k .seen in record {
           active-value = λ a. upd-cases (λ c. c ≡ 0 → κ .loaded u (s .task u .loaded)) (m .c) b 1 (held s u) (λ h z. absurd (omega arith)) (λ h. d .active-value a);

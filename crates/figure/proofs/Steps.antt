@@ -1,7 +1,7 @@
 -- Every line of a busy task, on one cell: it keeps the invariant, says what it does to the ghost, and why it may answer.
 use mathlib.Core.Path.{_≡_, refl, sym, ap, subst, _∙_}
 use mathlib.Core.Logic.{_≢_, _⊎_, inl, inr}
-use mathlib.Core.Bool.{Bool, true, false, not, _||_, cond}
+use mathlib.Core.Bool.{Bool, true, not, _||_}
 use Prim.Native.Nat.{ℕ}
 use native.Mathlib.Omega.{arith}
 use lib.Dec.{eqb, T, T-not, not-T}
@@ -17,34 +17,24 @@ use Rattle.lines.specs.declared.Next.the-variants.{Go, Done}
 use Rattle.lines.specs.Record.{noValue, idle}
 use Rattle.lines.specs.Lines.{Wanted, for13, for25, for28, Line, l1, l2, l3, l10, l11, l12, l15, l16, l17, l18, l19, l20, l21, l22, l23, l24, l26, l27, l29, l30, nowhere, lineAt, lineOf, accessAt, at, counted, nextAt, answer, readAnswer}
 use Rattle.history.specs.Basics.{upd}
-use Rattle.history.proofs.Basics.{either, upd-at, upd-off, upd-cases}
+use Rattle.history.proofs.Basics.{either, upd-at, upd-off}
 use Rattle.history.proofs.Simulation.{Phase, settled, frozen, late}
-use Rattle.figure.specs.Figure.{Cell, store, install, Memory, memory, perform}
+use Rattle.figure.specs.Figure.{Cell, store, install, Accessed, accessed, accessCell}
 use Rattle.figure.proofs.Classes.{is, figureLine, busy, holding, swapping, stored, lies-in}
-use Rattle.figure.proofs.LineLaws.{wanted-is}
+use Rattle.figure.proofs.LineLaws.{wanted-is, by-test}
 use Rattle.figure.proofs.Invariant.{none, View, Knowledge, PhaseIs, line, held, Inv}
 use Rattle.figure.proofs.Frame.{Mine, quiet, was, Grows, grow, undecided, active-current, active-undecided}
 use Rattle.figure.proofs.Looking.{idle-mine, not-late, T-of, settled≢late, active-settled, value-of, decided-not-late, from1, from2, from3-25, from3-28, from10, from11, from12, from15, from17-18, from17-27, from19-20, from19-27, from20, from21-1, from21-22, from21-23, from24-1, from24-26}
-use Rattle.figure.proofs.Splitter.{keeps16, keeps18, keeps-leaving, keeps27}
+use Rattle.figure.proofs.Splitter.{keeps16, keeps18, keeps-leaving, keeps27, not-zero}
 use Rattle.figure.proofs.Storing as Storing
 use Rattle.figure.proofs.Deciding as Deciding
 use Rattle.figure.proofs.Replacing as Replacing
 
 -- in the deciding part the wanted line stays
-after-1 : (q : Record) (x : Wanted) → lineOf q ≡ l1 x → lineAt 2 (q .wanted) ≡ l2 x
-after-1 q for13 e = ap (lineAt 2) (wanted-is q e tt)
-after-1 q for25 e = ap (lineAt 2) (wanted-is q e tt)
-after-1 q for28 e = ap (lineAt 2) (wanted-is q e tt)
-
-after-2 : (q : Record) (x : Wanted) → lineOf q ≡ l2 x → lineAt 3 (q .wanted) ≡ l3 x
-after-2 q for13 e = ap (lineAt 3) (wanted-is q e tt)
-after-2 q for25 e = ap (lineAt 3) (wanted-is q e tt)
-after-2 q for28 e = ap (lineAt 3) (wanted-is q e tt)
-
--- whichever a test picks
-pub by-test : {A : Type 0} (P : A → Type 0) (b : Bool) (x y : A) → (b ≡ true → P x) → (b ≡ false → P y) → P (cond b x y)
-by-test P true x y f g = f refl
-by-test P false x y f g = g refl
+same-wanted : (q : Record) (x : Wanted) → (lineOf q ≡ l1 x → lineAt 2 (q .wanted) ≡ l2 x) × (lineOf q ≡ l2 x → lineAt 3 (q .wanted) ≡ l3 x)
+same-wanted q for13 = ((λ e. ap (lineAt 2) (wanted-is q e tt)), λ e. ap (lineAt 3) (wanted-is q e tt))
+same-wanted q for25 = ((λ e. ap (lineAt 2) (wanted-is q e tt)), λ e. ap (lineAt 3) (wanted-is q e tt))
+same-wanted q for28 = ((λ e. ap (lineAt 2) (wanted-is q e tt)), λ e. ap (lineAt 3) (wanted-is q e tt))
 
 -- WHAT A STEP DOES TO THE GHOST, of one cell (the moves of `Simulation`)
 
@@ -189,7 +179,7 @@ module _ (s : View) (κ : Knowledge) (κ⁺ : Phase → ℕ → Knowledge) (t : 
         current = λ n. refl;
         kept = subst (λ v. Inv (record { cell = store m (q .held) D (q .loaded); task = upd (s .task) t r; value = v; placed = s .placed; phase = settled }) (κ⁺ settled (s .value))) p
             (Deciding.kept-done s (κ⁺ settled (s .value)) t x (more settled (s .value)) e d a 3 (q .wanted) (s .placed)
-            (Deciding.same s (κ⁺ settled (s .value)) t x (more settled (s .value)) e d a 3 (q .wanted) p) (seen (s .value) (sym p)) (after-2 q x e));
+            (Deciding.same s (κ⁺ settled (s .value)) t x (more settled (s .value)) e d a 3 (q .wanted) p) (seen (s .value) (sym p)) (same-wanted q x .1 e));
       }
       go (inr p) =
           let o = Deciding.who s κ t x i e d a 3 (q .wanted) p in
@@ -202,7 +192,7 @@ module _ (s : View) (κ : Knowledge) (κ⁺ : Phase → ℕ → Knowledge) (t : 
             can = (o .1, sym (k .expected-is), lies-in stored swapping tt (line s (o .0)) (k .has-stored), rw e tt);
             kept = subst (λ v. Inv (record { cell = store m (q .held) D (q .loaded); task = upd (s .task) t r; value = v; placed = upd (s .placed) (o .0) true; phase = settled }) κ′) (sym new)
                 (Deciding.kept-done s κ′ t x (more settled (s .task (o .0) .new)) e d a 3 (q .wanted) (upd (s .placed) (o .0) true)
-                (Deciding.land s κ t x i e d a 3 (q .wanted) p) (seen (s .task (o .0) .new) new) (after-2 q x e));
+                (Deciding.land s κ t x i e d a 3 (q .wanted) p) (seen (s .task (o .0) .new) new) (same-wanted q x .1 e));
           }
 
   -- LINE 23
@@ -301,13 +291,10 @@ module _ (s : View) (κ : Knowledge) (κ⁺ : Phase → ℕ → Knowledge) (t : 
           c-stays : m .c (m .current) ≡ 0 → upd (m .c) (q .held) 1 (m .current) ≡ 0
           c-stays z = upd-off (m .c) (q .held) 1 (m .current) (λ h. c (ap (m .c) (sym h) ∙ z)) ∙ z
 
-          c-some : m .c (m .current) ≢ 0 → upd (m .c) (q .held) 1 (m .current) ≢ 0
-          c-some z = upd-cases (λ n. n ≢ 0) (m .c) (q .held) 1 (m .current) (λ h g. omega arith) (λ h. z)
-
           phase-stays : (p : Phase) → PhaseIs p (m .c (m .current)) (m .v (m .current)) (m .d (m .current)) (s .value) → PhaseIs p (upd (m .c) (q .held) 1 (m .current)) (m .v (m .current)) (m .d (m .current)) (s .value)
           phase-stays settled z = λ n. (c-stays (z n .0), z n .1)
-          phase-stays frozen z = (c-some (z .0), z .1, z .2)
-          phase-stays (late u) z = (c-some (z .0), z .1)
+          phase-stays frozen z = (not-zero (m .c) (q .held) (m .current) (z .0), z .1, z .2)
+          phase-stays (late u) z = (not-zero (m .c) (q .held) (m .current) (z .0), z .1)
 
   -- LINE 30
 
@@ -321,15 +308,15 @@ module _ (s : View) (κ : Knowledge) (κ⁺ : Phase → ℕ → Knowledge) (t : 
 
   -- ALL LINES
 
-  abbrev Does : Line → Memory → Type 0
+  abbrev Does : Line → Accessed → Type 0
   Does ℓ x = Out s κ κ⁺ t (x .cell) (nextAt ℓ t (counted q (accessAt ℓ t q)) (x .value))
 
-  pub each : (ℓ : Line) → line s t ≡ ℓ → T (busy ℓ) → Does ℓ (perform m (accessAt ℓ t q))
+  pub each : (ℓ : Line) → line s t ≡ ℓ → T (busy ℓ) → Does ℓ (accessCell m (accessAt ℓ t q))
   unfolding none
-  each (l1 x) e b = looks (l2 x) _ (after-1 q x e) (from1 s κ₁ i⁺ t (accessAt (l1 x) t q) 2 (q .wanted) x e (at-line (l1 x) e))
+  each (l1 x) e b = looks (l2 x) _ (same-wanted q x .0 e) (from1 s κ₁ i⁺ t (accessAt (l1 x) t q) 2 (q .wanted) x e (at-line (l1 x) e))
   each (l2 x) e b =
-      by-test (Does (l2 x)) (eqb (m .d (q .held)) noValue) (memory (store m (q .held) D (q .loaded)) 1) (memory m 0) (λ z. decides x e (eqb-true _ _ z))
-      (λ z. looks (l3 x) _ (after-2 q x e) (from2 s κ₁ i⁺ t (accessAt (l2 x) t q) 3 (q .wanted) x (at-line (l2 x) e) (eqb-false _ _ z)))
+      by-test (Does (l2 x)) (eqb (m .d (q .held)) noValue) (accessed (store m (q .held) D (q .loaded)) 1) (accessed m 0) (λ z. decides x e (eqb-true _ _ z))
+      (λ z. looks (l3 x) _ (same-wanted q x .1 e) (from2 s κ₁ i⁺ t (accessAt (l2 x) t q) 3 (q .wanted) x (at-line (l2 x) e) (eqb-false _ _ z)))
   each (l3 for13) e b = let k = known (l3 for13) e .task in let d = k .decided .decided tt in reads-it (l3 for13) e tt tt (λ x. x) (m .d (q .held)) (decided13 (k .seen .decision tt d)) d
   each (l3 for25) e b =
       let k = known (l3 for25) e .task in
@@ -388,7 +375,7 @@ module _ (s : View) (κ : Knowledge) (κ⁺ : Phase → ℕ → Knowledge) (t : 
   each l29 e b = record { change = still; can = tt; kept = Replacing.kept-grown s κ₁ t i⁺ e (accessAt l29 t q) 30 (q .wanted) refl; current = λ n. refl }
   each l30 e b =
       let k = known l30 e .task in
-      by-test (Does l30) (eqb (m .current) (q .held)) (memory (install m (q .taken)) 1) (memory m 0) (λ z. (installs e (sym (eqb-true _ _ z)), acts refl (rw e refl)))
+      by-test (Does l30) (eqb (m .current) (q .held)) (accessed (install m (q .taken)) 1) (accessed m 0) (λ z. (installs e (sym (eqb-true _ _ z)), acts refl (rw e refl)))
       (λ z. let r = k .seen .replaced tt (λ h. eqb-false _ _ z (sym h)) in
       (leaves (unawaited l30 e (λ x. x)), declines-it l30 e tt tt (λ x. x) (r .0) (replaced30 (r .1) refl) (λ g. r .2 (g ∙ sym (k .decided .expected tt)))))
   each nowhere e b = absurd b

@@ -1,5 +1,5 @@
 -- Line 23: the winner stores its new value. In an active block the swap takes effect at once; in an inactive one it comes late.
-use mathlib.Core.Path.{_≡_, sym, ap, _∙_}
+use mathlib.Core.Path.{_≡_, refl, sym, ap, _∙_}
 use mathlib.Core.Logic.{_≢_}
 use mathlib.Core.Bool.{true, not}
 use Prim.Native.Nat.{ℕ}
@@ -14,7 +14,7 @@ use Rattle.history.proofs.Simulation.{Phase, settled, late}
 use Rattle.figure.specs.Figure.{store}
 use Rattle.figure.proofs.Classes.{is, holding, won, loaded, stored, contended, lies-in, are-apart}
 use Rattle.figure.proofs.Invariant.{none, View, Knowledge, Value, Fresh, Owner, Rival, PhaseIs, line, held, Inv}
-use Rattle.figure.proofs.Frame.{moved, Rest, Mine, finish, was, undecided, active-undecided, active-current, one-winner, not-taken}
+use Rattle.figure.proofs.Frame.{moved, Rest, Mine, finish, was, undecided, active-undecided, active-current, one-winner, not-taken, decided-with}
 use Rattle.figure.proofs.Looking.{off, same-wins, same-loses, active-settled, active-value}
 
 module _ (s : View) (κ : Knowledge) (t : ℕ) (i : Inv s κ) (e : line s t ≡ l23) (a : Access) (n w : ℕ) where
@@ -115,19 +115,7 @@ module _ (s : View) (κ : Knowledge) (t : ℕ) (i : Inv s κ) (e : line s t ≡ 
         seen = k .seen;
         fresh = fresh′ u;
         early = k .early;
-        decided = let r = k .decided in record {
-          replaced-decided = r .replaced-decided;
-          decided-inactive = r .decided-inactive;
-          before-store = r .before-store;
-          placed-value = λ b z d. absurd (none-stored u ne b d);
-          placed-decided = r .placed-decided;
-          late-inactive = r .late-inactive;
-          late-phase = r .late-phase;
-          late-decided = r .late-decided;
-          inactive = r .inactive;
-          decided = r .decided;
-          expected = r .expected;
-        };
+        decided = let r = k .decided in decided-with r (λ z. z) (λ b. refl) (r .replaced-decided) (λ b z d. absurd (none-stored u ne b d)) (r .late-phase);
         planned = record {
           plan-some = k .planned .plan-some;
           plan = λ b d. absurd (k .decided .inactive (lies-in (is 2) contended tt (line s u) b) (ap (s .cell .c) (undecided s κ i u (lies-in (is 2) holding tt (line s u) b) d ∙ sym is-L) ∙ c));
@@ -170,19 +158,7 @@ module _ (s : View) (κ : Knowledge) (t : ℕ) (i : Inv s κ) (e : line s t ≡ 
         seen = k .seen;
         fresh = fresh′ u;
         early = k .early;
-        decided = let r = k .decided in record {
-          replaced-decided = r .replaced-decided;
-          decided-inactive = r .decided-inactive;
-          before-store = r .before-store;
-          placed-value = r .placed-value;
-          placed-decided = r .placed-decided;
-          late-inactive = r .late-inactive;
-          late-phase = λ b z d. lates u ne .0 (r .late-phase b z d);
-          late-decided = r .late-decided;
-          inactive = r .inactive;
-          decided = r .decided;
-          expected = r .expected;
-        };
+        decided = let r = k .decided in decided-with r (λ z. z) (λ b. refl) (r .replaced-decided) (r .placed-value) (λ b z d. lates u ne .0 (r .late-phase b z d));
         planned = record {
           plan-some = k .planned .plan-some;
           plan = λ b d z. upd-cases (λ x. x ≡ s .task u .loaded) (s .cell .v) (q .held) (q .new) L

@@ -1,32 +1,29 @@
 -- What the figure counts of its pending calls, as the simulation asks for it: each step adds one, within the bounds of demand 3.
-use mathlib.Core.Path.{_≡_, refl, subst}
+use mathlib.Core.Path.{_≡_, refl, sym, subst}
 use mathlib.Core.Logic.{_⊎_, _≢_, inl, inr}
 use mathlib.Core.Bool.{Bool, true, false, cond}
 use mathlib.Core.Option.{Option, none, some}
-use mathlib.Core.List.{List, [], _∷_, _++_}
+use mathlib.Core.List.{List}
 use Prim.Native.Nat.{ℕ, _≤_, _<_}
 use native.Mathlib.Numerals.{add-one}
 use native.Mathlib.Omega.{arith}
-use lib.Dec.{eqb, leb, T, leb→le}
+use lib.Dec.{eqb, leb, leb→le}
 use borrow.Author.Tests.{eqb-true}
 use Rattle.lines.specs.declared.Record.{Record}
 use Rattle.lines.specs.declared.Next.{Next}
 use Rattle.lines.specs.Record.{idle, isIdle}
 use Rattle.lines.specs.Lines.{Line, lineOf, accessOf, counted, hardware}
 use Rattle.history.specs.Basics.{upd, _∈_}
-use Rattle.history.specs.History.{Op, read, swap, Action, begin, step, cellOf, aRead, aSwap, kindOf}
+use Rattle.history.specs.History.{Op, read, swap, Action, begin, step, Answer}
 use Rattle.history.specs.Demand3.{most, mostHard}
 use Rattle.history.proofs.Basics.{either, upd-at, upd-off}
 use Rattle.history.proofs.Simulation.{Tally, first, Follows}
-use Rattle.figure.specs.Figure.{Cell, World, After, withBoth, recordAfter, outcomeOf, ran, figure, perform}
+use Rattle.figure.specs.Figure.{Cell, World, WorldAfter, withBoth, recordAfter, outcomeOf, figureRan, figure, accessCell}
 use Rattle.cells.specs.Events.{eventOf, tried}
-use Rattle.figure.specs.Paths.{paths, count}
-use Rattle.figure.proofs.LineLaws.{every, every-in, readPaths, Leads, goes, done}
+use Rattle.figure.specs.Paths.{readPaths, paths, count}
+use Rattle.figure.proofs.AsBegun.{opOf, kind-of, cell-of}
+use Rattle.figure.proofs.LineLaws.{every-in, waysOf, on-paths, on-read-paths, Leads, goes, done, by-test}
 use Rattle.figure.proofs.Records.{Pending, not-idle, led, Then, one-line, pending-bounds, read-bounds, firstOf, Begun, starts, begin-cases, Stepped, runs, step-cases, OnPath, AllOnPath}
-
--- the operation as begun: a swap of equal values reads, and is a swap
-abbrev pub opOf : Record → Op
-opOf q = cond (eqb (q .kind) 1) (read (q .cell)) (swap (q .cell) (q .expected) (q .new))
 
 abbrev pub tally : Record → Tally
 tally q = record { op = opOf q; steps = q .steps; hard = q .hard }
@@ -40,23 +37,12 @@ doing w t = tallyOf (w .records t)
 pub was-doing : (v : ℕ) (did : List Line) (q : Record) → Pending v did q → tallyOf q ≡ some (tally q)
 was-doing v did q o = rw (not-idle q (o .line))
 
--- kind and cell as a finished call reports them
-as-begun : (q : Record) → (cond (eqb (q .kind) 1) aRead aSwap ≡ kindOf (opOf q)) × (q .cell ≡ cellOf (opOf q))
-as-begun q = go (eqb (q .kind) 1)
-  where
-    go : (b : Bool) → let op = cond b (read (q .cell)) (swap (q .cell) (q .expected) (q .new)) in (cond b aRead aSwap ≡ kindOf op) × (q .cell ≡ cellOf op)
-    go true = (refl, refl)
-    go false = (refl, refl)
-
 -- BOUNDS
 
--- what holds of a read where this is one, and of a swap, holds of its operation
-by-kind : (q : Record) (P : Op → Type 0) → (q .kind ≡ 1 → P (read (q .cell))) → P (swap (q .cell) (q .expected) (q .new)) → P (opOf q)
-by-kind q P r s = go (eqb (q .kind) 1) refl
-  where
-    go : (b : Bool) → eqb (q .kind) 1 ≡ b → P (cond b (read (q .cell)) (swap (q .cell) (q .expected) (q .new)))
-    go true e = r (eqb-true (q .kind) 1 e)
-    go false e = s
+-- found by computing over the paths
+few-hard : (op : Op) (a : Answer) (p : List Line) → p ∈ waysOf op a → count hardware p ≤ mostHard op
+few-hard (read k) a p i = leb→le _ _ (every-in (λ p. leb (count hardware p) 1) readPaths tt p (on-read-paths k a p i))
+few-hard (swap k e n) a p i = leb→le _ _ (every-in (λ p. leb (count hardware p) 3) paths tt p (on-paths (swap k e n) a p i))
 
 abbrev Few : Tally → Type 0
 Few n = (n .steps < most (n .op)) × (n .hard ≤ mostHard (n .op))
@@ -67,7 +53,7 @@ within w p t n e = go (w .records t) (p t .1) e
     go : (q : Record) → OnPath (w .tasks) (w .cells) t (p t .0) q → tallyOf q ≡ some n → Few n
     go q (inl i) e = let x : none ≡ some n = rw (i .0) at e in let z : _≡_ {A = ℕ} 0 1 = cc in omega arith
     go q (inr (m, o)) e = let k : tally q ≡ n = cc (was-doing (w .cells) (p t .0) q o) in
-        subst Few k (by-kind q (λ op. (q .steps < most op) × (q .hard ≤ mostHard op)) (read-bounds (w .cells) (p t .0) q o) (pending-bounds (w .cells) (p t .0) q o))
+        subst Few k (by-test (λ op. (q .steps < most op) × (q .hard ≤ mostHard op)) (eqb (q .kind) 1) (read (q .cell)) (swap (q .cell) (q .expected) (q .new)) (λ z. read-bounds (w .cells) (p t .0) q o (eqb-true _ _ z)) (λ z. pending-bounds (w .cells) (p t .0) q o))
 
 -- ACTIONS
 
@@ -80,7 +66,7 @@ module _ (w : World) where
       go (inl i) = rw (upd-at (w .records) t q u i, upd-at (doing w) t x u i) e
       go (inr i) = rw (upd-off (w .records) t q u i, upd-off (doing w) t x u i)
 
-  begin-follows : (t : ℕ) (op : Op) {f : After} → Begun w t op f → Follows doing (w .cells) w (begin t op) (f .world) (eventOf 0 (f .outcome))
+  begin-follows : (t : ℕ) (op : Op) {f : WorldAfter} → Begun w t op f → Follows doing (w .cells) w (begin t op) (f .world) (eventOf 0 (f .outcome))
   begin-follows t op (Begun.refuses n) = refl
   begin-follows t op (starts a) = record { idle = rw (a .free); cell = a .cell; untried = refl; rest = put t (firstOf op) (some (first op)) (new op) }
     where
@@ -96,9 +82,6 @@ module _ (w : World) where
     abbrev q : Record
     q = w .records t
 
-    few : (x : ℕ) (ps : List (List Line)) → T (every (λ p. leb (count hardware p) x) ps) → (did ++ (lineOf q ∷ [])) ∈ ps → count hardware (did ++ (lineOf q ∷ [])) ≤ x
-    few x ps h i = leb→le _ _ (every-in (λ p. leb (count hardware p) x) ps h _ i)
-
     line-follows : (c : Cell) {n : Next} → Leads (lineOf q) (counted q (accessOf t q)) n → Then (w .cells) did q o n
         → Follows doing (w .cells) w (step t) (withBoth w (q .cell) c t (recordAfter n)) (eventOf (tried t q) (outcomeOf n))
     line-follows c (goes f) next = record { now = tally q; was = was-doing (w .cells) did q o; rest = put t _ _ (rw (not-idle _ (next .line), add-one)) }
@@ -106,18 +89,18 @@ module _ (w : World) where
       now = tally q;
       was = was-doing (w .cells) did q o;
       rest = put t idle none refl;
-      kind = as-begun q .0;
-      cell = as-begun q .1;
+      kind = kind-of q;
+      cell = sym (cell-of q);
       steps = add-one (q .steps);
       hard = refl;
-      few = rw (end .all-hard) (by-kind q (λ op. count hardware (did ++ (lineOf q ∷ [])) ≤ mostHard op) (λ e. few 1 readPaths tt (end .read-path e)) (few 3 paths tt (end .path)));
+      few = rw (end .all-hard) (few-hard (opOf q) _ _ (end .path));
     }
 
-  step-follows : (t : ℕ) (did : List Line) {f : After} → Stepped w t did f → Follows doing (w .cells) w (step t) (f .world) (eventOf (tried t (w .records t)) (f .outcome))
-  unfolding ran
+  step-follows : (t : ℕ) (did : List Line) {f : WorldAfter} → Stepped w t did f → Follows doing (w .cells) w (step t) (f .world) (eventOf (tried t (w .records t)) (f .outcome))
+  unfolding figureRan
   step-follows t did (Stepped.refuses n i) = (refl, rw i)
   step-follows t did (runs m o) =
-      let c = perform (w .cell (w .records t .cell)) (accessOf t (w .records t)) in
+      let c = accessCell (w .cell (w .records t .cell)) (accessOf t (w .records t)) in
       line-follows t did o (c .cell) (led (w .cells) did (w .records t) o t (c .value)) (one-line (w .cells) did (w .records t) o t (c .value))
 
 pub follows : (w : World) → AllOnPath w → (a : Action) → Follows doing (w .cells) w a (figure w a .0) (figure w a .1)

@@ -1,7 +1,7 @@
 -- From one cell to all: a cell sees the tasks that are on it, and a step on one cell leaves the views of the others.
 use mathlib.Core.Path.{_≡_, refl, sym, ap, subst, _∙_, fun-ext}
 use mathlib.Core.Logic.{_≢_, _⊎_, inl, inr}
-use mathlib.Core.Bool.{Bool, true, false, _||_, cond, false≢true}
+use mathlib.Core.Bool.{Bool, true, false, not, cond}
 use Prim.Native.Nat.{ℕ}
 use lib.Dec.{eqb, T}
 use borrow.Author.Tests.{eq-eqb, ne-eqb}
@@ -12,8 +12,8 @@ use Rattle.history.specs.Basics.{upd}
 use Rattle.history.proofs.Basics.{either, upd-at, upd-off}
 use Rattle.history.proofs.Simulation.{late, Ghost}
 use Rattle.figure.specs.Figure.{World}
-use Rattle.figure.proofs.LineLaws.{every-line, same, same-is}
-use Rattle.figure.proofs.Classes.{busy}
+use Rattle.figure.proofs.LineLaws.{same, same-is}
+use Rattle.figure.proofs.Classes.{busy, lies-in}
 use Rattle.figure.proofs.Invariant.{View, Knowledge, Task, line, Inv}
 use Rattle.figure.proofs.Looking.{idle-task}
 
@@ -78,15 +78,19 @@ module _ (f : ℕ → Record) (t : ℕ) (q : Record) where
       go u (inl e) = off (upd f t q) u (subst (λ (r : Record). (r .cell ≢ j) ⊎ (r ≡ idle)) (sym (upd-at f t q u e)) h′) ∙ sym (off f u (subst (λ n. (f n .cell ≢ j) ⊎ (f n ≡ idle)) (sym e) h))
       go u (inr e) = on-other j u e
 
+  -- on another cell than the record's, whether it stays there or ends
+  pub on-others : (j : ℕ) → j ≢ f t .cell → (q .cell ≡ f t .cell) ⊎ (q ≡ idle) → on (upd f t q) j ≡ on f j
+  on-others j n h = on-elsewhere j (inl (λ z. n (sym z))) (go h)
+    where
+      go : (q .cell ≡ f t .cell) ⊎ (q ≡ idle) → (q .cell ≢ j) ⊎ (q ≡ idle)
+      go (inl z) = inl (λ y. n (sym y ∙ z))
+      go (inr z) = inr z
+
 -- WHOSE SWAP TOOK EFFECT matters only of busy tasks
 
 -- only `nowhere` is no line
 nowhere-is : (ℓ : Line) → busy ℓ ≡ false → ℓ ≡ nowhere
-nowhere-is ℓ e = same-is ℓ nowhere (T-or (busy ℓ) (same ℓ nowhere) (every-line (λ ℓ. busy ℓ || same ℓ nowhere) tt ℓ) e)
-  where
-    T-or : (a b : Bool) → T (a || b) → a ≡ false → T b
-    T-or true b h e = absurd (false≢true (sym e))
-    T-or false b h e = h
+nowhere-is ℓ e = same-is ℓ nowhere (lies-in (λ ℓ. not (busy ℓ)) (λ ℓ. same ℓ nowhere) tt ℓ (rw e tt))
 
 busy-or-not : (ℓ : Line) → T (busy ℓ) ⊎ (ℓ ≡ nowhere)
 busy-or-not ℓ = go (busy ℓ) refl

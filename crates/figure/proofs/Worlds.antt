@@ -16,19 +16,20 @@ use Rattle.history.specs.Linearization.{reply, apply}
 use Rattle.history.proofs.Basics.{either, upd-at, upd-same, upd-off}
 use Rattle.history.proofs.Simulation as Sim
 use Rattle.history.proofs.Simulation.{Phase, settled, frozen, late, Ghost, Tally, Move, shift, Grown, May}
-use Rattle.figure.specs.Figure.{Cell, World, withBoth, recordAfter, perform, figure}
+use Rattle.figure.specs.Figure.{Cell, World, withBoth, recordAfter, accessCell, figure}
 use Rattle.figure.specs.Moments.{Notes, noted, names, sees}
 use Rattle.figure.proofs.LineLaws.{every, lines}
 use Rattle.figure.proofs.Records.{Pending, AllOnPath, OnPath}
-use Rattle.figure.proofs.Tallies.{opOf, tally, tallyOf, doing}
+use Rattle.figure.proofs.AsBegun.{opOf, cell-of}
+use Rattle.figure.proofs.Tallies.{tally, tallyOf, doing}
 use Rattle.figure.proofs.Classes.{busy, holding, swapping, stored, viewing, lies-in}
 use Rattle.figure.proofs.Invariant.{none, View, Knowledge, TaskOf, line, held, Inv}
 use Rattle.figure.proofs.Frame as Frame
 use Rattle.figure.proofs.Frame.{Grows}
 use Rattle.figure.proofs.Notes.{Holder, keeps-loaded, keeps-stored, keeps-decided, keeps-replaced, notes-held, notes-loaded, notes-stored, notes-decided, notes-replaced}
 use Rattle.figure.proofs.Steps.{Change, still, act, freeze, delay, settle, land, valueAfter, placedAfter, phaseAfter, after, Can, Future, Out, each}
-use Rattle.figure.proofs.Views.{on, on-in, on-it, on-changed, on-elsewhere, view, placed-changed}
-use Rattle.figure.proofs.Operations.{cell-of, busy-line, busy-doing, swap-yes, apply-here, apply-there}
+use Rattle.figure.proofs.Views.{on, on-in, on-it, on-changed, view, placed-changed, on-others}
+use Rattle.figure.proofs.Operations.{busy-line, busy-doing, swap-yes, apply-here, apply-there}
 
 -- what the proof keeps of the whole figure
 pub record Good (w : World) (g : Ghost) (κ : Knowledge) : Type 0 where
@@ -90,10 +91,10 @@ facts w g κ G u = let k = w .records u .cell in subst (λ (r : Record). TaskOf 
 
 -- what the next line of task t makes of its cell, what follows, and the figure afterwards
 abbrev pub cellAfter : World → ℕ → Cell
-cellAfter w t = perform (w .cell (w .records t .cell)) (accessOf t (w .records t)) .cell
+cellAfter w t = accessCell (w .cell (w .records t .cell)) (accessOf t (w .records t)) .cell
 
 abbrev pub nextAfter : World → ℕ → Next
-nextAfter w t = nextOf t (w .records t) (perform (w .cell (w .records t .cell)) (accessOf t (w .records t)) .value)
+nextAfter w t = nextOf t (w .records t) (accessCell (w .cell (w .records t .cell)) (accessOf t (w .records t)) .value)
 
 abbrev pub stepAfter : World → ℕ → World
 stepAfter w t = withBoth w (w .records t .cell) (cellAfter w t) t (recordAfter (nextAfter w t))
@@ -169,7 +170,7 @@ module _ (w : World) (notes : Notes) (g : Ghost) (κ : Sim.Knowledge) (G : Good 
   }
 
   pub out : Out s κ₀ κ⁺ t (cellAfter w t) (nextAfter w t)
-  out = subst (λ (r : Record). let m = perform (w .cell k) (accessOf t r) in Out s κ₀ κ⁺ t (m .cell) (nextOf t r (m .value))) here
+  out = subst (λ (r : Record). let m = accessCell (w .cell k) (accessOf t r) in Out s κ₀ κ⁺ t (m .cell) (nextOf t r (m .value))) here
       (each s κ₀ κ⁺ t (G .cells k) (λ z. G .eager t (tally q) (busy-doing q is-busy) (ap (g .phase) on-k ∙ z)) future (line s t) refl (rw its-line is-busy))
 
   -- THE MOVE
@@ -268,11 +269,7 @@ module _ (w : World) (notes : Notes) (g : Ghost) (κ : Sim.Knowledge) (G : Good 
     view-here = λ i. record { cell = upd-same (w .cell) k m i; task = on-changed (w .records) t q′ k stays i; value = value-here x c i; placed = placed-is x i; phase = phase-here x i }
 
     view-there : (j : ℕ) → j ≢ k → view w′ (g′ x) j ≡ record { cell = w .cell j; task = on (w .records) j; value = g .cells j; placed = g′ x .placed; phase = g .phase j }
-    view-there j n = λ i. record { cell = upd-off (w .cell) k m j n i; task = on-elsewhere (w .records) t q′ j (inl (λ z. n (sym z))) (elsewhere stays) i; value = value-there j n x c i; placed = g′ x .placed; phase = phase-there j n x i }
-      where
-        elsewhere : (q′ .cell ≡ k) ⊎ (q′ ≡ idle) → (q′ .cell ≢ j) ⊎ (q′ ≡ idle)
-        elsewhere (inl z) = inl (λ y. n (sym y ∙ z))
-        elsewhere (inr z) = inr z
+    view-there j n = λ i. record { cell = upd-off (w .cell) k m j n i; task = on-others (w .records) t q′ j n stays i; value = value-there j n x c i; placed = g′ x .placed; phase = phase-there j n x i }
 
     was-doing : (u : ℕ) (n′ : Tally) → doing w′ u ≡ some n′ → (n : Tally) × (doing w u ≡ some n)
     was-doing u n′ e = go (either u t)

@@ -68,21 +68,21 @@ allocate m n = record {
 }
 
 -- what an access makes of the task's own cell (so the cell's number is not looked at), and the value that it answers
-pub record Memory : Type 0 where
+pub record Accessed : Type 0 where
   pub cell : Cell
   pub value : ℕ
 
-abbrev pub memory : Cell → ℕ → Memory
-memory m n = record { cell = m; value = n }
+abbrev pub accessed : Cell → ℕ → Accessed
+accessed m n = record { cell = m; value = n }
 
-abbrev pub perform : Cell → Access → Memory
-perform m (LoadCell k) = memory m (m .current)
-perform m (Load b f) = memory m (wordOf m b f)
-perform m (Store b f n) = memory (store m b f n) 0
-perform m (DecideCas b n) = cond (eqb (m .d b) noValue) (memory (store m b D n) 1) (memory m 0)
-perform m (InstallCas k b n) = cond (eqb (m .current) b) (memory (install m n) 1) (memory m 0)
-perform m (Allocate n) = memory (allocate m n) (m .next)
-perform m Nothing = memory m 0
+abbrev pub accessCell : Cell → Access → Accessed
+accessCell m (LoadCell k) = accessed m (m .current)
+accessCell m (Load b f) = accessed m (wordOf m b f)
+accessCell m (Store b f n) = accessed (store m b f n) 0
+accessCell m (DecideCas b n) = cond (eqb (m .d b) noValue) (accessed (store m b D n) 1) (accessed m 0)
+accessCell m (InstallCas k b n) = cond (eqb (m .current) b) (accessed (install m n) 1) (accessed m 0)
+accessCell m (Allocate n) = accessed (allocate m n) (m .next)
+accessCell m Nothing = accessed m 0
 
 -- THE MACHINE
 
@@ -92,23 +92,23 @@ pub record World : Type 0 where
   pub cell : ℕ → Cell
   pub records : ℕ → Record
 
-abbrev pub withRecord : World → ℕ → Record → World
-withRecord w t q = record { tasks = w .tasks; cells = w .cells; cell = w .cell; records = upd (w .records) t q }
+abbrev pub withTask : World → ℕ → Record → World
+withTask w t q = record { tasks = w .tasks; cells = w .cells; cell = w .cell; records = upd (w .records) t q }
 
 -- cell k and task t changed
 abbrev pub withBoth : World → ℕ → Cell → ℕ → Record → World
 withBoth w k m t q = record { tasks = w .tasks; cells = w .cells; cell = upd (w .cell) k m; records = upd (w .records) t q }
 
-pub record After : Type 0 where
+pub record WorldAfter : Type 0 where
   pub world : World
   pub outcome : Outcome
 
-abbrev pub leaving : World → Outcome → After
-leaving w o = record { world = w; outcome = o }
+abbrev pub worldAfter : World → Outcome → WorldAfter
+worldAfter w o = record { world = w; outcome = o }
 
-abbrev pub unless : Option ℕ → World → After → After
-unless none w acted = acted
-unless (some n) w acted = leaving w (Refused n)
+abbrev pub unlessRefused : Option ℕ → World → WorldAfter → WorldAfter
+unlessRefused none w acted = acted
+unlessRefused (some n) w acted = worldAfter w (Refused n)
 
 -- a finished call leaves an idle record
 abbrev pub recordAfter : Next → Record
@@ -120,15 +120,15 @@ outcomeOf (Go q) = Acted
 outcomeOf (Done f) = Ended f
 
 -- a busy task's next line: its access on its own cell, and what follows
-unfoldable pub ran : World → ℕ → Record → After
-ran w t q = let m = perform (w .cell (q .cell)) (accessOf t q) in let n = nextOf t q (m .value) in leaving (withBoth w (q .cell) (m .cell) t (recordAfter n)) (outcomeOf n)
+unfoldable pub figureRan : World → ℕ → Record → WorldAfter
+figureRan w t q = let m = accessCell (w .cell (q .cell)) (accessOf t q) in let n = nextOf t q (m .value) in worldAfter (withBoth w (q .cell) (m .cell) t (recordAfter n)) (outcomeOf n)
 
-unfoldable pub stepped : World → ℕ → After
-stepped w t = unless (refusal (stepQuestions (w .tasks) (w .records t) t)) w (ran w t (w .records t))
+unfoldable pub figureStepped : World → ℕ → WorldAfter
+figureStepped w t = unlessRefused (refusal (stepQuestions (w .tasks) (w .records t) t)) w (figureRan w t (w .records t))
 
-unfoldable pub begins : World → ℕ → Op → After
-begins w t (read k) = unless (refusal (beginQuestions (w .tasks) (w .cells) (w .records t) t k)) w (leaving (withRecord w t (firstRead k)) Acted)
-begins w t (swap k e n) = unless (refusal (swapQuestions (w .tasks) (w .cells) (w .records t) t k e n)) w (leaving (withRecord w t (firstSwap k e n)) Acted)
+unfoldable pub figureBegun : World → ℕ → Op → WorldAfter
+figureBegun w t (read k) = unlessRefused (refusal (beginQuestions (w .tasks) (w .cells) (w .records t) t k)) w (worldAfter (withTask w t (firstRead k)) Acted)
+figureBegun w t (swap k e n) = unlessRefused (refusal (swapQuestions (w .tasks) (w .cells) (w .records t) t k e n)) w (worldAfter (withTask w t (firstSwap k e n)) Acted)
 
 -- cell k's first block, number 0, has its starting value
 abbrev pub opening : (tasks cells : ℕ) → List ℕ → World
@@ -139,14 +139,14 @@ opening n v vs = record {
   cell = λ k. record { current = 0; next = 1; x = λ b. fresh (getD vs k 0) X; y = λ b. fresh (getD vs k 0) Y; c = λ b. fresh (getD vs k 0) C; v = λ b. fresh (getD vs k 0) Field.V; d = λ b. fresh (getD vs k 0) D };
 }
 
-unfoldable pub looked : World → ℕ → Looked
-looked w k = let m = w .cell k in let b = m .current in shown (refusal (lookQuestions (w .cells) k)) (shownValue (m .c b) (m .v b) (m .d b))
+unfoldable pub figureLooked : World → ℕ → Looked
+figureLooked w k = let m = w .cell k in let b = m .current in shown (refusal (lookQuestions (w .cells) k)) (shownValue (m .c b) (m .v b) (m .d b))
 
 -- AS A MACHINE THAT TAKES ACTIONS AND GIVES EVENTS
 
 abbrev pub figure : World → Action → World × Event
-figure w (begin t op) = let r = begins w t op in (r .world, eventOf 0 (r .outcome))
-figure w (step t) = let r = stepped w t in (r .world, eventOf (tried t (w .records t)) (r .outcome))
+figure w (begin t op) = let r = figureBegun w t op in (r .world, eventOf 0 (r .outcome))
+figure w (step t) = let r = figureStepped w t in (r .world, eventOf (tried t (w .records t)) (r .outcome))
 
 -- nothing is left of an earlier collision: the current block of cell k is active
 abbrev pub clear : World → ℕ → Type 0

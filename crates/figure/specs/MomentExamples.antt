@@ -6,7 +6,7 @@ use lib.ListN.{replicate}
 use Rattle.history.specs.Basics.{upd}
 use Rattle.history.specs.History.{Op, read, swap, Action, begin, step}
 use Rattle.history.specs.Moments.{Side, itself, after, Rule, R1, R2, C1, C2, C3, C4, C5, C6, Mark}
-use Rattle.figure.specs.Figure.{ran, stepped, begins}
+use Rattle.figure.specs.Figure.{figureRan, figureStepped, figureBegun}
 use Rattle.figure.specs.Moments.{moments}
 
 -- a mark as it will be printed
@@ -66,5 +66,5 @@ pub moments-hold :
     (lateStore ++ steps 2 0 ++ alone 2 (swap 0 9 9) 6, at 12 itself 1 C3 ∷ at 17 itself 2 C1 ∷ []) ∷
     []
     )
-unfolding upd ran stepped begins
+unfolding upd figureRan figureStepped figureBegun
 moments-hold = (refl, (refl, (refl, (refl, (refl, (refl, (refl, (refl, (refl, (refl, tt))))))))))

@@ -1,13 +1,15 @@
 -- The complete paths of figure 2, and the lines that a call did.
 use mathlib.Core.Path.{_≡_}
+use mathlib.Core.Bool.{cond}
 use mathlib.Core.List.{List, [], _∷_, _++_}
 use Prim.Native.Nat.{ℕ, _+_}
+use lib.Dec.{eqb}
 use Rattle.lines.specs.declared.Access.{Access}
 use Rattle.lines.specs.Record.{idle}
 use Rattle.lines.specs.Paths.{table}
 use Rattle.lines.specs.Lines.{Line, Wanted, for13, for25, for28, l1, l2, l3, l10, l11, l12, l15, l16, l17, l18, l19, l20, l21, l22, l23, l24, l26, l27, l29, l30, accessAt, loads, stores, hardware}
 use Rattle.history.specs.Basics.{upd, _∈_}
-use Rattle.history.specs.History.{Op, read, Action, begin, step, Report, Event, refused, accepted, answered, Finished}
+use Rattle.history.specs.History.{Op, read, swap, Action, begin, step, Answer, Value, Yes, No, Report, Event, refused, accepted, answered, Finished}
 
 -- THE THIRTEEN PATHS
 
@@ -62,6 +64,30 @@ reached =
     readActive ∷ readDecided ∷ noFrom22 ∷ yesFrom26 ∷ yesFrom25 ∷
     by17 ∷ by19 ∷ by21 ∷
     (by17 ++ replace) ∷ (by19 ++ replace) ∷ (by21 ++ replace) ∷ (by25 ++ replace) ∷ []
+
+-- WHICH PATHS A CALL MAY DO, by what it is as begun and what it answers
+
+abbrev pub readPaths : List (List Line)
+readPaths = readActive ∷ readDecided ∷ []
+
+-- the four that end at line 30
+abbrev pub replacing : List (List Line)
+replacing = (by17 ++ replace) ∷ (by19 ++ replace) ∷ (by21 ++ replace) ∷ (by25 ++ replace) ∷ []
+
+abbrev pub yesPaths : List (List Line)
+yesPaths = yesFrom26 ∷ yesFrom25 ∷ replacing
+
+abbrev pub noPaths : List (List Line)
+noPaths = noFrom22 ∷ by17 ∷ by19 ∷ by21 ∷ replacing
+
+-- line 14: a swap of equal values reads, and answers yes or no
+abbrev pub pathsOf : Op → Answer → List (List Line)
+pathsOf (read k) (Value v) = readPaths
+pathsOf (read k) Yes = []
+pathsOf (read k) No = []
+pathsOf (swap k e n) (Value v) = []
+pathsOf (swap k e n) Yes = cond (eqb e n) readPaths yesPaths
+pathsOf (swap k e n) No = cond (eqb e n) readPaths noPaths
 
 -- COUNTS
 
@@ -118,10 +144,11 @@ module _ {S : Type 0} (act : S → Action → S × Event) (next : S → ℕ → 
   traces s r [] = r
   traces s r (a ∷ l) = traces (act s a .0) (enterLine (next s) r a (act s a .1)) l
 
--- a finished call whose counts are the lines that it did
+-- a finished call on a path that is its own, whose counts are the lines that it did
 pub record Counted (x : Traced) : Type 0 where
   pub path : x .lines ∈ reached
-  pub read-path : (k : ℕ) → x .op ≡ read k → x .lines ∈ (readActive ∷ readDecided ∷ [])
+  -- a path of what the call is as begun, that ends in what it answered
+  pub its-path : x .lines ∈ pathsOf (x .op) (x .report .answer)
   pub all-steps : x .report .steps ≡ steps (x .lines)
   pub all-hard : x .report .hard ≡ count hardware (x .lines)
   pub row : counts (x .lines) ∈ table

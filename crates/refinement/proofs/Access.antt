@@ -16,8 +16,7 @@ use Rattle.blocks.specs.Blocks.{unused}
 use Rattle.cells.specs.Turn.{Touched, touched, performed}
 use Rattle.cells.specs.Step.{current, withBlocks}
 use Rattle.blocks.proofs.Unused.{Found}
-use Rattle.figure.specs.Figure.{World, install}
-use Rattle.figure.specs.Figure
+use Rattle.figure.specs.Figure.{World, install, Accessed, accessCell, accessed, store as storeWord}
 use Rattle.refinement.proofs.Agree.{Links, Agree}
 use Rattle.refinement.proofs.Memory.{withCell, stays, stores, installs, names}
 use Rattle.refinement.proofs.Allocation.{Link, new, allocates}
@@ -49,7 +48,7 @@ Answers R k (InstallCas c d e) b i = b ≡ i
 Answers R k (Allocate x) b i = R k i b
 Answers R k Nothing b i = b ≡ i
 
-pub record Performed (n v : ℕ) (s : State) (w : World) (k : ℕ) (y : Access) (m : Touched) (m′ : Figure.Memory) : Type 1 where
+pub record Performed (n v : ℕ) (s : State) (w : World) (k : ℕ) (y : Access) (m : Touched) (m′ : Accessed) : Type 1 where
   pub R : Links
   pub agree : Agree n v R (withBlocks s k (m .current) (m .last)) (m .pool) (withCell w k (m′ .cell))
   pub answer : Answers R k y (m .value) (m′ .value)
@@ -59,18 +58,18 @@ module _ {n v : ℕ} {R : Links} {s : State} {p : List ℕ} {w : World} (a : Agr
   abbrev left : (pool : List ℕ) (c value : ℕ) → Touched
   left q c x = touched q c (s .last) x
 
-  pub performs : {x y : Access} → Linked R s k x y → Performed n v s w k y (performed p (current s k) (s .last) (unused s) x) (Figure.perform (w .cell k) y)
+  pub performs : {x y : Access} → Linked R s k x y → Performed n v s w k y (performed p (current s k) (s .last) (unused s) x) (accessCell (w .cell k) y)
   performs loadCell = record { R = R; agree = stays a k; answer = a .current k h }
   performs (load {i} {b} {f} r) = record { R = R; agree = stays a k; answer = a .blocks .words k i b f r }
   performs (store {i} {b} {f} {x} r) = record { R = R; agree = stores a k i b f x r; answer = refl }
   performs (decideCas {i} {b} {x} r) = rw (a .blocks .words k i b D r) (go (eqb (w .cell k .d i) noValue))
     where
-      go : (c : Bool) → Performed n v s w k (DecideCas i x) (cond c (left (setWord p b D x) (current s k) 1) (left p (current s k) 0)) (cond c (Figure.memory (Figure.store (w .cell k) i D x) 1) (Figure.memory (w .cell k) 0))
+      go : (c : Bool) → Performed n v s w k (DecideCas i x) (cond c (left (setWord p b D x) (current s k) 1) (left p (current s k) 0)) (cond c (accessed (storeWord (w .cell k) i D x) 1) (accessed (w .cell k) 0))
       go true = record { R = R; agree = stores a k i b D x r; answer = refl }
       go false = record { R = R; agree = stays a k; answer = refl }
   performs (installCas {i} {b} {i′} {b′} r r′) = rw (names a k i b h r) (go (eqb (w .cell k .current) i))
     where
-      go : (c : Bool) → Performed n v s w k (InstallCas k i i′) (cond c (left p b′ 1) (left p (current s k) 0)) (cond c (Figure.memory (install (w .cell k) i′) 1) (Figure.memory (w .cell k) 0))
+      go : (c : Bool) → Performed n v s w k (InstallCas k i i′) (cond c (left p b′ 1) (left p (current s k) 0)) (cond c (accessed (install (w .cell k) i′) 1) (accessed (w .cell k) 0))
       go true = record { R = R; agree = installs a k i′ b′ h r′; answer = refl }
       go false = record { R = R; agree = stays a k; answer = refl }
   performs (allocate {x} f) = rw (f .1) (record { R = Link R k (w .cell k .next) (f .0); agree = allocates a (f .0) (f .2) (f .3) k x; answer = new refl refl refl })

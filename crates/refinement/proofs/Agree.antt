@@ -19,8 +19,7 @@ use Rattle.cells.specs.Begin.{withRecord}
 use Rattle.cells.specs.Step.{current}
 use Rattle.history.specs.Basics.{upd}
 use Rattle.history.proofs.Basics.{either, upd-at, upd-off, upd-cases}
-use Rattle.figure.specs.Figure.{Cell, World, wordOf}
-use Rattle.figure.specs.Figure
+use Rattle.figure.specs.Figure.{Cell, World, wordOf, withTask}
 use Rattle.refinement.specs.Terms.{named}
 
 -- R k i b: block i of cell k in the figure is block b of the pool
@@ -91,7 +90,7 @@ upd-own g k = fun-ext (keeps (λ c. c) g k (g k) refl)
 -- A CHANGED RECORD
 
 pub records-change : {n v : ℕ} {R : Links} {s : State} {p : List ℕ} {w : World} → Agree n v R s p w
-    → (t : ℕ) (r q : Record) → t < n → Task R r q → Agree n v R (withRecord s t r) p (Figure.withRecord w t q)
+    → (t : ℕ) (r q : Record) → t < n → Task R r q → Agree n v R (withRecord s t r) p (withTask w t q)
 records-change {n} {v} {R} {s} {p} {w} a t r q h x = record {
   sizes = a .sizes;
   last = a .last;

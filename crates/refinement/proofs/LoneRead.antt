@@ -21,9 +21,8 @@ use Rattle.cells.specs.Look.{looked, shown, shownValue}
 use Rattle.history.specs.Basics.{upd}
 use Rattle.history.specs.History.{Action, begin, step, read, Event, accepted, answered, history, run}
 use Rattle.history.proofs.Basics.{upd-same, upd-off, upd-cases}
-use Rattle.figure.specs.Figure.{Cell, World, withBoth, store, perform, recordAfter, outcomeOf, figure}
+use Rattle.figure.specs.Figure.{Cell, World, withBoth, store, accessCell, recordAfter, outcomeOf, figure, accessed, figureBegun, figureLooked, figureRan, figureStepped}
 use Rattle.cells.specs.Events.{eventOf, tried}
-use Rattle.figure.specs.Figure
 use Rattle.cells.specs.Machine.{Pool, pool}
 use Rattle.refinement.specs.Terms.{start, isActive, loneRead, lastEvent, readReport}
 use Rattle.refinement.proofs.Agree.{upd-own}
@@ -39,10 +38,10 @@ shows m = let b = m .current in shownValue (m .c b) (m .v b) (m .d b)
 
 module _ (t : ℕ) where
   abbrev next : Cell → Record → Next
-  next m q = nextOf t q (perform m (accessOf t q) .value)
+  next m q = nextOf t q (accessCell m (accessOf t q) .value)
 
   abbrev nextCell : Cell → Record → Cell
-  nextCell m q = perform m (accessOf t q) .cell
+  nextCell m q = accessCell m (accessOf t q) .cell
 
   abbrev event : Cell → Record → Event
   event m q = eventOf (tried t q) (outcomeOf (next m q))
@@ -58,7 +57,7 @@ module _ (t : ℕ) where
 
   module _ (w : World) (l : t < w .tasks) where
     steps-alone : (m : Cell) (q : Record) → isIdle q ≡ false → figure (withBoth w (q .cell) m t q) (step t) ≡ (withBoth w (q .cell) (nextCell m q) t (recordAfter (next m q)), event m q)
-    unfolding Figure.stepped Figure.ran
+    unfolding figureStepped figureRan
     steps-alone m q busy =
         rw (upd-same (w .records) t q, lt-ltb t (w .tasks) l, busy, upd-same (w .cell) (q .cell) m, upd-twice (w .cell) (q .cell) m (nextCell m q), upd-twice (w .records) t q (recordAfter (next m q)))
 
@@ -73,7 +72,7 @@ module _ (t : ℕ) where
 
     reads-alone : (k i : ℕ) → k < w .cells → isIdle (w .records t) ≡ true → Pending k i (w .cell k) (firstRead k)
         → history figure w (loneRead t k i) ≡ (begin t (read k), accepted 0) ∷ alone i (w .cell k) (firstRead k)
-    unfolding Figure.begins
+    unfolding figureBegun
     reads-alone k i h idle pending =
         rw (lt-ltb t (w .tasks) l, lt-ltb k (w .cells) h, idle)
         (ap (λ (x : List (Action × Event)). (begin t (read k), accepted 0) ∷ x) (rw (upd-own (w .cell) k) at (runs-alone k i (w .cell k) (firstRead k) pending)))
@@ -90,7 +89,7 @@ module _ (t : ℕ) where
   abbrev wanting13 : ℕ → Cell → Record
   wanting13 k m = record { line = 1; wanted = 13; kind = 1; cell = k; expected = 0; new = 0; held = m .current; taken = 0; loaded = m .v (m .current); steps = 3; hard = 0 }
 
-  decided : (m : Cell) (b x : ℕ) (c : Bool) → cond c (Figure.memory (store m b D x) 1) (Figure.memory m 0) .cell .d b ≡ cond c x (m .d b)
+  decided : (m : Cell) (b x : ℕ) (c : Bool) → cond c (accessed (store m b D x) 1) (accessed m 0) .cell .d b ≡ cond c x (m .d b)
   decided m b x true = upd-same (m .d) b x
   decided m b x false = refl
 
@@ -117,8 +116,8 @@ lone-read : (t k : ℕ) (w : World) → t < w .tasks → k < w .cells → isIdle
 lone-read t k w l h idle true e = let r = active-read t k (w .cell k) e in ap lastEvent (reads-alone t w l k 3 h idle (r .0)) ∙ r .1
 lone-read t k w l h idle false e = let r = decided-read t k (w .cell k) e in ap lastEvent (reads-alone t w l k 6 h idle (r .0)) ∙ r .1
 
-shown-by : (k y : ℕ) (w : World) → Figure.looked w k ≡ Shown y → (k < w .cells) × (shows (w .cell k) ≡ y)
-unfolding Figure.looked
+shown-by : (k y : ℕ) (w : World) → figureLooked w k ≡ Shown y → (k < w .cells) × (shows (w .cell k) ≡ y)
+unfolding figureLooked
 shown-by k y w = go (ltb k (w .cells)) refl
   where
     go : (c : Bool) → ltb k (w .cells) ≡ c → shown (cond c none (some 8)) (shows (w .cell k)) ≡ Shown y → (k < w .cells) × (shows (w .cell k) ≡ y)

@@ -22,13 +22,13 @@ use Rattle.cells.specs.Step.{current}
 use Rattle.cells.specs.Look.{looked, shown, shownValue}
 use Rattle.history.specs.Basics.{_∈_}
 use Rattle.history.specs.History.{Op, Action, begin, step, Answer, Value, Yes, No, Report, Event, refused, accepted, answered, history, run, Call, Calls, Finished, noCalls, advanced, closed, enter, enterAll, callsOf}
-use Rattle.figure.specs.Figure.{Cell, World, After, perform, outcomeOf, ran, figure, opening}
+use Rattle.figure.specs.Figure.{Cell, World, WorldAfter, accessCell, outcomeOf, figureRan, figure, opening, figureLooked}
 use Rattle.cells.specs.Events.{answerOf, eventOf, tried}
-use Rattle.figure.specs.Figure
+use Rattle.figure.proofs.LineLaws.{by-test}
 use Rattle.figure.proofs.Records.{Begun, starts, begin-cases, Stepped, runs, step-cases, with-first}
 use Rattle.figure.proofs.Invariant as Invariant
 use Rattle.figure.proofs.Invariant.{View, Knowledge}
-use Rattle.figure.proofs.Steps.{Change, Reason, acts, acted, reads, declines, Out, by-test}
+use Rattle.figure.proofs.Steps.{Change, Reason, acts, acted, reads, declines, Out}
 use Rattle.figure.proofs.Views.{view}
 use Rattle.figure.proofs.Worlds.{known, κ⁺, out}
 use Rattle.figure.proofs.Reachable.{trivial, Reachable, next-reachable, opening-reachable, reachable}
@@ -67,14 +67,14 @@ reason-proper s κ t a (reads v saw other swaps e placed late) = let P : Code.An
     rw e (by-test P (eqb (s .task t .kind) 2) _ _ (λ k. by-test P (eqb v (s .task t .expected)) _ _ (λ y. yes-proper) (λ y. no-proper)) (λ k. value-proper v other))
 
 module _ (v : ℕ) (w : World) (i : Reachable v w) where
-  begin-proper : (t : ℕ) (op : Op) {f : After} → Begun w t op f → ProperEvent (eventOf 0 (f .outcome))
+  begin-proper : (t : ℕ) (op : Op) {f : WorldAfter} → Begun w t op f → ProperEvent (eventOf 0 (f .outcome))
   begin-proper t op (Begun.refuses n) = tt
   begin-proper t op (starts a) = tt
 
-  step-proper : (t : ℕ) (did : List Line) {f : After} → Stepped w t did f → ProperEvent (eventOf (tried t (w .records t)) (f .outcome))
-  unfolding ran
+  step-proper : (t : ℕ) (did : List Line) {f : WorldAfter} → Stepped w t did f → ProperEvent (eventOf (tried t (w .records t)) (f .outcome))
+  unfolding figureRan
   step-proper t did (Stepped.refuses n e) = tt
-  step-proper t did (runs l o) = let m = perform (w .cell (w .records t .cell)) (accessOf t (w .records t)) in go (m .cell) (nextOf t (w .records t) (m .value)) (out w (i .notes) (i .ghost) trivial (i .holds .good) t did o)
+  step-proper t did (runs l o) = let m = accessCell (w .cell (w .records t .cell)) (accessOf t (w .records t)) in go (m .cell) (nextOf t (w .records t) (m .value)) (out w (i .notes) (i .ghost) trivial (i .holds .good) t did o)
     where
       go : (c : Cell) (n : Next) → Out (view w (i .ghost) (w .records t .cell)) (known (i .notes) trivial) (κ⁺ w (i .notes) (i .ghost) trivial (i .holds .good) t did o) t c n → ProperEvent (eventOf (tried t (w .records t)) (outcomeOf n))
       go c (Go q) x = tt
@@ -117,8 +117,8 @@ current-some : (v : ℕ) (w : World) → Reachable v w → (k : ℕ) → w .cell
 unfolding Invariant.none
 current-some v w i k = i .holds .good .cells k .current .v-some
 
-look-some : (v : ℕ) (w : World) → Reachable v w → (k : ℕ) → Figure.looked w k ≢ Shown noValue
-unfolding Figure.looked
+look-some : (v : ℕ) (w : World) → Reachable v w → (k : ℕ) → figureLooked w k ≢ Shown noValue
+unfolding figureLooked
 look-some v w i k = let m = w .cell k in let b = m .current in shown-some (refusal (lookQuestions (w .cells) k)) _ (shown-value (m .c b) (m .v b) (m .d b) (current-some v w i k))
 
 -- THE CELLS, from an opening that is not refused, after any list of actions

@@ -17,8 +17,7 @@ use Rattle.cells.specs.Open.{opened}
 use Rattle.cells.specs.Step.{current}
 use Rattle.cells.specs.Look.{looked, shown, shownValue}
 use Rattle.history.specs.History.{Action, begin, step, Event, history, run}
-use Rattle.figure.specs.Figure.{World, figure, opening, wordOf}
-use Rattle.figure.specs.Figure
+use Rattle.figure.specs.Figure.{World, figure, opening, wordOf, figureLooked}
 use Rattle.cells.specs.Machine.{Pool, pool}
 use Rattle.refinement.specs.Terms.{start, named}
 use Rattle.figure.proofs.Records.{WellRecord, well}
@@ -55,8 +54,8 @@ module _ {n v : ℕ} where
   pub same-words : {x : Pool} {w : World} → Together n v x w → (k : ℕ) → k < v → (f : Field) → word (x .1) (current (x .0) k) f ≡ wordOf (w .cell k) (w .cell k .current) f
   same-words {x} {w} g k h f = g .agree .blocks .words k (w .cell k .current) (current (x .0) k) f (g .agree .current k h)
 
-  pub looks : {x : Pool} {w : World} → Together n v x w → (k : ℕ) → looked (x .0) (x .1) k ≡ Figure.looked w k
-  unfolding looked Figure.looked
+  pub looks : {x : Pool} {w : World} → Together n v x w → (k : ℕ) → looked (x .0) (x .1) k ≡ figureLooked w k
+  unfolding looked figureLooked
   looks {x} {w} g k = rw (is-fit g, g .agree .sizes .same-cells, g .agree .sizes .cells-too) (go (ltb k v) refl)
     where
       value : (Field → ℕ) → ℕ
@@ -98,5 +97,5 @@ module _ (s : State) (p : List ℕ) (n v b : ℕ) (vs : List ℕ) (ok : refusal 
     always-fit = is-fit together
 
     -- A look shows, or is refused, what the figure's look is.
-    pub same-look : (k : ℕ) → looked (x .0) (x .1) k ≡ Figure.looked w k
+    pub same-look : (k : ℕ) → looked (x .0) (x .1) k ≡ figureLooked w k
     same-look k = looks together k

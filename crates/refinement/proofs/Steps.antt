@@ -26,9 +26,8 @@ use Rattle.questions.proofs.Tests.{nth, answers, all-yes}
 use Rattle.questions.proofs.Numbers.{number, at-number}
 use Rattle.blocks.proofs.Unused.{one-is-unused}
 use Rattle.history.specs.History.{Op, read, swap, begin, step, Event}
-use Rattle.figure.specs.Figure.{Cell, World, withBoth, leaving, recordAfter, outcomeOf, figure}
+use Rattle.figure.specs.Figure.{Cell, World, withBoth, worldAfter, recordAfter, outcomeOf, figure, WorldAfter, accessCell, figureBegun, figureRan, figureStepped, unlessRefused, withTask}
 use Rattle.cells.specs.Events.{eventOf, tried}
-use Rattle.figure.specs.Figure
 use Rattle.cells.specs.Machine.{Pool, pool}
 use Rattle.refinement.specs.Terms.{named}
 use Rattle.figure.proofs.Records.{Busy, WellRecord}
@@ -46,12 +45,12 @@ pub record Same (n v : ℕ) (x : Pool × Event) (y : World × Event) : Type 1 wh
 abbrev gives : (Outcome → Event) → After → Pool × Event
 gives e r = ((r .state, r .pool), e (r .outcome))
 
-abbrev figureGives : (Outcome → Event) → Figure.After → World × Event
+abbrev figureGives : (Outcome → Event) → WorldAfter → World × Event
 figureGives e r = (r .world, e (r .outcome))
 
 -- what follows a line, in the pool and in the figure
 finishes : {n v : ℕ} {R : Links} (s : State) (m : Touched) (w : World) (k t x : ℕ) (c : Cell) {X Y : Next} → Agree n v R (withBlocks s k (m .current) (m .last)) (m .pool) (withCell w k c) → t < n → Nexts R X Y
-    → Same n v (gives (eventOf x) (putBack s t k (ending m X))) (figureGives (eventOf x) (leaving (withBoth w k c t (recordAfter Y)) (outcomeOf Y)))
+    → Same n v (gives (eventOf x) (putBack s t k (ending m X))) (figureGives (eventOf x) (worldAfter (withBoth w k c t (recordAfter Y)) (outcomeOf Y)))
 finishes {R = R} s m w k t x c a l (going {r} {q} e) = record { R = R; agree = records-change a t r q l e; event = refl }
 finishes {R = R} s m w k t x c a l ended = record { R = R; agree = records-change a t idle idle l (no-blocks idle tt); event = refl }
 
@@ -87,19 +86,19 @@ module _ {n v : ℕ} {R : Links} {s : State} {p : List ℕ} {w : World} (a : Agr
     figures-refusal = rw (a .sizes .tasks-too, a .sizes .cells-too)
 
     -- both refuse, with the same number, or both act
-    asked : (e e′ : Outcome → Event) (X : After) (Y : Figure.After) → ((r : ℕ) → e (Refused r) ≡ e′ (Refused r)) → (t < n → ands (answers questions) ≡ true → Same n v (gives e X) (figureGives e′ Y))
-        → Same n v (gives e (unless answered s p X)) (figureGives e′ (Figure.unless figureAnswered w Y))
+    asked : (e e′ : Outcome → Event) (X : After) (Y : WorldAfter) → ((r : ℕ) → e (Refused r) ≡ e′ (Refused r)) → (t < n → ands (answers questions) ≡ true → Same n v (gives e X) (figureGives e′ Y))
+        → Same n v (gives e (unless answered s p X)) (figureGives e′ (unlessRefused figureAnswered w Y))
     asked e e′ X Y same f = rw (same-refusal, figures-refusal) (go (refusal questions) refl)
       where
-        go : (o : Option ℕ) → refusal questions ≡ o → Same n v (gives e (unless o s p X)) (figureGives e′ (Figure.unless o w Y))
+        go : (o : Option ℕ) → refusal questions ≡ o → Same n v (gives e (unless o s p X)) (figureGives e′ (unlessRefused o w Y))
         go none g = let yes = all-yes questions g in f (ltb-true t n (nth (answers questions) yes 0)) yes
         go (some r) g = record { R = R; agree = a; event = same r }
 
   -- A STEP
 
   module _ (l : t < n) (h k : ℕ) (e : r ≡ named q h k) (y : Busy v q) where
-    busy-step : Same n v (gives (eventOf (tried t (named q h k))) (ran s p t (named q h k))) (figureGives (eventOf (tried t q)) (Figure.ran w t q))
-    unfolding ran Figure.ran
+    busy-step : Same n v (gives (eventOf (tried t (named q h k))) (ran s p t (named q h k))) (figureGives (eventOf (tried t q)) (figureRan w t q))
+    unfolding ran figureRan
     busy-step =
         let at = at-number q (y .line) in
         let task : Task R (named q h k) q = subst (λ (r : Record). Task R r q) e (a .records t l) in
@@ -110,7 +109,7 @@ module _ {n v : ℕ} {R : Links} {s : State} {p : List ℕ} {w : World} (a : Agr
         } in
         let accesses = linked R s q h k t (reads q) (swaps q) (lineOf q) (y .line) has in
         let m = performed p (current s (q .cell)) (s .last) (unused s) (accessOf t (named q h k)) in
-        let m′ = Figure.perform (w .cell (q .cell)) (accessOf t q) in
+        let m′ = accessCell (w .cell (q .cell)) (accessOf t q) in
         let done = performs a (q .cell) (y .cell) accesses in
         let R⁺ = done .R in
         let task⁺ : Task R⁺ (named q h k) q = subst (λ (r : Record). Task R⁺ r q) e (done .agree .records t l) in
@@ -122,18 +121,18 @@ module _ {n v : ℕ} {R : Links} {s : State} {p : List ℕ} {w : World} (a : Agr
   busy (inl e) g = absurd (false≢true (rw e at g))
   busy (inr y) g = y
 
-  step-acts : t < n → not (isIdle q) ≡ true → Same n v (gives (eventOf (tried t r)) (ran s p t r)) (figureGives (eventOf (tried t q)) (Figure.ran w t q))
+  step-acts : t < n → not (isIdle q) ≡ true → Same n v (gives (eventOf (tried t r)) (ran s p t r)) (figureGives (eventOf (tried t q)) (figureRan w t q))
   step-acts l g =
       let e = a .records t l .same in
-      subst (λ (r : Record). Same n v (gives (eventOf (tried t r)) (ran s p t r)) (figureGives (eventOf (tried t q)) (Figure.ran w t q))) (sym e) (busy-step l (r .held) (r .taken) e (busy (well t) g))
+      subst (λ (r : Record). Same n v (gives (eventOf (tried t r)) (ran s p t r)) (figureGives (eventOf (tried t q)) (figureRan w t q))) (sym e) (busy-step l (r .held) (r .taken) e (busy (well t) g))
 
   pub steps : Same n v (pool (s, p) (step t)) (figure w (step t))
-  unfolding stepped Figure.stepped
-  steps = asked (λ v i. (11, not i) ∷ []) (eventOf (tried t r)) (eventOf (tried t q)) (ran s p t r) (Figure.ran w t q) (λ _. refl) (λ l g. step-acts l (nth (ltb t n ∷ not (isIdle q) ∷ []) g 1))
+  unfolding stepped figureStepped
+  steps = asked (λ v i. (11, not i) ∷ []) (eventOf (tried t r)) (eventOf (tried t q)) (ran s p t r) (figureRan w t q) (λ _. refl) (λ l g. step-acts l (nth (ltb t n ∷ not (isIdle q) ∷ []) g 1))
 
   -- A BEGIN
 
-  begun : (r : Record) → T (not (holdsAt (r .line))) → t < n → Same n v (gives (eventOf 0) (started s p t r)) (figureGives (eventOf 0) (leaving (Figure.withRecord w t r) Acted))
+  begun : (r : Record) → T (not (holdsAt (r .line))) → t < n → Same n v (gives (eventOf 0) (started s p t r)) (figureGives (eventOf 0) (worldAfter (withTask w t r) Acted))
   begun r x l = record { R = R; agree = records-change a t r r l (no-blocks r x); event = refl }
 
   at-first : (c : Bool) → T (not (holdsAt (cond c 10 15)))
@@ -141,6 +140,6 @@ module _ {n v : ℕ} {R : Links} {s : State} {p : List ℕ} {w : World} (a : Agr
   at-first false = tt
 
   pub begins : (op : Op) → Same n v (pool (s, p) (begin t op)) (figure w (begin t op))
-  unfolding readBegun swapBegun Figure.begins
+  unfolding readBegun swapBegun figureBegun
   begins (read k) = asked (λ v i. (8, ltb k v) ∷ (9, i) ∷ []) (eventOf 0) (eventOf 0) _ _ (λ _. refl) (λ l _. begun (firstRead k) tt l)
   begins (swap k e x) = asked (λ v i. (8, ltb k v) ∷ (9, i) ∷ (10, not (eqb e noValue) && not (eqb x noValue)) ∷ []) (eventOf 0) (eventOf 0) _ _ (λ _. refl) (λ l _. begun (firstSwap k e x) (at-first (eqb e x)) l)

@@ -11,7 +11,7 @@ use Rattle.questions.specs.declared.State.{State}
 use Rattle.lines.specs.Lines.{Line, lineOf}
 use Rattle.questions.specs.Questions.{refusal, openQuestions}
 use Rattle.history.specs.History.{Action, begin, step, Event, refused, accepted, answered, run}
-use Rattle.figure.specs.Figure.{World, figure, opening, stepped}
+use Rattle.figure.specs.Figure.{World, figure, opening, figureStepped}
 use Rattle.figure.specs.Paths.{Trace, noTrace, enterLine, traces}
 use Rattle.figure.proofs.Records.{figureTraces}
 use Rattle.cells.specs.Machine.{Pool, pool}
@@ -38,7 +38,7 @@ module _ {n v : ℕ} {x : Pool} {w : World} (g : Together n v x w) where
 
   -- the step of a task that is not there is refused, whatever its record
   pub no-task : (t : ℕ) → n ≤ t → figure w (step t) .1 ≡ refused 7
-  unfolding stepped
+  unfolding figureStepped
   no-task t h = rw (g .agree .sizes .tasks-too, le-ltb t n h)
 
   abbrev now : ℕ → Line

@@ -1,32 +1,28 @@
 -- The numbers of a finished call are small: its task's, and its record's cell and counts.
 use mathlib.Core.Path.{_≡_, refl}
-use mathlib.Core.Bool.{true, _||_, not}
+use mathlib.Core.Bool.{true}
 use mathlib.Core.Option.{Option, none, some}
 use mathlib.Core.List.{List, _∷_}
 use Prim.Native.Nat.{ℕ, _≤_, _<_}
 use native.Mathlib.Omega.{arith}
-use lib.Dec.{T, leb, leb→le}
+use lib.Dec.{leb, leb→le}
 use Rattle.lines.specs.declared.Record.{Record}
 use Rattle.lines.specs.declared.Next.{Next}
 use Rattle.lines.specs.Record.{recordAt, firstRead, firstSwap}
-use Rattle.lines.specs.Lines.{Line, nowhere, lineOf, accessAt, accessOf, nextOf, counted, hardware}
+use Rattle.lines.specs.Lines.{Line, lineOf, accessAt, accessOf, nextOf, counted, hardware}
 use Rattle.questions.specs.declared.State.{State}
-use Rattle.questions.specs.Questions.{refusal, reads, swaps, ofKind, lineFit, fit, beginQuestions, swapQuestions, stepQuestions}
+use Rattle.questions.specs.Questions.{refusal, lineFit, fit, beginQuestions, swapQuestions, stepQuestions}
 use Rattle.blocks.specs.Blocks.{unused}
 use Rattle.cells.specs.Open.{After, unless}
 use Rattle.cells.specs.Begin.{started, readBegun, swapBegun}
 use Rattle.cells.specs.Step.{current, ran, stepped}
 use Rattle.cells.specs.Turn.{Touched, performed, ending, turn}
 use Rattle.cells.proofs.Stepping.{Acting, own-acting}
-use Rattle.figure.proofs.LineLaws.{imp, every-line, same, Leads, goes, done as ends, leads}
+use Rattle.figure.proofs.LineLaws.{every-line, Leads, goes, done as ends, leads}
 use Rattle.history.specs.History.{read, swap, Action, begin, step, taskOf}
 use Rattle.cells.specs.Events.{eventOf}
 use Rattle.cells.specs.Machine.{does}
 use Rattle.session_text.specs.Lines.{Small}
-
--- a record that fits has a line
-a-line : (r : Record) → lineFit r ≡ true → T (not (same (lineOf r) nowhere))
-a-line r = imp (lineFit r) (not (same (lineOf r) nowhere)) (every-line (λ l. not (same l nowhere) || not (ofKind l (reads r) (swaps r))) tt (lineOf r))
 
 -- a line is at most one hardware CAS
 at-most-one : (t : ℕ) (r : Record) → hardware (accessOf t r) ≤ 1
@@ -46,7 +42,7 @@ module _ (t : ℕ) where
   turns p r c l f e h i j k =
       let m = performed p c l f (accessOf t r) in
       let q = counted r (accessOf t r) in
-      ended m (lineOf r) q (nextOf t r (m .value)) (leads (lineOf r) t q (m .value) refl (a-line r e)) h i (omega arith) (omega (arith, at-most-one t r))
+      ended m (lineOf r) q (nextOf t r (m .value)) (leads (lineOf r) t q (m .value) refl e) h i (omega arith) (omega (arith, at-most-one t r))
 
   steps : (s : State) (p : List ℕ) → Small t (eventOf 0 (stepped s p t .outcome))
   unfolding stepped ran
