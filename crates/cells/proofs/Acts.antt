@@ -8,10 +8,7 @@ use Prim.Native.Nat.{ℕ}
 use lib.ListN.{length}
 use Rattle.lines.specs.declared.Record.{Record}
 use Rattle.questions.specs.declared.State.{State}
-use Rattle.cells.specs.declared.Outcome.{Outcome}
-use Rattle.cells.specs.declared.Outcome.the-variants.{Refused, Acted, Ended}
-use Rattle.cells.specs.declared.Looked.{Looked}
-use Rattle.cells.specs.declared.Looked.the-variants.{NotShown, Shown}
+use Rattle.cells.specs.Answers.{Said, Refused, Acted, Ended, Seen, NotShown, Shown}
 use Rattle.lines.specs.declared.Field.{Field}
 use Rattle.lines.specs.declared.Field.the-variants.{C, D}
 use Rattle.lines.specs.declared.Next.{Next}
@@ -30,12 +27,12 @@ use Rattle.cells.specs.Step.{current, ran, stepped}
 use Rattle.cells.specs.Look.{shownValue, shown, looked}
 use Rattle.questions.proofs.Tests.{answers, all-yes}
 
-abbrev pub acts : Outcome → Bool
+abbrev pub acts : Said → Bool
 acts (Refused n) = false
 acts Acted = true
 acts (Ended f) = true
 
-abbrev pub shows : Looked → Bool
+abbrev pub shows : Seen → Bool
 shows (NotShown n) = false
 shows (Shown v) = true
 

@@ -12,8 +12,7 @@ use denote.Laws.{Is}
 use denote.Struct.Laws as LL
 use Rattle.lines.specs.declared.Record.{Record}
 use Rattle.questions.specs.declared.State.{State}
-use Rattle.cells.specs.declared.Outcome.{Outcome}
-use Rattle.cells.specs.declared.Outcome.the-variants.{Refused, Acted, Ended}
+use Rattle.cells.specs.Answers.{Said, Refused, Acted, Ended}
 use Rattle.lines.specs.Record.{idle, isIdle, recordAt}
 use Rattle.cells.specs.Open.{After, leaving}
 use Rattle.cells.specs.Begin.{withRecord}
@@ -36,7 +35,7 @@ placed s t r q l (inr (h, e)) =
     let out : length (s .records) ≤ t = omega arith in
     e ∙ sym (rw (set-out (s .records) t r out))
 
-acted : (o : Outcome) → isRefused o ≡ false → acts o ≡ true
+acted : (o : Said) → isRefused o ≡ false → acts o ≡ true
 acted (Refused n) e = sym e
 acted Acted e = refl
 acted (Ended f) e = refl
@@ -50,7 +49,7 @@ module _ (s : State) (p : List ℕ) (t : ℕ) (a : After) (e : a ≡ stepped s p
   pool-kept : isRefused (a .outcome) ≡ true → a .pool ≡ p
   pool-kept h = rw e (go (stepped s p t .outcome) refl (rw e at h))
     where
-      go : (o : Outcome) → stepped s p t .outcome ≡ o → isRefused o ≡ true → stepped s p t .pool ≡ p
+      go : (o : Said) → stepped s p t .outcome ≡ o → isRefused o ≡ true → stepped s p t .pool ≡ p
       go (Refused n) g h = ap (λ (x : After). x .pool) (step-untouched s p t n g)
       go Acted g h = absurd (false≢true h)
       go (Ended f) g h = absurd (false≢true h)
@@ -70,7 +69,7 @@ module _ (s : State) (p : List ℕ) (t : ℕ) where
   abbrev handed : After → Lent
   handed a = lent a (recordAt (a .state .records) t)
 
-  same : (a : After) (o : Outcome) → a .outcome ≡ o → Untouched s p a → cond (isRefused (a .outcome)) (lent (leaving s p (a .outcome)) (recordAt (s .records) t)) (handed a) ≡ handed a
+  same : (a : After) (o : Said) → a .outcome ≡ o → Untouched s p a → cond (isRefused (a .outcome)) (lent (leaving s p (a .outcome)) (recordAt (s .records) t)) (handed a) ≡ handed a
   same a (Refused n) e h = rw (h n e)
   same a Acted e h = rw e
   same a (Ended f) e h = rw e

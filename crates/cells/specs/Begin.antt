@@ -4,7 +4,7 @@ use Prim.Native.Nat.{ℕ}
 use lib.ListN.{set}
 use Rattle.lines.specs.declared.Record.{Record}
 use Rattle.questions.specs.declared.State.{State}
-use Rattle.cells.specs.declared.Outcome.the-variants.{Acted}
+use Rattle.cells.specs.Answers.{Acted}
 use Rattle.lines.specs.Record.{recordAt, firstRead, firstSwap}
 use Rattle.questions.specs.Questions.{refusal, fit, beginQuestions, swapQuestions}
 use Rattle.cells.specs.Open.{After, unless}

@@ -3,28 +3,18 @@ use mathlib.Core.Bool.{cond}
 use Prim.Native.Nat.{ℕ}
 use lib.Dec.{eqb}
 use Rattle.lines.specs.declared.Record.{Record}
-use Rattle.lines.specs.declared.Finished as CodeFinished
-use Rattle.lines.specs.declared.Answer as Code
-use Rattle.lines.specs.declared.Answer.the-variants as CodeAnswer
 use Rattle.lines.specs.Lines.{accessOf, hardware}
-use Rattle.cells.specs.declared.Outcome.{Outcome}
-use Rattle.cells.specs.declared.Outcome.the-variants.{Refused, Acted, Ended}
-use Rattle.history.specs.History.{Kind, aRead, aSwap, Answer, Value, Yes, No, Report, Event, refused, accepted, answered}
+use Rattle.cells.specs.Answers.{Result, Said, Refused, Acted, Ended}
+use Rattle.history.specs.History.{Kind, aRead, aSwap, Report, Event, refused, accepted, answered}
 
-abbrev pub answerOf : Code.Answer → Answer
-answerOf (CodeAnswer.Value v) = Value v
-answerOf CodeAnswer.Yes = Yes
-answerOf CodeAnswer.No = No
-
--- 1 is a read, 2 a swap
 abbrev pub kindAt : ℕ → Kind
 kindAt k = cond (eqb k 1) aRead aSwap
 
-abbrev pub reportOf : CodeFinished.Finished → Report
-reportOf f = record { kind = kindAt (f .kind); cell = f .cell; answer = answerOf (f .answer); steps = f .steps; hard = f .hard }
+abbrev pub reportOf : Result → Report
+reportOf f = record { kind = kindAt (f .kind); cell = f .cell; answer = f .answer; steps = f .steps; hard = f .hard }
 
 -- of an action that attempts x hardware CAS if it is accepted
-abbrev pub eventOf : (tried : ℕ) → Outcome → Event
+abbrev pub eventOf : (tried : ℕ) → Said → Event
 eventOf x (Refused n) = refused n
 eventOf x Acted = accepted x
 eventOf x (Ended f) = answered x (reportOf f)

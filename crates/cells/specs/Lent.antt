@@ -4,14 +4,13 @@ use mathlib.Core.List.{List}
 use Prim.Native.Nat.{ℕ}
 use Rattle.lines.specs.declared.Record.{Record}
 use Rattle.questions.specs.declared.State.{State}
-use Rattle.cells.specs.declared.Outcome.{Outcome}
-use Rattle.cells.specs.declared.Outcome.the-variants.{Refused, Acted, Ended}
+use Rattle.cells.specs.Answers.{Said, Refused, Acted, Ended}
 use Rattle.lines.specs.Record.{recordAt}
 use Rattle.cells.specs.Open.{After, leaving}
 use Rattle.cells.specs.Begin.{withRecord}
 use Rattle.cells.specs.Step.{stepped}
 
-abbrev pub isRefused : Outcome → Bool
+abbrev pub isRefused : Said → Bool
 isRefused (Refused n) = true
 isRefused Acted = false
 isRefused (Ended f) = false

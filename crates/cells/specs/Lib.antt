@@ -1,4 +1,5 @@
 pub mod Pool
+pub mod Answers
 pub mod Open
 pub mod Begin
 pub mod Step

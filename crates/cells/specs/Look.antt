@@ -5,8 +5,7 @@ use mathlib.Core.List.{List, _∷_}
 use Prim.Native.Nat.{ℕ}
 use lib.Dec.{eqb}
 use Rattle.questions.specs.declared.State.{State}
-use Rattle.cells.specs.declared.Looked.{Looked}
-use Rattle.cells.specs.declared.Looked.the-variants.{NotShown, Shown}
+use Rattle.cells.specs.Answers.{Seen, NotShown, Shown}
 use Rattle.lines.specs.declared.Field.{Field}
 use Rattle.lines.specs.declared.Field.the-variants.{C, D}
 use Rattle.lines.specs.Record.{noValue}
@@ -18,9 +17,9 @@ use Rattle.cells.specs.Step.{current}
 abbrev pub shownValue : (c v d : ℕ) → ℕ
 shownValue c v d = cond (eqb c 0) v (cond (eqb d noValue) v d)
 
-abbrev pub shown : Option ℕ → ℕ → Looked
+abbrev pub shown : Option ℕ → ℕ → Seen
 shown none v = Shown v
 shown (some n) v = NotShown n
 
-unfoldable pub looked : State → List ℕ → (cell : ℕ) → Looked
+unfoldable pub looked : State → List ℕ → (cell : ℕ) → Seen
 looked s p k = let b = current s k in shown (refusal ((6, fit s p) ∷ lookQuestions (s .cells) k)) (shownValue (word p b C) (word p b Field.V) (word p b D))

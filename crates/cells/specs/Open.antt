@@ -4,8 +4,7 @@ use mathlib.Core.List.{List, [], _∷_}
 use Prim.Native.Nat.{ℕ, _+_, _-_}
 use lib.ListN.{length, replicate}
 use Rattle.questions.specs.declared.State.{State}
-use Rattle.cells.specs.declared.Outcome.{Outcome}
-use Rattle.cells.specs.declared.Outcome.the-variants.{Refused, Acted}
+use Rattle.cells.specs.Answers.{Said, Refused, Acted}
 use Rattle.lines.specs.Record.{idle}
 use Rattle.cells.specs.Pool.{fill}
 use Rattle.questions.specs.Questions.{refusal, openQuestions}
@@ -14,9 +13,9 @@ use Rattle.questions.specs.Questions.{refusal, openQuestions}
 pub record After : Type 0 where
   pub state : State
   pub pool : List ℕ
-  pub outcome : Outcome
+  pub outcome : Said
 
-abbrev pub leaving : State → List ℕ → Outcome → After
+abbrev pub leaving : State → List ℕ → Said → After
 leaving s p o = record { state = s; pool = p; outcome = o }
 
 -- a refusal returns the number alone: state, records and pool stay

@@ -6,8 +6,7 @@ use mathlib.Core.List.{List}
 use Prim.Native.Nat.{ℕ, _+_, _*_, _≤_, _<_}
 use lib.Dec.{eqb}
 use Rattle.lines.specs.declared.Record.{Record}
-use Rattle.cells.specs.declared.Outcome.{Outcome}
-use Rattle.cells.specs.declared.Outcome.the-variants.{Acted, Ended}
+use Rattle.cells.specs.Answers.{result, Said, Acted, Ended}
 use Rattle.lines.specs.declared.Field.the-variants.{D}
 use Rattle.lines.specs.declared.Access.{Access}
 use Rattle.lines.specs.declared.Access.the-variants.{LoadCell, Load, Store, DecideCas, InstallCas, Allocate, Nothing}
@@ -50,14 +49,14 @@ pub record Turned : Type 0 where
   pub current : ℕ
   pub last : ℕ
   pub pool : List ℕ
-  pub outcome : Outcome
+  pub outcome : Said
 
-abbrev pub turned : Record → (current last : ℕ) → List ℕ → Outcome → Turned
+abbrev pub turned : Record → (current last : ℕ) → List ℕ → Said → Turned
 turned r c l p o = record { «record» = r; current = c; last = l; pool = p; outcome = o }
 
 abbrev pub ending : Touched → Next → Turned
 ending m (Go r) = turned r (m .current) (m .last) (m .pool) Acted
-ending m (Done f) = turned idle (m .current) (m .last) (m .pool) (Ended f)
+ending m (Done f) = turned idle (m .current) (m .last) (m .pool) (Ended (result f))
 
 abbrev pub turn : (pool : List ℕ) (task : ℕ) (r : Record) (current last : ℕ) (free : Option ℕ) → Turned
 turn p t r c l f = let m = performed p c l f (accessOf t r) in ending m (nextOf t r (m .value))

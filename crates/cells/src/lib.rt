@@ -4,6 +4,7 @@ ghost use mathlib.Core.Path.{_≡_};
 ghost use Prim.Native.Nat.{_+_, _*_, _<_};
 ghost use lib.ListN.{length};
 ghost use Rattle.cells.specs.Pool.{word};
+ghost use Rattle.cells.specs.Answers.{said, seen};
 ghost use Rattle.cells.specs.Open.{opened, leaving};
 ghost use Rattle.cells.specs.Begin.{begun, readBegun, swapBegun};
 ghost use Rattle.cells.specs.Step.{stepped};
@@ -50,7 +51,7 @@ pub fn open(
     blocks: u32,
     values: &[u32],
 ) -> Reply
-    ensures { λ r. ⌜ leaving (r .state) (now (pool .exit)) (r .outcome) ≡ opened s (now (pool .entry)) tasks cells blocks (now (values .entry)) ⌝ }
+    ensures { λ r. ⌜ leaving (r .state) (now (pool .exit)) (said (r .outcome)) ≡ opened s (now (pool .entry)) tasks cells blocks (now (values .entry)) ⌝ }
 {
     let n = questions::open_refusal(pool.len(), tasks, cells, blocks, values);
     if n != 0 {
@@ -69,7 +70,7 @@ pub fn open(
 
 // The task's call begins with the record q.
 fn begin(mut s: State, pool: &[u32], task: u32, q: Record) -> Reply
-    ensures { λ r. ⌜ leaving (r .state) (now (pool .entry)) (r .outcome) ≡ begun s (now (pool .entry)) task q ⌝ }
+    ensures { λ r. ⌜ leaving (r .state) (now (pool .entry)) (said (r .outcome)) ≡ begun s (now (pool .entry)) task q ⌝ }
 {
     let t = task as usize;
     let fit = questions::is_fit(s, pool);
@@ -94,20 +95,20 @@ fn begin(mut s: State, pool: &[u32], task: u32, q: Record) -> Reply
 }
 
 pub fn begin_read(s: State, pool: &[u32], task: u32, cell: u32) -> Reply
-    ensures { λ r. ⌜ leaving (r .state) (now (pool .entry)) (r .outcome) ≡ readBegun s (now (pool .entry)) task cell ⌝ }
+    ensures { λ r. ⌜ leaving (r .state) (now (pool .entry)) (said (r .outcome)) ≡ readBegun s (now (pool .entry)) task cell ⌝ }
 {
     begin(s, pool, task, records::first_read(cell))
 }
 
 pub fn begin_swap(s: State, pool: &[u32], task: u32, cell: u32, expected: u32, new: u32) -> Reply
-    ensures { λ r. ⌜ leaving (r .state) (now (pool .entry)) (r .outcome) ≡ swapBegun s (now (pool .entry)) task cell expected new ⌝ }
+    ensures { λ r. ⌜ leaving (r .state) (now (pool .entry)) (said (r .outcome)) ≡ swapBegun s (now (pool .entry)) task cell expected new ⌝ }
 {
     begin(s, pool, task, records::first_swap(cell, expected, new))
 }
 
 // A busy task's next line.
 pub fn step(mut s: State, pool: &mut [u32], task: u32) -> Reply
-    ensures { λ r. ⌜ leaving (r .state) (now (pool .exit)) (r .outcome) ≡ stepped s (now (pool .entry)) task ⌝ }
+    ensures { λ r. ⌜ leaving (r .state) (now (pool .exit)) (said (r .outcome)) ≡ stepped s (now (pool .entry)) task ⌝ }
 {
     let t = task as usize;
     let fit = questions::is_fit(s, pool);
@@ -141,7 +142,7 @@ pub fn step(mut s: State, pool: &mut [u32], task: u32) -> Reply
 }
 
 fn is_refused(outcome: Outcome) -> bool
-    ensures { λ b. ⌜ b ≡ isRefused outcome ⌝ }
+    ensures { λ b. ⌜ b ≡ isRefused (said outcome) ⌝ }
 {
     match outcome {
         Outcome::Refused(_) => true,
@@ -157,7 +158,7 @@ struct LentTurn {
 }
 
 fn lent_turn(s: State, pool: &mut [u32], task: u32, r: Record) -> LentTurn
-    ensures { λ n. ⌜ lent (leaving (n .reply .state) (now (pool .exit)) (n .reply .outcome)) (n .record) ≡ steppedLent s (now (pool .entry)) task r ⌝ }
+    ensures { λ n. ⌜ lent (leaving (n .reply .state) (now (pool .exit)) (said (n .reply .outcome))) (n .record) ≡ steppedLent s (now (pool .entry)) task r ⌝ }
 {
     let t = task as usize;
     let mut q = s;
@@ -179,7 +180,7 @@ fn lent_turn(s: State, pool: &mut [u32], task: u32, r: Record) -> LentTurn
 // A step over the task's record, lent: it stands in place of the state's, and afterwards the two are equal. Refused,
 // it is as before.
 pub fn step_lent(s: State, pool: &mut [u32], task: u32, rec: &mut Record) -> Reply
-    ensures { λ n. ⌜ lent (leaving (n .state) (now (pool .exit)) (n .outcome)) (now (rec .exit)) ≡ steppedLent s (now (pool .entry)) task (now (rec .entry)) ⌝ }
+    ensures { λ n. ⌜ lent (leaving (n .state) (now (pool .exit)) (said (n .outcome))) (now (rec .exit)) ≡ steppedLent s (now (pool .entry)) task (now (rec .entry)) ⌝ }
 {
     let r = *rec;
     let n = lent_turn(s, pool, task, r);
@@ -201,7 +202,7 @@ fn shown_value(pool: &[u32], block: u32) -> u32
 }
 
 pub fn look(s: State, pool: &[u32], cell: u32) -> Looked
-    ensures { λ r. ⌜ r ≡ looked s (now (pool .entry)) cell ⌝ }
+    ensures { λ r. ⌜ seen r ≡ looked s (now (pool .entry)) cell ⌝ }
 {
     if !questions::is_fit(s, pool) {
         return Looked::NotShown(6);

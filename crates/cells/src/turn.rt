@@ -5,6 +5,7 @@ ghost use lib.ListN.{length};
 ghost use Rattle.lines.specs.Lines.{hardware, counted};
 ghost use Rattle.lines.specs.Record.{idle};
 ghost use Rattle.blocks.specs.Blocks.{foundOf};
+ghost use Rattle.cells.specs.Answers.{said};
 ghost use Rattle.cells.specs.Turn.{touched, filling, performed, turned, turn, Reaches, There, Ready};
 use crate::Outcome;
 use crate::pool::decide_cas;
@@ -45,7 +46,7 @@ pub fn take_turn(
     free: Found,
 ) -> Turn
     requires { ⌜ Ready (length (now pool)) task r × There (length (now pool)) (foundOf free) ⌝ }
-    ensures { λ n. ⌜ turned (n .record) (n .current) (n .last) (now (pool .exit)) (n .outcome) ≡ turn (now (pool .entry)) task r current last (foundOf free) ⌝ }
+    ensures { λ n. ⌜ turned (n .record) (n .current) (n .last) (now (pool .exit)) (said (n .outcome)) ≡ turn (now (pool .entry)) task r current last (foundOf free) ⌝ }
 {
     let a = access_of(task, r);
     let m = perform(pool, a, current, last, free);

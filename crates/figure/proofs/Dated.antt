@@ -22,7 +22,7 @@ use Rattle.history.proofs.Basics.{either, upd-at, upd-same, upd-off, upd-cases}
 use Rattle.history.proofs.Simulation as Sim
 use Rattle.history.proofs.Simulation.{Phase, settled, frozen, late, Ghost, unplaced, Tally, Why, Sided, Named}
 use Rattle.figure.specs.Figure.{Cell, World, withTask, recordAfter, accessCell, figure}
-use Rattle.cells.specs.Events.{answerOf}
+use Rattle.cells.specs.Answers.{answerOf}
 use Rattle.figure.specs.Moments.{Notes, nothingNoted, noted, Sight, holdsBlock, sees, names, at, effect, lineC6, rules, ruleAt, ruled, stands}
 use Rattle.figure.proofs.LineLaws.{both, every, every-line, lines, same, same-is, extends, Leads, goes, done, by-test}
 use Rattle.figure.proofs.LineLaws as Laws

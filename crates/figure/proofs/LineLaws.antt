@@ -19,7 +19,7 @@ use Rattle.questions.specs.Questions.{ofKind, reads, swaps}
 use Rattle.history.specs.Basics.{_∈_}
 use Rattle.history.specs.History as Event
 use Rattle.history.specs.History.{Op, read, swap}
-use Rattle.cells.specs.Events.{answerOf}
+use Rattle.cells.specs.Answers.{answerOf}
 use Rattle.figure.specs.Paths.{decision, readPaths, yesPaths, noPaths, paths, by25, pathsOf}
 use Rattle.figure.proofs.AsBegun.{opOf, swap-op, Reads, read-op}
 

@@ -14,7 +14,7 @@ use Rattle.questions.specs.Questions.{ofKind, reads, swaps, lineFit}
 use Rattle.history.specs.History.{Op, cellOf, Yes, No}
 use Rattle.history.specs.Linearization.{reply, after, apply}
 use Rattle.history.specs.Demand3.{Unequal}
-use Rattle.cells.specs.Events.{answerOf}
+use Rattle.cells.specs.Answers.{answerOf}
 use Rattle.figure.proofs.LineLaws.{every-line, imp}
 use Rattle.figure.proofs.AsBegun.{opOf, swap-op, Reads, read-op}
 use Rattle.figure.proofs.Tallies.{tally, tallyOf}

@@ -9,7 +9,7 @@ use native.Mathlib.Omega.{arith}
 use lib.Dec.{eqb, leb, ltb, T, leb→le, ltb→lt}
 use borrow.Author.Tests.{ltb-true, lt-ltb, ne-eqb}
 use Rattle.lines.specs.declared.Record.{Record}
-use Rattle.cells.specs.declared.Outcome.the-variants.{Refused, Acted}
+use Rattle.cells.specs.Answers.{answerOf, result, Refused, Acted}
 use Rattle.lines.specs.declared.Next.{Next}
 use Rattle.lines.specs.declared.Next.the-variants.{Go, Done}
 use Rattle.lines.specs.Record.{idle, isIdle}
@@ -20,7 +20,7 @@ use Rattle.history.specs.Basics.{upd, _∈_}
 use Rattle.history.specs.History.{Op, read, swap, cellOf, Action, begin, step, Report, run}
 use Rattle.history.proofs.Basics.{either, upd-at, upd-off, upd-cases}
 use Rattle.figure.specs.Figure.{Cell, World, withTask, withBoth, WorldAfter, worldAfter, unlessRefused, recordAfter, outcomeOf, figureRan, figureStepped, figureBegun, opening, figure, accessCell}
-use Rattle.cells.specs.Events.{answerOf, reportOf, eventOf, tried}
+use Rattle.cells.specs.Events.{reportOf, eventOf, tried}
 use Rattle.figure.specs.Paths.{count, Traced, Trace, didLine, enterLine, traces}
 use Rattle.figure.specs.Paths as Paths
 use Rattle.figure.proofs.AsBegun.{opOf}
@@ -68,7 +68,7 @@ module _ (v : ℕ) (did : List Line) (q : Record) (o : Pending v did q) where
   -- what its next line makes of it
   abbrev pub Then : Next → Type 0
   Then (Go r) = Pending v (did ++ (lineOf q ∷ [])) r
-  Then (Done f) = Complete (opOf q) (did ++ (lineOf q ∷ [])) (reportOf f)
+  Then (Done f) = Complete (opOf q) (did ++ (lineOf q ∷ [])) (reportOf (result f))
 
   pub one-line : (t x : ℕ) → Then (nextOf t q x)
   one-line t x = go (led t x)

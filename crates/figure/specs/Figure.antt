@@ -7,9 +7,7 @@ use Prim.Native.Nat.{ℕ, suc}
 use lib.Dec.{eqb}
 use lib.ListN.{getD}
 use Rattle.lines.specs.declared.Record.{Record}
-use Rattle.cells.specs.declared.Outcome.{Outcome}
-use Rattle.cells.specs.declared.Outcome.the-variants.{Refused, Acted, Ended}
-use Rattle.cells.specs.declared.Looked.{Looked}
+use Rattle.cells.specs.Answers.{result, Said, Refused, Acted, Ended, Seen}
 use Rattle.lines.specs.declared.Field.{Field}
 use Rattle.lines.specs.declared.Field.the-variants.{X, Y, C, D}
 use Rattle.lines.specs.declared.Access.{Access}
@@ -101,9 +99,9 @@ withBoth w k m t q = record { tasks = w .tasks; cells = w .cells; cell = upd (w 
 
 pub record WorldAfter : Type 0 where
   pub world : World
-  pub outcome : Outcome
+  pub outcome : Said
 
-abbrev pub worldAfter : World → Outcome → WorldAfter
+abbrev pub worldAfter : World → Said → WorldAfter
 worldAfter w o = record { world = w; outcome = o }
 
 abbrev pub unlessRefused : Option ℕ → World → WorldAfter → WorldAfter
@@ -115,9 +113,9 @@ abbrev pub recordAfter : Next → Record
 recordAfter (Go q) = q
 recordAfter (Done f) = idle
 
-abbrev pub outcomeOf : Next → Outcome
+abbrev pub outcomeOf : Next → Said
 outcomeOf (Go q) = Acted
-outcomeOf (Done f) = Ended f
+outcomeOf (Done f) = Ended (result f)
 
 -- a busy task's next line: its access on its own cell, and what follows
 unfoldable pub figureRan : World → ℕ → Record → WorldAfter
@@ -139,7 +137,7 @@ opening n v vs = record {
   cell = λ k. record { current = 0; next = 1; x = λ b. fresh (getD vs k 0) X; y = λ b. fresh (getD vs k 0) Y; c = λ b. fresh (getD vs k 0) C; v = λ b. fresh (getD vs k 0) Field.V; d = λ b. fresh (getD vs k 0) D };
 }
 
-unfoldable pub figureLooked : World → ℕ → Looked
+unfoldable pub figureLooked : World → ℕ → Seen
 figureLooked w k = let m = w .cell k in let b = m .current in shown (refusal (lookQuestions (w .cells) k)) (shownValue (m .c b) (m .v b) (m .d b))
 
 -- AS A MACHINE THAT TAKES ACTIONS AND GIVES EVENTS

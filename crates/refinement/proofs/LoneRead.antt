@@ -10,7 +10,7 @@ use lib.ListN.{length, replicate}
 use borrow.Author.Tests.{ltb-true, lt-ltb}
 use Rattle.lines.specs.declared.Record.{Record}
 use Rattle.questions.specs.declared.State.{State}
-use Rattle.cells.specs.declared.Looked.the-variants.{Shown}
+use Rattle.cells.specs.Answers.{Shown}
 use Rattle.lines.specs.declared.Field.the-variants.{C, D}
 use Rattle.lines.specs.declared.Next.{Next}
 use Rattle.lines.specs.Record.{noValue, isIdle, recordAt}

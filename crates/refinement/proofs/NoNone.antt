@@ -10,7 +10,7 @@ use lib.ListN.{length}
 use borrow.Author.Tests.{eqb-false}
 use Rattle.questions.specs.declared.State.{State}
 use Rattle.lines.specs.declared.Answer as Code
-use Rattle.cells.specs.declared.Looked.the-variants.{Shown}
+use Rattle.cells.specs.Answers.{Shown}
 use Rattle.lines.specs.declared.Field.{Field}
 use Rattle.lines.specs.declared.Next.{Next}
 use Rattle.lines.specs.declared.Next.the-variants.{Go, Done}
@@ -23,7 +23,8 @@ use Rattle.cells.specs.Look.{looked, shown, shownValue}
 use Rattle.history.specs.Basics.{_∈_}
 use Rattle.history.specs.History.{Op, Action, begin, step, Answer, Value, Yes, No, Report, Event, refused, accepted, answered, history, run, Call, Calls, Finished, noCalls, advanced, closed, enter, enterAll, callsOf}
 use Rattle.figure.specs.Figure.{Cell, World, WorldAfter, accessCell, outcomeOf, figureRan, figure, opening, figureLooked}
-use Rattle.cells.specs.Events.{answerOf, eventOf, tried}
+use Rattle.cells.specs.Answers.{answerOf}
+use Rattle.cells.specs.Events.{eventOf, tried}
 use Rattle.figure.proofs.LineLaws.{by-test}
 use Rattle.figure.proofs.Records.{Begun, starts, begin-cases, Stepped, runs, step-cases, with-first}
 use Rattle.figure.proofs.Invariant as Invariant

@@ -9,8 +9,7 @@ use lib.Dec.{eqb, ltb, T}
 use borrow.Author.Tests.{ltb-true}
 use Rattle.lines.specs.declared.Record.{Record}
 use Rattle.questions.specs.declared.State.{State}
-use Rattle.cells.specs.declared.Outcome.{Outcome}
-use Rattle.cells.specs.declared.Outcome.the-variants.{Refused, Acted}
+use Rattle.cells.specs.Answers.{Said, Refused, Acted}
 use Rattle.lines.specs.declared.Next.{Next}
 use Rattle.lines.specs.Basics.{ands}
 use Rattle.lines.specs.Record.{noValue, idle, isIdle, recordAt}
@@ -42,10 +41,10 @@ pub record Same (n v : ℕ) (x : Pool × Event) (y : World × Event) : Type 1 wh
   pub agree : Agree n v R (x .0 .0) (x .0 .1) (y .0)
   pub event : x .1 ≡ y .1
 
-abbrev gives : (Outcome → Event) → After → Pool × Event
+abbrev gives : (Said → Event) → After → Pool × Event
 gives e r = ((r .state, r .pool), e (r .outcome))
 
-abbrev figureGives : (Outcome → Event) → WorldAfter → World × Event
+abbrev figureGives : (Said → Event) → WorldAfter → World × Event
 figureGives e r = (r .world, e (r .outcome))
 
 -- what follows a line, in the pool and in the figure
@@ -86,7 +85,7 @@ module _ {n v : ℕ} {R : Links} {s : State} {p : List ℕ} {w : World} (a : Agr
     figures-refusal = rw (a .sizes .tasks-too, a .sizes .cells-too)
 
     -- both refuse, with the same number, or both act
-    asked : (e e′ : Outcome → Event) (X : After) (Y : WorldAfter) → ((r : ℕ) → e (Refused r) ≡ e′ (Refused r)) → (t < n → ands (answers questions) ≡ true → Same n v (gives e X) (figureGives e′ Y))
+    asked : (e e′ : Said → Event) (X : After) (Y : WorldAfter) → ((r : ℕ) → e (Refused r) ≡ e′ (Refused r)) → (t < n → ands (answers questions) ≡ true → Same n v (gives e X) (figureGives e′ Y))
         → Same n v (gives e (unless answered s p X)) (figureGives e′ (unlessRefused figureAnswered w Y))
     asked e e′ X Y same f = rw (same-refusal, figures-refusal) (go (refusal questions) refl)
       where

@@ -12,9 +12,7 @@ use Rattle.io.specs.Counts.{Counts}
 use Rattle.text.specs.Append.{Appended}
 use Rattle.text.proofs.Appending.{nothing, whole}
 use Rattle.questions.specs.declared.State.{State}
-use Rattle.lines.specs.declared.Finished.{Finished}
-use Rattle.cells.specs.declared.Outcome.{Outcome}
-use Rattle.cells.specs.declared.Outcome.the-variants.{Refused, Acted, Ended}
+use Rattle.cells.specs.Answers.{Result, Said, Refused, Acted, Ended}
 use Rattle.cells.specs.Open.{After, leaving, opened}
 use Rattle.questions.specs.Questions.{refusal, openQuestions}
 use Rattle.cells.proofs.Acts.{acts, acts-iff, open-acts}
@@ -38,13 +36,13 @@ map-at f (x ∷ l) zero h = refl
 map-at f (x ∷ l) (suc i) h = map-at f l i (omega arith)
 
 -- a line and a count do not depend on the hardware CAS attempts of the action
-same-line : (i t x : ℕ) (o : Outcome) → eventLine i t (eventOf x o) ≡ eventLine i t (eventOf 0 o)
+same-line : (i t x : ℕ) (o : Said) → eventLine i t (eventOf x o) ≡ eventLine i t (eventOf 0 o)
 unfolding eventLine
 same-line i t x (Refused n) = refl
 same-line i t x Acted = refl
 same-line i t x (Ended f) = refl
 
-same-count : (z : Totals) (x : ℕ) (o : Outcome) → counted z (eventOf x o) ≡ counted z (eventOf 0 o)
+same-count : (z : Totals) (x : ℕ) (o : Said) → counted z (eventOf x o) ≡ counted z (eventOf 0 o)
 same-count z x (Refused n) = refl
 same-count z x Acted = refl
 same-count z x (Ended f) = refl
@@ -63,7 +61,7 @@ module _ (n v : ℕ) (f : ℕ → Action) (l : List ℕ) (i : ℕ) (z : Totals) 
       ∙ ap (λ (t : List ℕ). t ++ rest (counted z e)) (same-line i (taskOf a) (triedBy s a) (x .outcome))
       ∙ ap (λ (z : Totals). eventLine i (taskOf a) (eventOf 0 (x .outcome)) ++ rest z) (same-count z (triedBy s a) (x .outcome))
 
-  pub one-action : {z′ : Totals} {s′ : State} {p′ : List ℕ} {o : Outcome} {a : Action} {t : ℕ} → i < length l → a ≡ f (getD l i 0) → leaving s′ p′ o ≡ does s p a → t ≡ taskOf a → z′ ≡ counted z (eventOf 0 o) →
+  pub one-action : {z′ : Totals} {s′ : State} {p′ : List ℕ} {o : Said} {a : Action} {t : ℕ} → i < length l → a ≡ f (getD l i 0) → leaving s′ p′ o ≡ does s p a → t ≡ taskOf a → z′ ≡ counted z (eventOf 0 o) →
       playedOn n v i z (s, p) (drop i (map f l)) ≡ eventLine i t (eventOf 0 o) ++ playedOn n v (i + 1) z′ (s′, p′) (drop (i + 1) (map f l))
   one-action {a = a} h ea ed et ez =
       let rest = drop (i + 1) (map f l) in
@@ -80,8 +78,8 @@ allowed : (s : State) (p : List ℕ) (n v b : ℕ) (vs : List ℕ) → opened s 
 allowed s p n v b vs e = acts-iff (openQuestions (length p) n v b vs) .1 (sym (open-acts s p n v b vs) ∙ ap acts e)
 
 -- what follows from an opening's answer
-module _ (n v b : ℕ) (vs p : List ℕ) (l : List Action) {s₀ s : State} {p′ : List ℕ} {o : Outcome} (eb : s₀ ≡ blank) (e : leaving s p′ o ≡ opened s₀ p n v b vs) where
-  abbrev of : Outcome → List ℕ
+module _ (n v b : ℕ) (vs p : List ℕ) (l : List Action) {s₀ s : State} {p′ : List ℕ} {o : Said} (eb : s₀ ≡ blank) (e : leaving s p′ o ≡ opened s₀ p n v b vs) where
+  abbrev of : Said → List ℕ
   of x = started n v l (leaving s p′ x)
 
   same : of o ≡ started n v l (opened blank p n v b vs)
@@ -95,7 +93,7 @@ module _ (n v b : ℕ) (vs p : List ℕ) (l : List Action) {s₀ s : State} {p�
   unfolding started
   on-acted q = ap of (sym q) ∙ same
 
-  pub on-ended : {f : Finished} → o ≡ Ended f → [] ≡ started n v l (opened blank p n v b vs)
+  pub on-ended : {f : Result} → o ≡ Ended f → [] ≡ started n v l (opened blank p n v b vs)
   unfolding started
   on-ended q = ap of (sym q) ∙ same
 

@@ -15,8 +15,7 @@ use Rattle.questions.specs.declared.State.{State}
 use Rattle.questions.specs.Questions.{refusal, fit, openQuestions, swapQuestions, stepQuestions}
 use Rattle.questions.proofs.Tests.{answers, all-yes, nth, within-true}
 use Rattle.questions.proofs.Fits.{sizes}
-use Rattle.cells.specs.declared.Outcome.{Outcome}
-use Rattle.cells.specs.declared.Outcome.the-variants.{Refused, Acted}
+use Rattle.cells.specs.Answers.{Said, Refused, Acted}
 use Rattle.blocks.specs.Blocks.{unused, found}
 use Rattle.cells.specs.Open.{After, leaving, unless}
 use Rattle.cells.specs.Begin.{started, begun, readBegun, swapBegun}
@@ -150,7 +149,7 @@ module _ {n v : ℕ} {s : State} {p : List ℕ} (r : Reached n v s p) where
       (within-true n 1 32 (yes 0) .1, within-true v 1 16 (yes 1) .1)
 
   -- whatever the action, what it leaves is reached too
-  pub reached-then : (a : Action) {s′ : State} {p′ : List ℕ} {o : Outcome} → leaving s′ p′ o ≡ does s p a → Reached n v s′ p′
+  pub reached-then : (a : Action) {s′ : State} {p′ : List ℕ} {o : Said} → leaving s′ p′ o ≡ does s p a → Reached n v s′ p′
   reached-then a e = subst (λ (x : After). Reached n v (x .state) (x .pool)) (sym e) (reached-next r a)
 
   module _ (a : Action) (i k t : ℕ) (f : Option ℕ) (et : t ≡ taskOf a) (ei : i ≡ slot t (s .tasks)) (ek : k ≡ slot (recordAt (s .records) i .cell) (s .cells)) (free : Free s (recordAt (s .records) i) f) where

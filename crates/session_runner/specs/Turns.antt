@@ -9,7 +9,7 @@ use lib.Dec.{ltb}
 use Rattle.lines.specs.declared.Record.{Record}
 use Rattle.lines.specs.Record.{firstRead, firstSwap}
 use Rattle.questions.specs.Questions.{refusal, swapQuestions, stepQuestions}
-use Rattle.cells.specs.declared.Outcome.the-variants.{Refused, Acted}
+use Rattle.cells.specs.Answers.{Refused, Acted}
 use Rattle.cells.specs.Turn.{Turned, turned, turn, There, Ready}
 use Rattle.history.specs.History.{read, swap, Action, begin, step}
 

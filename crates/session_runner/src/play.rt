@@ -17,6 +17,7 @@ ghost use Rattle.text.specs.Append.{Appended};
 ghost use Rattle.refinement.specs.Reached.{Reached};
 ghost use Rattle.session_reader.specs.Reading.{actAt};
 ghost use Rattle.session_reader.specs.Kept.{Named};
+ghost use Rattle.cells.specs.Answers.{said, seen as «seenOf»};
 ghost use Rattle.cells.specs.Events.{eventOf};
 ghost use Rattle.session_text.specs.Lines.{eventLine, Small};
 ghost use Rattle.session_text.specs.Printed.{counted, lookLine, cellLines, pending as «pendingOf», closed, played};
@@ -31,8 +32,8 @@ pub struct Tally {
 // The action's line, where it has one.
 fn report(out: &mut [u8], at: usize, i: u32, task: u32, outcome: Outcome) -> usize
     requires { ⌜ at + 67 ≤ length (now out) ⌝ }
-    ensures { λ r. ⌜ Appended (now (out .entry)) (now (out .exit)) at r (eventLine i task (eventOf 0 outcome)) ⌝ }
-    ensures { λ r. ⌜ (Small task (eventOf 0 outcome) → r ≤ at + 36) ⌝ }
+    ensures { λ r. ⌜ Appended (now (out .entry)) (now (out .exit)) at r (eventLine i task (eventOf 0 (said outcome))) ⌝ }
+    ensures { λ r. ⌜ (Small task (eventOf 0 (said outcome)) → r ≤ at + 36) ⌝ }
 {
     match outcome {
         Outcome::Refused(n) => printing::put_no(out, at, i, n),
@@ -44,7 +45,7 @@ fn report(out: &mut [u8], at: usize, i: u32, task: u32, outcome: Outcome) -> usi
 // At most 65,535 calls, each of a 32-bit count: no sum wraps.
 fn count(z: Tally, outcome: Outcome) -> Tally
     requires { ⌜ (z .finished ≤ 65535) × (z .hard ≤ 65535 * 4294967295) ⌝ }
-    ensures { λ r. ⌜ totalsOf r ≡ counted (totalsOf z) (eventOf 0 outcome) ⌝ }
+    ensures { λ r. ⌜ totalsOf r ≡ counted (totalsOf z) (eventOf 0 (said outcome)) ⌝ }
     ensures { λ r. ⌜ (r .finished ≤ z .finished + 1) × (r .hard ≤ z .hard + 4294967295) ⌝ }
 {
     match outcome {
@@ -59,7 +60,7 @@ fn count(z: Tally, outcome: Outcome) -> Tally
 
 fn put_look(out: &mut [u8], at: usize, k: u32, seen: Looked) -> usize
     requires { ⌜ at + 67 ≤ length (now out) ⌝ }
-    ensures { λ r. ⌜ Appended (now (out .entry)) (now (out .exit)) at r (lookLine k seen) ⌝ }
+    ensures { λ r. ⌜ Appended (now (out .entry)) (now (out .exit)) at r (lookLine k («seenOf» seen)) ⌝ }
     ensures { λ r. ⌜ r ≤ at + 67 ⌝ }
 {
     match seen {

@@ -4,8 +4,8 @@ ghost use mathlib.Core.Path.{_≡_};
 ghost use mathlib.Core.List.{[], _∷_};
 ghost use Prim.Native.Nat.{_+_, _*_, _≤_};
 ghost use lib.ListN.{length};
-ghost use Rattle.cells.specs.declared.Outcome.the-variants.{Ended};
-ghost use Rattle.cells.specs.Events.{answerOf, kindAt, reportOf, eventOf};
+ghost use Rattle.cells.specs.Answers.{answerOf, result, Ended};
+ghost use Rattle.cells.specs.Events.{kindAt, reportOf, eventOf};
 ghost use Rattle.text.specs.Append.{Appended};
 ghost use Rattle.text.specs.Bytes.{decimal};
 ghost use Rattle.session_text.specs.Lines.{line, numbers as «numbersOf», badLine, noLine, cellLine, kindWord, answerWord, doneStart, doneLine, rate as «rateOf», endLine, Small};
@@ -108,7 +108,7 @@ fn put_kind(out: &mut [u8], at: usize, kind: u32) -> usize
 
 fn put_done_start(out: &mut [u8], at: usize, task: u32, f: Finished) -> usize
     requires { ⌜ at + 43 ≤ length (now out) ⌝ }
-    ensures { λ r. ⌜ Appended (now (out .entry)) (now (out .exit)) at r (doneStart task (reportOf f)) ⌝ }
+    ensures { λ r. ⌜ Appended (now (out .entry)) (now (out .exit)) at r (doneStart task (reportOf (result f))) ⌝ }
     ensures { λ r. ⌜ (r ≤ at + 43) × (r ≤ at + 23 + (length (decimal task) + length (decimal (f .cell)))) ⌝ }
 {
     let a = text::put(out, at, b"(done ");
@@ -122,8 +122,8 @@ fn put_done_start(out: &mut [u8], at: usize, task: u32, f: Finished) -> usize
 
 pub fn put_done(out: &mut [u8], at: usize, task: u32, f: Finished) -> usize
     requires { ⌜ at + 67 ≤ length (now out) ⌝ }
-    ensures { λ r. ⌜ Appended (now (out .entry)) (now (out .exit)) at r (doneLine task (reportOf f)) ⌝ }
-    ensures { λ r. ⌜ (Small task (eventOf 0 (Ended f)) → r ≤ at + 36) ⌝ }
+    ensures { λ r. ⌜ Appended (now (out .entry)) (now (out .exit)) at r (doneLine task (reportOf (result f))) ⌝ }
+    ensures { λ r. ⌜ (Small task (eventOf 0 (Ended (result f))) → r ≤ at + 36) ⌝ }
 {
     let a = put_done_start(out, at, task, f);
     let b = put_numbers(out, a, &[wide(f.steps), wide(f.hard)]);

@@ -15,6 +15,7 @@ ghost use Prim.Native.Nat.{ℕ};
 ghost use lib.ListN.{length};
 ghost use Rattle.cells.specs.declared.Outcome.the-variants.{Refused};
 ghost use Rattle.blocks.specs.Blocks.{foundOf};
+ghost use Rattle.cells.specs.Answers.{said};
 ghost use Rattle.cells.specs.Turn.{turned};
 ghost use Rattle.history.specs.History.{taskOf};
 ghost use Rattle.session_runner.specs.Actions.{actOf};
@@ -40,7 +41,7 @@ fn refused(n: u32, r: Record, current: u32, last: u32) -> Turn
 
 // The task's call begins with the record q.
 fn begin(tasks: u32, cells: u32, task: u32, r: Record, q: Record, current: u32, last: u32) -> Turn
-    ensures { λ u. ⌜ ((p : List ℕ) → turned (u .«record») (u .current) (u .last) p (u .outcome) ≡ beginTurn p tasks cells task r q current last) ⌝ }
+    ensures { λ u. ⌜ ((p : List ℕ) → turned (u .«record») (u .current) (u .last) p (said (u .outcome)) ≡ beginTurn p tasks cells task r q current last) ⌝ }
 {
     let n = begin_refusal(true, tasks, cells, r, task, q);
     if n != 0 {
@@ -64,7 +65,7 @@ fn step(
     free: Found,
 ) -> Turn
     requires { ⌜ Prepared (length (now pool)) tasks task r (foundOf free) ⌝ }
-    ensures { λ u. ⌜ turned (u .«record») (u .current) (u .last) (now (pool .exit)) (u .outcome) ≡ stepTurn (now (pool .entry)) tasks task r current last (foundOf free) ⌝ }
+    ensures { λ u. ⌜ turned (u .«record») (u .current) (u .last) (now (pool .exit)) (said (u .outcome)) ≡ stepTurn (now (pool .entry)) tasks task r current last (foundOf free) ⌝ }
 {
     let n = step_refusal(true, tasks, r, task);
     if n != 0 {
@@ -84,7 +85,7 @@ pub fn act(
     free: Found,
 ) -> Turn
     requires { ⌜ Prepared (length (now pool)) tasks (taskOf (actOf a)) r (foundOf free) ⌝ }
-    ensures { λ u. ⌜ turned (u .«record») (u .current) (u .last) (now (pool .exit)) (u .outcome) ≡ actTurn (now (pool .entry)) tasks cells (actOf a) r current last (foundOf free) ⌝ }
+    ensures { λ u. ⌜ turned (u .«record») (u .current) (u .last) (now (pool .exit)) (said (u .outcome)) ≡ actTurn (now (pool .entry)) tasks cells (actOf a) r current last (foundOf free) ⌝ }
 {
     match a {
         Action::Read(t, k) => begin(tasks, cells, t, r, first_read(k), current, last),

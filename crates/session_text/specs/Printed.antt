@@ -5,9 +5,7 @@ use Prim.Native.Nat.{ℕ, zero, suc, _+_, _*_}
 use lib.Dec.{leb}
 use lib.ListN.{replicate}
 use Rattle.questions.specs.declared.State.{State}
-use Rattle.cells.specs.declared.Outcome.the-variants.{Refused, Acted, Ended}
-use Rattle.cells.specs.declared.Looked.{Looked}
-use Rattle.cells.specs.declared.Looked.the-variants.{NotShown, Shown}
+use Rattle.cells.specs.Answers.{Refused, Acted, Ended, Seen, NotShown, Shown}
 use Rattle.lines.specs.Record.{idle, isIdle, recordAt}
 use Rattle.cells.specs.Open.{After, opened}
 use Rattle.cells.specs.Look.{looked}
@@ -42,7 +40,7 @@ countedAll z ((a, e) ∷ h) = countedAll (counted z e) h
 -- AFTER THE LAST ACTION
 
 -- the k cells from i on; a look is never refused here
-abbrev pub lookLine : ℕ → Looked → List ℕ
+abbrev pub lookLine : ℕ → Seen → List ℕ
 lookLine k (Shown v) = cellLine k v
 lookLine k (NotShown n) = []
 

@@ -2,6 +2,7 @@
 use mathlib.Core.Path.{_≡_, sym, _∙_}
 use mathlib.Core.Logic.{inl, inr, ⊎-elim}
 use denote.Ref.{now}
+use Rattle.cells.specs.Answers.{said}
 use Rattle.cells.specs.Open.{leaving}
 use Rattle.cells.specs.Begin.{withRecord}
 use Rattle.cells.proofs.LentLaw.{has-32, placed, below-32, lent-refused, lent-acted}
@@ -19,19 +20,19 @@ returns : tie.Need-returns
 returns c =
     let e = c .before .before .before .before .before .before .before .before .args in
     let a = c .before .before .before .before .step in
-    lent-refused (e .s) (now (e .pool)) (e .task) (e .r) _ (leaving (a .result .state) _ (a .result .outcome)) (holds (c .before .before .before .before .before .before)) (a .ensures) (sym (c .before .is-refused .ensures) ∙ c .if2 .taken)
+    lent-refused (e .s) (now (e .pool)) (e .task) (e .r) _ (leaving (a .result .state) _ (said (a .result .outcome))) (holds (c .before .before .before .before .before .before)) (a .ensures) (sym (c .before .is-refused .ensures) ∙ c .if2 .taken)
 
 element-copy-out-record : tie.Need-element-copy-out-record
 element-copy-out-record c =
     let e = c .before .before .before .before .before .before .before .before .before .args in
     let a = c .before .before .before .before .before .step in
-    below-32 _ (now (e .pool)) (e .task) (leaving (a .result .state) _ (a .result .outcome)) (a .ensures) (sym (c .before .before .is-refused .ensures) ∙ c .before .if2 .left)
+    below-32 _ (now (e .pool)) (e .task) (leaving (a .result .state) _ (said (a .result .outcome))) (a .ensures) (sym (c .before .before .is-refused .ensures) ∙ c .before .if2 .left)
 
 returns-2 : tie.Need-returns-2
 returns-2 c =
     let e = c .before .before .before .before .before .before .before .before .before .before .args in
     let a = c .before .before .before .before .before .before .step in
-    lent-acted (e .s) (now (e .pool)) (e .task) (e .r) _ (leaving (a .result .state) _ (a .result .outcome)) (holds (c .before .before .before .before .before .before .before .before)) (a .ensures) (sym (c .before .before .before .is-refused .ensures) ∙ c .before .before .if2 .left)
+    lent-acted (e .s) (now (e .pool)) (e .task) (e .r) _ (leaving (a .result .state) _ (said (a .result .outcome))) (holds (c .before .before .before .before .before .before .before .before)) (a .ensures) (sym (c .before .before .before .is-refused .ensures) ∙ c .before .before .if2 .left)
 
 pub lent-turn-spec : {M : Type 1} → statement M
 lent-turn-spec =

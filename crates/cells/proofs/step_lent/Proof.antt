@@ -39,6 +39,7 @@ use denote.Triple.Clauses.{ensured, lasts}
 use denote.Triple.Table.{entered, cited}
 use denote.Triple.Walked.{says, Stays, stay-ref, stay-none, gave-slice, walkOf, AllGo, goes-none, goes-ref, goes-gave-slice, Walks, ends-at, walked, walk-meets}
 use denote.Exit.{yes}
+use Rattle.cells.specs.Answers.{said}
 use Rattle.cells.specs.Open.{leaving}
 use Rattle.cells.specs.Lent.{lent, steppedLent}
 use Rattle.lines.specs.declared.Record.{Record}
@@ -108,7 +109,7 @@ module _ {M : Type 1} (𝓤 : URA M) (H : Heap 𝓤) (A : Atoms 𝓤) (W : Given
   Post = walkOf 𝓤 H A step-lent.ended stayed (step-lent.clauses 𝓤 H A at-mem run) .post (((κ, (κ′, tt)), (q, (q′, tt)), tt, a, vals), tt)
 
   abbrev Fact : LentTurn → List ℕ → Type 0
-  Fact r zs = lent (leaving (r .reply .state) zs (r .reply .outcome)) (r .record) ≡ steppedLent st ys t h
+  Fact r zs = lent (leaving (r .reply .state) zs (said (r .reply .outcome))) (r .record) ≡ steppedLent st ys t h
 
   exits : (r : LentTurn) (zs : List ℕ) → Fact r zs → length zs ≡ length ys → Is G.the-row (r .reply) (machG (r .reply) ∷ [])
       → ent 𝓤 (⋆ 𝓤 H A (‵ (fobs γ′ (R.the-row .coded .code (r .record))) ∷ ‵ (fbor κ′ (Body (mem R.the-row) b′ o′ γ′)) ∷ ‵ (flft κ q) ∷ ‵ (flft κ′ q′) ∷ ‵ (finally u32 γ zs) ∷ [])) (Post (machG (r .reply)))
