@@ -15,9 +15,9 @@ use Rattle.history.specs.Basics.{_∈_}
 use Rattle.history.specs.History.{Action}
 use Rattle.figure.specs.Figure.{opening}
 use Rattle.lines.specs.Paths.{table}
-use Rattle.figure.specs.Paths.{paths, by25, counts, countsOf, Traced, noTrace}
+use Rattle.figure.specs.Paths.{paths, by25, counts, countsOf, Traced, noTrace, figureTraces}
 use Rattle.figure.proofs.LineLaws.{every-line, has, same}
-use Rattle.figure.proofs.Records.{CompleteCall, Sound, figureTraces, traces-sound}
+use Rattle.figure.proofs.Records.{CompleteCall, Sound, traces-sound}
 
 -- FINISHED CALLS
 

@@ -21,7 +21,7 @@ use Rattle.history.specs.History.{Op, read, swap, cellOf, Action, begin, step, 
 use Rattle.history.proofs.Basics.{either, upd-at, upd-off, upd-cases}
 use Rattle.figure.specs.Figure.{Cell, World, withTask, withBoth, WorldAfter, worldAfter, unlessRefused, recordAfter, outcomeOf, figureRan, figureStepped, figureBegun, opening, figure, accessCell}
 use Rattle.cells.specs.Events.{reportOf, eventOf, tried}
-use Rattle.figure.specs.Paths.{count, Traced, Trace, didLine, enterLine, traces}
+use Rattle.figure.specs.Paths.{count, Traced, Trace, didLine, enterLine, figureTraces}
 use Rattle.figure.specs.Paths as Paths
 use Rattle.figure.proofs.AsBegun.{opOf}
 use Rattle.figure.proofs.LineLaws.{every, every-in, every-line, both, imp, lines, before, extends-in, waysOf, hardware-alike, Leads, goes, done, leads}
@@ -269,10 +269,6 @@ module _ (w : World) (r : Trace) (s : Sound w r) where
   pub act-sound : (a : Action) → Sound (figure w a .0) (enterLine now r a (figure w a .1))
   act-sound (begin t op) = begin-sound t op (begin-cases w t op)
   act-sound (step t) = step-sound t (step-cases w t (r .did t) (s .pending t))
-
--- the figure's trace
-abbrev pub figureTraces : World → Trace → List Action → Trace
-figureTraces = traces figure (λ w t. lineOf (w .records t))
 
 pub traces-sound : (w : World) (r : Trace) → Sound w r → (l : List Action) → Sound (run figure w l) (figureTraces w r l)
 traces-sound w r s [] = s

@@ -144,22 +144,22 @@ module _ (n v : ℕ) (w : World) (notes : Notes) (g : Ghost) (κ : Knowledge) (i
 
 -- ALL OF IT
 
-module _ (n v : ℕ) (vs : List ℕ) (some-values : (k : ℕ) → getD vs k 0 ≢ noValue) where
-  pub opened : (κ : Knowledge) → Invariant n v (opening n v vs, noNotes) (Sim.fresh (λ k. getD vs k 0)) κ
+module _ (tasks cells : ℕ) (values : List ℕ) (some-values : (cell : ℕ) → getD values cell 0 ≢ noValue) where
+  pub opened : (κ : Knowledge) → Invariant tasks cells (opening tasks cells values, noNotes) (Sim.fresh (λ k. getD values k 0)) κ
   unfolding none
   opened κ = record {
     size = refl;
     tasks = refl;
-    good = opening-good n v vs some-values (known noNotes κ);
+    good = opening-good tasks cells values some-values (known noNotes κ);
     dated = record { placed = λ u b z. absurd z; since = λ u b h z. absurd (z refl) };
     marks = λ k c y. absurd (y refl);
   }
 
-  pub simulation : Sim.Simulation figure (note figure sees) (names figure sees) (opening n v vs) noNotes clear n v (λ k. getD vs k 0)
+  pub simulation : Sim.Simulation figure (note figure sees) (names figure sees) (opening tasks cells values) noNotes clear tasks cells (λ k. getD values k 0)
   simulation = record {
     doing = doing;
     clock = clock;
-    Inv = Invariant n v;
+    Inv = Invariant tasks cells;
     Quiet = QuietIn;
     idle = λ t. refl;
     first-moment = refl;
@@ -167,8 +167,8 @@ module _ (n v : ℕ) (vs : List ℕ) (some-values : (k : ℕ) → getD vs k 0 �
     opened = opened;
     within = λ x g κ i. within (x .0) (i .good .on-path);
     follows = λ x g κ i a. subst (λ (size : ℕ). Sim.Follows doing size (x .0) a (figure (x .0) a .0) (figure (x .0) a .1)) (i .size) (follows (x .0) (i .good .on-path) a);
-    forward = λ x g κ i. forward n v (x .0) (x .1) g κ i;
-    quietly = λ x g κ i. quietly n v (x .0) (x .1) g κ i;
+    forward = λ x g κ i. forward tasks cells (x .0) (x .1) g κ i;
+    quietly = λ x g κ i. quietly tasks cells (x .0) (x .1) g κ i;
     low = λ x g κ i t c d. subst (λ (n : ℕ). t < n) (i .tasks) (pending-at (x .0) (i .good .on-path) t (is-busy (x .0) (i .good .on-path) t c d) .2);
     listed = λ x g κ i. placed-named (x .0) (x .1) g κ (i .good) (i .dated);
     unlisted = λ x g κ i. unplaced-unnamed (x .0) (x .1) g κ (i .good) (i .dated);
@@ -185,17 +185,17 @@ module _ (n v : ℕ) (vs : List ℕ) (some-values : (k : ℕ) → getD vs k 0 �
 
   -- demand 3, of figure 2 with a new block each time: from any opening whose starting values are other than none, for every list of
   -- actions, the calls can be linearized, keep their bounds, and attempt no hardware CAS without contention
-  pub figure-meets-demand-3 : Meets figure (opening n v vs) (clearAfter figure (opening n v vs) clear) v (λ k. getD vs k 0)
+  pub figure-meets-demand-3 : Meets figure (opening tasks cells values) (clearAfter figure (opening tasks cells values) clear) cells (λ k. getD values k 0)
   figure-meets-demand-3 = meets simulation
 
   -- The source's linearization points, in their order, are a linearization: of every finished call, and of exactly the listed pending swaps.
-  pub moments-linearize : (l : List Action) → Linearizes (λ k. getD vs k 0) (callsOf (history figure (opening n v vs) l)) (map pointOf (moments n v vs l))
+  pub moments-linearize : (actions : List Action) → Linearizes (λ k. getD values k 0) (callsOf (history figure (opening tasks cells values) actions)) (map pointOf (moments tasks cells values actions))
   moments-linearize = marks-linearize simulation
 
   -- Fed the calls in this order, the sequential cells give each the answer that it had, and yes to the listed pending swaps.
-  pub moments-answers : (l : List Action) → replies (λ k. getD vs k 0) (map pointOf (moments n v vs l)) ≡ map replyOf (moments n v vs l)
+  pub moments-answers : (actions : List Action) → replies (λ k. getD values k 0) (map pointOf (moments tasks cells values actions)) ≡ map replyOf (moments tasks cells values actions)
   moments-answers = marks-answers simulation
 
   -- The source's "immediately before" is never taken.
-  pub never-before : (l : List Action) (m : Mark) → m ∈ moments n v vs l → m .spot .side ≢ before
+  pub never-before : (actions : List Action) (mark : Mark) → mark ∈ moments tasks cells values actions → mark .spot .side ≢ before
   never-before = Placing.never-before simulation

@@ -7,8 +7,9 @@ use lib.Dec.{eqb}
 use Rattle.lines.specs.declared.Access.{Access}
 use Rattle.lines.specs.Record.{idle}
 use Rattle.lines.specs.Paths.{table}
-use Rattle.lines.specs.Lines.{Line, Wanted, for13, for25, for28, l1, l2, l3, l10, l11, l12, l15, l16, l17, l18, l19, l20, l21, l22, l23, l24, l26, l27, l29, l30, accessAt, loads, stores, hardware}
+use Rattle.lines.specs.Lines.{Line, Wanted, for13, for25, for28, l1, l2, l3, l10, l11, l12, l15, l16, l17, l18, l19, l20, l21, l22, l23, l24, l26, l27, l29, l30, lineOf, accessAt, loads, stores, hardware}
 use Rattle.history.specs.Basics.{upd, _∈_}
+use Rattle.figure.specs.Figure.{World, figure}
 use Rattle.history.specs.History.{Op, read, swap, Action, begin, step, Answer, Value, Yes, No, Report, Event, refused, accepted, answered, Finished}
 
 -- THE THIRTEEN PATHS
@@ -143,6 +144,10 @@ module _ {S : Type 0} (act : S → Action → S × Event) (next : S → ℕ → 
   abbrev pub traces : S → Trace → List Action → Trace
   traces s r [] = r
   traces s r (a ∷ l) = traces (act s a .0) (enterLine (next s) r a (act s a .1)) l
+
+-- of the figure
+abbrev pub figureTraces : World → Trace → List Action → Trace
+figureTraces = traces figure (λ w t. lineOf (w .records t))
 
 -- a finished call on a path that is its own, whose counts are the lines that it did
 pub record Counted (x : Traced) : Type 0 where

@@ -12,9 +12,8 @@ use Rattle.questions.specs.Questions.{refusal, openQuestions}
 use Rattle.history.specs.Basics.{_∈_}
 use Rattle.history.specs.History.{Action, history, callsOf}
 use Rattle.figure.specs.Figure.{opening}
-use Rattle.figure.specs.Paths.{reached, count, steps, Traced, Trace, noTrace, Counted, finishedReport, tracedReport}
+use Rattle.figure.specs.Paths.{reached, count, steps, Traced, Trace, noTrace, Counted, finishedReport, tracedReport, figureTraces}
 use Rattle.figure.proofs.LineLaws.{on-paths}
-use Rattle.figure.proofs.Records.{figureTraces}
 use Rattle.figure.proofs.Paths.{calls-on-paths, row}
 use Rattle.figure.proofs.Ninth.{never-ninth, own-path, one-of-twelve}
 use Rattle.figure.proofs.TracedCalls.{same-calls}
@@ -41,12 +40,12 @@ finds [] h p i = absurd i
 finds (q ∷ ps) h p (inl e) = rw e (h .0)
 finds (q ∷ ps) h p (inr i) = finds ps (h .1) p i
 
-module _ (s : State) (p : List ℕ) (n v b : ℕ) (vs : List ℕ) (ok : refusal (openQuestions (length p) n v b vs) ≡ none) (l : List Action) where
-  of-figure : (x : Traced) → x ∈ figureTraces (opening n v vs) noTrace l .done → Counted x
+module _ (old : State) (words : List ℕ) (tasks cells blocks : ℕ) (values : List ℕ) (allowed : refusal (openQuestions (length words) tasks cells blocks values) ≡ none) (actions : List Action) where
+  of-figure : (x : Traced) → x ∈ figureTraces (opening tasks cells values) noTrace actions .done → Counted x
   of-figure x i =
-      let c = calls-on-paths n v vs l x i in
+      let c = calls-on-paths tasks cells values actions x i in
       let m = on-paths (x .op) (x .report .answer) (x .lines) (c .path) in
-      let other = never-ninth n v vs (starting-values s p n v b vs ok) l x i in
+      let other = never-ninth tasks cells values (starting-values old words tasks cells blocks values allowed) actions x i in
       record {
         path = one-of-twelve (x .lines) m other;
         its-path = own-path (x .op) (x .report .answer) (x .lines) (c .path) other;
@@ -56,17 +55,17 @@ module _ (s : State) (p : List ℕ) (n v b : ℕ) (vs : List ℕ) (ok : refusal 
       }
 
   -- The trace leaves out no call: its finished calls are the history's, one by one, as begun and with the same answer and counts.
-  pub calls-traced : map finishedReport (callsOf (history pool (start s p n v b vs) l) .finished) ≡ map tracedReport (trace (start s p n v b vs) l .done)
-  calls-traced = same-calls pool nextLine v (start s p n v b vs) l (cells-meet-demand-3 s p n v b vs ok l .well-formed)
+  pub calls-traced : map finishedReport (callsOf (history pool (start old words tasks cells blocks values) actions) .finished) ≡ map tracedReport (trace (start old words tasks cells blocks values) actions .done)
+  calls-traced = same-calls pool nextLine cells (start old words tasks cells blocks values) actions (cells-meet-demand-3 old words tasks cells blocks values allowed actions .well-formed)
 
   -- EACH COUNT IS THE LINES DONE. From a fresh opening, for every list of actions, every finished call did the lines of one of the twelve
   -- paths that are reached: a read and a swap of equal values one of the first two, a swap of unequal values one of the ten others, and
   -- one that ends in the answer that it gave. The steps and hardware CAS attempts that it reports are those of its lines; and its steps,
   -- loads, stores and hardware CAS attempts are a row of document 01's table.
-  pub calls-counted : (x : Traced) → x ∈ trace (start s p n v b vs) l .done → Counted x
-  calls-counted x i = of-figure x (subst (λ (r : Trace). x ∈ r .done) (same-trace s p n v b vs ok l) i)
+  pub calls-counted : (call : Traced) → call ∈ trace (start old words tasks cells blocks values) actions .done → Counted call
+  calls-counted x i = of-figure x (subst (λ (r : Trace). x ∈ r .done) (same-trace old words tasks cells blocks values allowed actions) i)
 
   -- Every finished call finds its row: by the steps and hardware CAS attempts that it reports, the table has the loads and stores of the
   -- lines that it did.
-  pub calls-find-rows : (x : Traced) → x ∈ trace (start s p n v b vs) l .done → rowOf (x .report .steps) (x .report .hard) ≡ some (count loads (x .lines), count stores (x .lines))
+  pub calls-find-rows : (call : Traced) → call ∈ trace (start old words tasks cells blocks values) actions .done → rowOf (call .report .steps) (call .report .hard) ≡ some (count loads (call .lines), count stores (call .lines))
   calls-find-rows x i = let c = calls-counted x i in rw (c .all-steps, c .all-hard) (finds reached reached-find (x .lines) (c .path))

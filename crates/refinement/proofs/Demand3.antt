@@ -39,10 +39,10 @@ values-some vs e k z = go (decLe (length vs) k)
     go (no h) = eqb-false _ _ (none-of (λ k. eqb (getD vs k 0) noValue) 0 (length vs) e k (omega arith) (omega arith)) z
 
 -- whatever was in the state and in the pool before an opening that is not refused
-module _ (s : State) (p : List ℕ) (n v b : ℕ) (vs : List ℕ) (ok : refusal (openQuestions (length p) n v b vs) ≡ none) where
-  pub starting-values : (k : ℕ) → getD vs k 0 ≢ noValue
+module _ (old : State) (words : List ℕ) (tasks cells blocks : ℕ) (values : List ℕ) (allowed : refusal (openQuestions (length words) tasks cells blocks values) ≡ none) where
+  pub starting-values : (k : ℕ) → getD values k 0 ≢ noValue
   unfolding openQuestions
-  starting-values = values-some vs (no (hasNone vs) (nth (answers (openQuestions (length p) n v b vs)) (all-yes (openQuestions (length p) n v b vs) ok) 4))
+  starting-values = values-some values (no (hasNone values) (nth (answers (openQuestions (length words) tasks cells blocks values)) (all-yes (openQuestions (length words) tasks cells blocks values) allowed) 4))
     where
       no : (x : Bool) → not x ≡ true → x ≡ false
       no true e = sym e
@@ -53,11 +53,12 @@ module _ (s : State) (p : List ℕ) (n v b : ℕ) (vs : List ℕ) (ok : refusal 
   -- every one after its begin and no later than its last step; a read ends within 6 own steps with at most 1 hardware CAS, a swap within
   -- 17 with at most 3; and a call attempts none if its cell's block was active at its begin and no other swap of unequal values is
   -- pending on that cell from its begin to its end.
-  pub cells-meet-demand-3 : Meets pool (start s p n v b vs) (clearAfter figure (opening n v vs) clear) v (λ k. getD vs k 0)
-  cells-meet-demand-3 l =
-      subst (λ (h : List (Action × Event)). Demand3 (clearAfter figure (opening n v vs) clear) v (λ k. getD vs k 0) h) (sym (same-history s p n v b vs ok l))
-      (figure-meets-demand-3 n v vs starting-values l)
+  pub cells-meet-demand-3 : Meets pool (start old words tasks cells blocks values) (clearAfter figure (opening tasks cells values) clear) cells (λ k. getD values k 0)
+  cells-meet-demand-3 actions =
+      subst (λ (h : List (Action × Event)). Demand3 (clearAfter figure (opening tasks cells values) clear) cells (λ k. getD values k 0) h) (sym (same-history old words tasks cells blocks values allowed actions))
+      (figure-meets-demand-3 tasks cells values starting-values actions)
 
   -- From anywhere in any list, at most 6 further steps of its task finish a read, and at most 17 a swap.
-  pub every-call-ends : (l : List Action) (t : ℕ) (c : Call) → callsOf (history pool (start s p n v b vs) l) .pending t ≡ some c → Finishes pool (start s p n v b vs) l t c (most (c .start .op))
-  every-call-ends = ends-within pool (start s p n v b vs) cells-meet-demand-3
+  pub every-call-ends : (actions : List Action) (task : ℕ) (call : Call) → callsOf (history pool (start old words tasks cells blocks values) actions) .pending task ≡ some call
+      → Finishes pool (start old words tasks cells blocks values) actions task call (most (call .start .op))
+  every-call-ends = ends-within pool (start old words tasks cells blocks values) cells-meet-demand-3

@@ -139,7 +139,9 @@ reads-what-it-shows {n} {v} {x} {w} g t k y l idle look c e =
 
 -- What look shows, a read returns that an idle task begins now and runs alone: with its third step, no hardware CAS attempted, where C of the
 -- cell's current block is false; otherwise with its sixth, having attempted one.
-pub look-is-a-lone-read : (s : State) (p : List ℕ) (n v b : ℕ) (vs : List ℕ) → refusal (openQuestions (length p) n v b vs) ≡ none
-    → (l : List Action) (t k y : ℕ) → let x = run pool (start s p n v b vs) l in t < n → isIdle (recordAt (x .0 .records) t) ≡ true → looked (x .0) (x .1) k ≡ Shown y
-    → let c = isActive x k in lastEvent (history pool x (loneRead t k (cond c 3 6))) ≡ some (answered 0 (readReport k y (cond c 3 6) (cond c 0 1)))
-look-is-a-lone-read s p n v b vs ok l t k y h idle look = reads-what-it-shows (together s p n v b vs ok l) t k y h idle look (isActive (run pool (start s p n v b vs) l) k) refl
+pub look-is-a-lone-read : (old : State) (words : List ℕ) (tasks cells blocks : ℕ) (values : List ℕ) → refusal (openQuestions (length words) tasks cells blocks values) ≡ none
+    → (actions : List Action) → let now = run pool (start old words tasks cells blocks values) actions in
+    (task cell value : ℕ) → task < tasks → isIdle (recordAt (now .0 .records) task) ≡ true → looked (now .0) (now .1) cell ≡ Shown value
+    → let active = isActive now cell in lastEvent (history pool now (loneRead task cell (cond active 3 6))) ≡ some (answered 0 (readReport cell value (cond active 3 6) (cond active 0 1)))
+look-is-a-lone-read old words tasks cells blocks values allowed actions task cell value h idle look =
+    reads-what-it-shows (together old words tasks cells blocks values allowed actions) task cell value h idle look (isActive (run pool (start old words tasks cells blocks values) actions) cell) refl

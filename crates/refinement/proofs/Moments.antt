@@ -174,21 +174,21 @@ same-marks (a ∷ l) x w o o′ g s b ms =
 
 -- ALL OF IT, from an opening that is not refused
 
-module _ (s : State) (p : List ℕ) (n v b : ℕ) (vs : List ℕ) (ok : refusal (openQuestions (length p) n v b vs) ≡ none) (l : List Action) where
+module _ (old : State) (words : List ℕ) (tasks cells blocks : ℕ) (values : List ℕ) (allowed : refusal (openQuestions (length words) tasks cells blocks values) ≡ none) (actions : List Action) where
   -- The moments named beside the pool, where blocks are taken again, are those named beside figure 2 with a new block each time.
-  pub same-moments : poolMoments n (start s p n v b vs) l ≡ moments n v vs l
-  same-moments = ap sort (same-marks l (start s p n v b vs) (opening n v vs) noNotes noNotes (together s p n v b vs ok) (λ u m. refl) noCalls [])
+  pub same-moments : poolMoments tasks (start old words tasks cells blocks values) actions ≡ moments tasks cells values actions
+  same-moments = ap sort (same-marks actions (start old words tasks cells blocks values) (opening tasks cells values) noNotes noNotes (together old words tasks cells blocks values allowed) (λ u m. refl) noCalls [])
 
   -- The source's linearization points, beside the pool and in their order, are a linearization of the cells' calls: of every finished call,
   -- and of exactly the listed pending swaps.
-  pub cell-moments-linearize : Linearizes (λ k. getD vs k 0) (callsOf (history pool (start s p n v b vs) l)) (map pointOf (poolMoments n (start s p n v b vs) l))
-  cell-moments-linearize = subst (λ (m : List Mark). Linearizes (λ k. getD vs k 0) (callsOf (history pool (start s p n v b vs) l)) (map pointOf m)) (sym same-moments)
-      (subst (λ (h : List (Action × Event)). Linearizes (λ k. getD vs k 0) (callsOf h) (map pointOf (moments n v vs l))) (sym (same-history s p n v b vs ok l)) (moments-linearize n v vs (starting-values s p n v b vs ok) l))
+  pub cell-moments-linearize : Linearizes (λ k. getD values k 0) (callsOf (history pool (start old words tasks cells blocks values) actions)) (map pointOf (poolMoments tasks (start old words tasks cells blocks values) actions))
+  cell-moments-linearize = subst (λ (m : List Mark). Linearizes (λ k. getD values k 0) (callsOf (history pool (start old words tasks cells blocks values) actions)) (map pointOf m)) (sym same-moments)
+      (subst (λ (h : List (Action × Event)). Linearizes (λ k. getD values k 0) (callsOf h) (map pointOf (moments tasks cells values actions))) (sym (same-history old words tasks cells blocks values allowed actions)) (moments-linearize tasks cells values (starting-values old words tasks cells blocks values allowed) actions))
 
   -- Fed the calls in this order, the sequential cells give each the answer that it had, and yes to the listed pending swaps.
-  pub cell-moments-answers : replies (λ k. getD vs k 0) (map pointOf (poolMoments n (start s p n v b vs) l)) ≡ map replyOf (poolMoments n (start s p n v b vs) l)
-  cell-moments-answers = subst (λ (m : List Mark). replies (λ k. getD vs k 0) (map pointOf m) ≡ map replyOf m) (sym same-moments) (moments-answers n v vs (starting-values s p n v b vs ok) l)
+  pub cell-moments-answers : replies (λ k. getD values k 0) (map pointOf (poolMoments tasks (start old words tasks cells blocks values) actions)) ≡ map replyOf (poolMoments tasks (start old words tasks cells blocks values) actions)
+  cell-moments-answers = subst (λ (m : List Mark). replies (λ k. getD values k 0) (map pointOf m) ≡ map replyOf m) (sym same-moments) (moments-answers tasks cells values (starting-values old words tasks cells blocks values allowed) actions)
 
   -- No call takes effect immediately before an action.
-  pub cell-never-before : (m : Mark) → m ∈ poolMoments n (start s p n v b vs) l → m .spot .side ≢ before
-  cell-never-before m i = never-before n v vs (starting-values s p n v b vs ok) l m (subst (λ (k : List Mark). m ∈ k) same-moments i)
+  pub cell-never-before : (mark : Mark) → mark ∈ poolMoments tasks (start old words tasks cells blocks values) actions → mark .spot .side ≢ before
+  cell-never-before m i = never-before tasks cells values (starting-values old words tasks cells blocks values allowed) actions m (subst (λ (k : List Mark). m ∈ k) same-moments i)

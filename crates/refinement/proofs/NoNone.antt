@@ -33,7 +33,7 @@ use Rattle.figure.proofs.Steps.{Change, Reason, acts, acted, reads, declines, O
 use Rattle.figure.proofs.Views.{view}
 use Rattle.figure.proofs.Worlds.{known, κ⁺, out}
 use Rattle.figure.proofs.Reachable.{trivial, Reachable, next-reachable, opening-reachable, reachable}
-use Rattle.cells.specs.Machine.{Pool, pool}
+use Rattle.cells.specs.Machine.{pool}
 use Rattle.refinement.specs.Terms.{start}
 use Rattle.refinement.proofs.Refines.{together, same-history, same-look, same-words}
 use Rattle.refinement.proofs.Traces.{same-event}
@@ -124,29 +124,23 @@ look-some v w i k = let m = w .cell k in let b = m .current in shown-some (refus
 
 -- THE CELLS, from an opening that is not refused, after any list of actions
 
-module _ (s : State) (p : List ℕ) (n v b : ℕ) (vs : List ℕ) (ok : refusal (openQuestions (length p) n v b vs) ≡ none) (l : List Action) where
-  abbrev x : Pool
-  x = run pool (start s p n v b vs) l
-
-  abbrev w : World
-  w = run figure (opening n v vs) l
-
-  reached : Reachable v w
-  reached = reachable n v vs (starting-values s p n v b vs ok) l
+module _ (old : State) (words : List ℕ) (tasks cells blocks : ℕ) (values : List ℕ) (allowed : refusal (openQuestions (length words) tasks cells blocks values) ≡ none) (actions : List Action) where
+  reached : Reachable cells (run figure (opening tasks cells values) actions)
+  reached = reachable tasks cells values (starting-values old words tasks cells blocks values allowed) actions
 
   -- The next step of a task, whichever it is, does not answer none.
-  pub no-step-answers-none : (t y : ℕ) (r : Report) → pool x (step t) .1 ≡ answered y r → r .answer ≢ Value noValue
-  no-step-answers-none t y r e = subst ProperEvent (sym (same-event (together s p n v b vs ok l) (step t)) ∙ e) (act-proper v w reached (step t))
+  pub no-step-answers-none : (task tries : ℕ) (report : Report) → pool (run pool (start old words tasks cells blocks values) actions) (step task) .1 ≡ answered tries report → report .answer ≢ Value noValue
+  no-step-answers-none t y r e = subst ProperEvent (sym (same-event (together old words tasks cells blocks values allowed actions) (step t)) ∙ e) (act-proper cells _ reached (step t))
 
   -- No finished call answered none.
-  pub no-call-answers-none : (f : Finished) → f ∈ callsOf (history pool (start s p n v b vs) l) .finished → f .report .answer ≢ Value noValue
-  no-call-answers-none = subst (λ h. ProperCalls (callsOf h)) (sym (same-history s p n v b vs ok l))
-      (history-proper v l (opening n v vs) (opening-reachable n v vs (starting-values s p n v b vs ok)) noCalls (λ f i. absurd i))
+  pub no-call-answers-none : (call : Finished) → call ∈ callsOf (history pool (start old words tasks cells blocks values) actions) .finished → call .report .answer ≢ Value noValue
+  no-call-answers-none = subst (λ h. ProperCalls (callsOf h)) (sym (same-history old words tasks cells blocks values allowed actions))
+      (history-proper cells actions (opening tasks cells values) (opening-reachable tasks cells values (starting-values old words tasks cells blocks values allowed)) noCalls (λ f i. absurd i))
 
   -- No look shows none.
-  pub no-look-shows-none : (k : ℕ) → looked (x .0) (x .1) k ≢ Shown noValue
-  no-look-shows-none k e = look-some v w reached k (sym (same-look s p n v b vs ok l k) ∙ e)
+  pub no-look-shows-none : (cell : ℕ) → let now = run pool (start old words tasks cells blocks values) actions in looked (now .0) (now .1) cell ≢ Shown noValue
+  no-look-shows-none k e = look-some cells _ reached k (sym (same-look old words tasks cells blocks values allowed actions k) ∙ e)
 
   -- No cell's current block has V none.
-  pub no-cell-has-none : (k : ℕ) → k < v → word (x .1) (current (x .0) k) Field.V ≢ noValue
-  no-cell-has-none k h e = current-some v w reached k (sym (same-words (together s p n v b vs ok l) k h Field.V) ∙ e)
+  pub no-cell-has-none : (cell : ℕ) → cell < cells → let now = run pool (start old words tasks cells blocks values) actions in word (now .1) (current (now .0) cell) Field.V ≢ noValue
+  no-cell-has-none k h e = current-some cells _ reached k (sym (same-words (together old words tasks cells blocks values allowed actions) k h Field.V) ∙ e)

@@ -14,11 +14,12 @@ use Rattle.refinement.specs.Terms.{start}
 use Rattle.refinement.specs.Reached.{Reached}
 use Rattle.refinement.proofs.Refines.{always-fit}
 
-pub reached-open : (s : State) (p : List ℕ) (n v b : ℕ) (vs : List ℕ) → refusal (openQuestions (length p) n v b vs) ≡ none → Reached n v (start s p n v b vs .0) (start s p n v b vs .1)
-reached-open s p n v b vs ok = record { old = s; words = p; blocks = b; values = vs; allowed = ok; actions = []; came = refl }
+pub reached-open : (old : State) (words : List ℕ) (tasks cells blocks : ℕ) (values : List ℕ) → refusal (openQuestions (length words) tasks cells blocks values) ≡ none
+    → Reached tasks cells (start old words tasks cells blocks values .0) (start old words tasks cells blocks values .1)
+reached-open old words tasks cells blocks values allowed = record { old = old; words = words; blocks = blocks; values = values; allowed = allowed; actions = []; came = refl }
 
-module _ {n v : ℕ} {s : State} {p : List ℕ} (r : Reached n v s p) where
-  pub reached-next : (a : Action) → Reached n v (pool (s, p) a .0 .0) (pool (s, p) a .0 .1)
+module _ {tasks cells : ℕ} {state : State} {pool-words : List ℕ} (r : Reached tasks cells state pool-words) where
+  pub reached-next : (action : Action) → let now = pool (state, pool-words) action .0 in Reached tasks cells (now .0) (now .1)
   reached-next a = record {
     old = r .old;
     words = r .words;
@@ -26,8 +27,8 @@ module _ {n v : ℕ} {s : State} {p : List ℕ} (r : Reached n v s p) where
     values = r .values;
     allowed = r .allowed;
     actions = r .actions ++ (a ∷ []);
-    came = ap (λ (x : Pool). pool x a .0) (r .came) ∙ sym (run-snoc pool (start (r .old) (r .words) n v (r .blocks) (r .values)) (r .actions) a);
+    came = ap (λ (x : Pool). pool x a .0) (r .came) ∙ sym (run-snoc pool (start (r .old) (r .words) tasks cells (r .blocks) (r .values)) (r .actions) a);
   }
 
-  pub reached-fit : fit s p ≡ true
-  reached-fit = subst (λ (x : Pool). fit (x .0) (x .1) ≡ true) (sym (r .came)) (always-fit (r .old) (r .words) n v (r .blocks) (r .values) (r .allowed) (r .actions))
+  pub reached-fit : fit state pool-words ≡ true
+  reached-fit = subst (λ (x : Pool). fit (x .0) (x .1) ≡ true) (sym (r .came)) (always-fit (r .old) (r .words) tasks cells (r .blocks) (r .values) (r .allowed) (r .actions))

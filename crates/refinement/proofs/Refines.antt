@@ -65,37 +65,32 @@ module _ {n v : ℕ} where
       go false e = refl
       go true e = let same = same-words g k (ltb-true k v e) in rw (same C, same Field.V, same D)
 
--- an opening that is not refused, then any list of actions
-module _ (s : State) (p : List ℕ) (n v b : ℕ) (vs : List ℕ) (ok : refusal (openQuestions (length p) n v b vs) ≡ none) where
-  fresh-opening : Agree n v (Opened v) (start s p n v b vs .0) (start s p n v b vs .1) (opening n v vs)
+-- AN OPENING THAT IS NOT REFUSED, whatever was in the state and in the pool before, then any list of actions
+module _ (old : State) (words : List ℕ) (tasks cells blocks : ℕ) (values : List ℕ) (allowed : refusal (openQuestions (length words) tasks cells blocks values) ≡ none) where
+  fresh-opening : Agree tasks cells (Opened cells) (start old words tasks cells blocks values .0) (start old words tasks cells blocks values .1) (opening tasks cells values)
   unfolding opened
-  fresh-opening = rw ok (opens p n v b vs ok)
+  fresh-opening = rw allowed (opens words tasks cells blocks values allowed)
 
-  fresh : Together n v (start s p n v b vs) (opening n v vs)
-  fresh = record { R = Opened v; agree = fresh-opening; well = well n v vs }
+  fresh : Together tasks cells (start old words tasks cells blocks values) (opening tasks cells values)
+  fresh = record { R = Opened cells; agree = fresh-opening; well = well tasks cells values }
 
-  module _ (l : List Action) where
-    abbrev x : Pool
-    x = run pool (start s p n v b vs) l
-
-    abbrev w : World
-    w = run figure (opening n v vs) l
-
-    pub together : Together n v x w
-    together = after l fresh
+  module _ (actions : List Action) where
+    pub together : Together tasks cells (run pool (start old words tasks cells blocks values) actions) (run figure (opening tasks cells values) actions)
+    together = after actions fresh
 
     -- Action by action, the pool gives the events of figure 2 with a new block each time: refusals, answers, steps and hardware CAS attempts.
-    pub same-history : history pool (start s p n v b vs) l ≡ history figure (opening n v vs) l
-    same-history = histories l fresh
+    pub same-history : history pool (start old words tasks cells blocks values) actions ≡ history figure (opening tasks cells values) actions
+    same-history = histories actions fresh
 
     -- The record of each task is the figure's but for the numbers of the blocks that it holds and has taken.
-    pub same-records : (t : ℕ) → t < n → (h k : ℕ) × (recordAt (x .0 .records) t ≡ named (w .records t) h k)
-    same-records t h = let r = recordAt (x .0 .records) t in (r .held, r .taken, together .agree .records t h .same)
+    pub same-records : (task : ℕ) → task < tasks
+        → (held taken : ℕ) × (recordAt (run pool (start old words tasks cells blocks values) actions .0 .records) task ≡ named (run figure (opening tasks cells values) actions .records task) held taken)
+    same-records task h = let r = recordAt (run pool (start old words tasks cells blocks values) actions .0 .records) task in (r .held, r .taken, together .agree .records task h .same)
 
     -- The state is fit after any actions: question 6 is never answered no.
-    pub always-fit : fit (x .0) (x .1) ≡ true
+    pub always-fit : let now = run pool (start old words tasks cells blocks values) actions in fit (now .0) (now .1) ≡ true
     always-fit = is-fit together
 
     -- A look shows, or is refused, what the figure's look is.
-    pub same-look : (k : ℕ) → looked (x .0) (x .1) k ≡ figureLooked w k
-    same-look k = looks together k
+    pub same-look : (cell : ℕ) → let now = run pool (start old words tasks cells blocks values) actions in looked (now .0) (now .1) cell ≡ figureLooked (run figure (opening tasks cells values) actions) cell
+    same-look cell = looks together cell

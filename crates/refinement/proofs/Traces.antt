@@ -12,8 +12,7 @@ use Rattle.lines.specs.Lines.{Line, lineOf}
 use Rattle.questions.specs.Questions.{refusal, openQuestions}
 use Rattle.history.specs.History.{Action, begin, step, Event, refused, accepted, answered, run}
 use Rattle.figure.specs.Figure.{World, figure, opening, figureStepped}
-use Rattle.figure.specs.Paths.{Trace, noTrace, enterLine, traces}
-use Rattle.figure.proofs.Records.{figureTraces}
+use Rattle.figure.specs.Paths.{Trace, noTrace, enterLine, traces, figureTraces}
 use Rattle.cells.specs.Machine.{Pool, pool}
 use Rattle.refinement.specs.Terms.{start}
 use Rattle.refinement.specs.Traces.{nextLine, trace}
@@ -63,6 +62,6 @@ same-traces (a ∷ l) x w r g =
 
 -- From an opening that is not refused, for every list of actions, each call on the pool does line for line what it does in figure 2 with a
 -- new block each time, and reports the same.
-pub same-trace : (s : State) (p : List ℕ) (n v b : ℕ) (vs : List ℕ) → refusal (openQuestions (length p) n v b vs) ≡ none → (l : List Action)
-    → trace (start s p n v b vs) l ≡ figureTraces (opening n v vs) noTrace l
-same-trace s p n v b vs ok l = same-traces l (start s p n v b vs) (opening n v vs) noTrace (together s p n v b vs ok)
+pub same-trace : (old : State) (words : List ℕ) (tasks cells blocks : ℕ) (values : List ℕ) → refusal (openQuestions (length words) tasks cells blocks values) ≡ none → (actions : List Action)
+    → trace (start old words tasks cells blocks values) actions ≡ figureTraces (opening tasks cells values) noTrace actions
+same-trace old words tasks cells blocks values allowed actions = same-traces actions (start old words tasks cells blocks values) (opening tasks cells values) noTrace (together old words tasks cells blocks values allowed)
