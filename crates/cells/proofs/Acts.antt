@@ -1,14 +1,13 @@
 -- Each entry acts exactly when every question is answered yes; where it does not act, state and pool stay.
 use mathlib.Core.Path.{_≡_, refl, sym, ap, _∙_}
 use mathlib.Core.Logic.{_↔_}
-use mathlib.Core.Bool.{Bool, true, false, false≢true}
+use mathlib.Core.Bool.{true, false, false≢true}
 use mathlib.Core.Option.{Option, none, some}
 use mathlib.Core.List.{List, [], _∷_}
 use Prim.Native.Nat.{ℕ}
 use lib.ListN.{length}
-use Rattle.lines.specs.declared.Record.{Record}
 use Rattle.questions.specs.declared.State.{State}
-use Rattle.cells.specs.Answers.{Said, Refused, Acted, Ended, Seen, NotShown, Shown}
+use Rattle.cells.specs.Answers.{Acted, acts, shows}
 use Rattle.lines.specs.declared.Field.{Field}
 use Rattle.lines.specs.declared.Field.the-variants.{C, D}
 use Rattle.lines.specs.declared.Next.{Next}
@@ -17,24 +16,15 @@ use Rattle.lines.specs.Basics.{ands}
 use Rattle.lines.specs.Record.{recordAt}
 use Rattle.lines.specs.Lines.{accessOf, nextOf}
 use Rattle.cells.specs.Pool.{word}
-use Rattle.questions.specs.Questions.{Question, refusal, fit, openQuestions, beginQuestions, swapQuestions, stepQuestions, lookQuestions}
-use Rattle.cells.specs.Open.{After, leaving, unless, openState, openPool, opened}
+use Rattle.questions.specs.Questions.{Question, refusal, fit, openQuestions, beginQuestions, swapQuestions, stepQuestions, lookQuestions, answers}
+use Rattle.cells.specs.Open.{After, leaving, unless, Untouched, openState, openPool, opened}
 use Rattle.lines.specs.Record.{firstRead, firstSwap}
 use Rattle.cells.specs.Begin.{started, readBegun, swapBegun}
 use Rattle.blocks.specs.Blocks.{unused}
 use Rattle.cells.specs.Turn.{Touched, performed, ending}
 use Rattle.cells.specs.Step.{current, ran, stepped}
 use Rattle.cells.specs.Look.{shownValue, shown, looked}
-use Rattle.questions.proofs.Tests.{answers, all-yes}
-
-abbrev pub acts : Said → Bool
-acts (Refused n) = false
-acts Acted = true
-acts (Ended f) = true
-
-abbrev pub shows : Seen → Bool
-shows (NotShown n) = false
-shows (Shown v) = true
+use Rattle.questions.proofs.Tests.{all-yes}
 
 -- QUESTIONS
 
@@ -46,10 +36,6 @@ all-none ((n, false) ∷ l) e = absurd (false≢true e)
 -- nothing is refused exactly when every question is answered yes
 pub acts-iff : (l : List Question) → (refusal l ≡ none) ↔ (ands (answers l) ≡ true)
 acts-iff l = (all-yes l, all-none l)
-
--- what is left where the first no has the number n
-abbrev pub Untouched : State → List ℕ → After → Type 0
-Untouched s p a = (n : ℕ) → a .outcome ≡ Refused n → a ≡ leaving s p (Refused n)
 
 module _ (s : State) (p : List ℕ) (a : After) (acted : acts (a .outcome) ≡ true) where
   asked : (l : List Question) → acts (unless (refusal l) s p a .outcome) ≡ ands (answers l)
@@ -63,52 +49,49 @@ module _ (s : State) (p : List ℕ) (a : After) (acted : acts (a .outcome) ≡ t
 
 -- THE ENTRIES
 
-module _ (s : State) (p : List ℕ) (n v b : ℕ) (vs : List ℕ) where
-  pub open-acts : acts (opened s p n v b vs .outcome) ≡ ands (answers (openQuestions (length p) n v b vs))
+module _ (s : State) (p : List ℕ) (tasks cells blocks : ℕ) (values : List ℕ) where
+  pub open-acts : acts (opened s p tasks cells blocks values .outcome) ≡ ands (answers (openQuestions (length p) tasks cells blocks values))
   unfolding opened
-  open-acts = asked s p (leaving (openState n v b) (openPool p vs) Acted) refl (openQuestions (length p) n v b vs)
+  open-acts = asked s p (leaving (openState tasks cells blocks) (openPool p values) Acted) refl (openQuestions (length p) tasks cells blocks values)
 
-  pub open-untouched : Untouched s p (opened s p n v b vs)
+  pub open-untouched : Untouched s p (opened s p tasks cells blocks values)
   unfolding opened
-  open-untouched = untouched s p (leaving (openState n v b) (openPool p vs) Acted) refl (refusal (openQuestions (length p) n v b vs))
+  open-untouched = untouched s p (leaving (openState tasks cells blocks) (openPool p values) Acted) refl (refusal (openQuestions (length p) tasks cells blocks values))
 
 module _ (s : State) (p : List ℕ) (t : ℕ) where
-  abbrev own : Record
-  own = recordAt (s .records) t
-
   module _ (k : ℕ) where
-    pub read-acts : acts (readBegun s p t k .outcome) ≡ ands (answers ((6, fit s p) ∷ beginQuestions (s .tasks) (s .cells) own t k))
+    pub read-acts : acts (readBegun s p t k .outcome) ≡ ands (answers ((6, fit s p) ∷ beginQuestions (s .tasks) (s .cells) (recordAt (s .records) t) t k))
     unfolding readBegun
-    read-acts = asked s p (started s p t (firstRead k)) refl ((6, fit s p) ∷ beginQuestions (s .tasks) (s .cells) own t k)
+    read-acts = asked s p (started s p t (firstRead k)) refl ((6, fit s p) ∷ beginQuestions (s .tasks) (s .cells) (recordAt (s .records) t) t k)
 
     pub read-untouched : Untouched s p (readBegun s p t k)
     unfolding readBegun
-    read-untouched = untouched s p (started s p t (firstRead k)) refl (refusal ((6, fit s p) ∷ beginQuestions (s .tasks) (s .cells) own t k))
+    read-untouched = untouched s p (started s p t (firstRead k)) refl (refusal ((6, fit s p) ∷ beginQuestions (s .tasks) (s .cells) (recordAt (s .records) t) t k))
 
   module _ (k e n : ℕ) where
-    pub swap-acts : acts (swapBegun s p t k e n .outcome) ≡ ands (answers ((6, fit s p) ∷ swapQuestions (s .tasks) (s .cells) own t k e n))
+    pub swap-acts : acts (swapBegun s p t k e n .outcome) ≡ ands (answers ((6, fit s p) ∷ swapQuestions (s .tasks) (s .cells) (recordAt (s .records) t) t k e n))
     unfolding swapBegun
-    swap-acts = asked s p (started s p t (firstSwap k e n)) refl ((6, fit s p) ∷ swapQuestions (s .tasks) (s .cells) own t k e n)
+    swap-acts = asked s p (started s p t (firstSwap k e n)) refl ((6, fit s p) ∷ swapQuestions (s .tasks) (s .cells) (recordAt (s .records) t) t k e n)
 
     pub swap-untouched : Untouched s p (swapBegun s p t k e n)
     unfolding swapBegun
-    swap-untouched = untouched s p (started s p t (firstSwap k e n)) refl (refusal ((6, fit s p) ∷ swapQuestions (s .tasks) (s .cells) own t k e n))
+    swap-untouched = untouched s p (started s p t (firstSwap k e n)) refl (refusal ((6, fit s p) ∷ swapQuestions (s .tasks) (s .cells) (recordAt (s .records) t) t k e n))
 
   follows : (m : Touched) (x : Next) → acts (ending m x .outcome) ≡ true
   follows m (Go r) = refl
   follows m (Done f) = refl
 
-  runs : acts (ran s p t own .outcome) ≡ true
+  runs : acts (ran s p t (recordAt (s .records) t) .outcome) ≡ true
   unfolding ran
-  runs = let m = performed p (current s (own .cell)) (s .last) (unused s) (accessOf t own) in follows m (nextOf t own (m .value))
+  runs = let m = performed p (current s (recordAt (s .records) t .cell)) (s .last) (unused s) (accessOf t (recordAt (s .records) t)) in follows m (nextOf t (recordAt (s .records) t) (m .value))
 
-  pub step-acts : acts (stepped s p t .outcome) ≡ ands (answers ((6, fit s p) ∷ stepQuestions (s .tasks) own t))
+  pub step-acts : acts (stepped s p t .outcome) ≡ ands (answers ((6, fit s p) ∷ stepQuestions (s .tasks) (recordAt (s .records) t) t))
   unfolding stepped
-  step-acts = asked s p (ran s p t own) runs ((6, fit s p) ∷ stepQuestions (s .tasks) own t)
+  step-acts = asked s p (ran s p t (recordAt (s .records) t)) runs ((6, fit s p) ∷ stepQuestions (s .tasks) (recordAt (s .records) t) t)
 
   pub step-untouched : Untouched s p (stepped s p t)
   unfolding stepped
-  step-untouched = untouched s p (ran s p t own) runs (refusal ((6, fit s p) ∷ stepQuestions (s .tasks) own t))
+  step-untouched = untouched s p (ran s p t (recordAt (s .records) t)) runs (refusal ((6, fit s p) ∷ stepQuestions (s .tasks) (recordAt (s .records) t) t))
 
 -- a look hands back no state and no pool
 shown-as : (l : List Question) (v : ℕ) → shows (shown (refusal l) v) ≡ ands (answers l)

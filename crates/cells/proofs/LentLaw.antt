@@ -12,13 +12,13 @@ use denote.Laws.{Is}
 use denote.Struct.Laws as LL
 use Rattle.lines.specs.declared.Record.{Record}
 use Rattle.questions.specs.declared.State.{State}
-use Rattle.cells.specs.Answers.{Said, Refused, Acted, Ended}
+use Rattle.cells.specs.Answers.{Said, Refused, Acted, Ended, acts}
 use Rattle.lines.specs.Record.{idle, isIdle, recordAt}
-use Rattle.cells.specs.Open.{After, leaving}
+use Rattle.cells.specs.Open.{After, leaving, Untouched}
 use Rattle.cells.specs.Begin.{withRecord}
 use Rattle.cells.specs.Step.{stepped}
 use Rattle.cells.specs.Lent.{isRefused, Lent, lent, steppedLent}
-use Rattle.cells.proofs.Acts.{acts, acts-iff, Untouched, step-acts, step-untouched}
+use Rattle.cells.proofs.Acts.{acts-iff, step-acts, step-untouched}
 use Rattle.cells.proofs.Replies.{asked-below}
 use Rattle.cells.proofs.Stepping.{asked}
 use Rattle.questions.proofs.State as S

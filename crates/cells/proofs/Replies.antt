@@ -11,8 +11,8 @@ use lib.ListN.{getD, length}
 use borrow.Author.Tests.{ltb-true, eqb-true}
 use Rattle.lines.specs.declared.Record.{Record}
 use Rattle.questions.specs.declared.State.{State}
-use Rattle.questions.specs.Questions.{Question, refusal, fit, openQuestions}
-use Rattle.questions.proofs.Tests.{answers, all-yes, nth, within-true, blocks-true}
+use Rattle.questions.specs.Questions.{Question, refusal, fit, openQuestions, answers}
+use Rattle.questions.proofs.Tests.{all-yes, nth, within-true, blocks-true}
 use Rattle.questions.proofs.Fits.{sizes}
 
 yes-at : (l : List Question) → refusal l ≡ none → (k : ℕ) → getD (answers l) k true ≡ true

@@ -12,11 +12,11 @@ use borrow.Author.Tests.{ltb-true}
 use Rattle.lines.specs.declared.Record.{Record}
 use Rattle.questions.specs.declared.State.{State}
 use Rattle.lines.specs.Record.{recordAt}
-use Rattle.questions.specs.Questions.{Question, refusal, lineFit, recordFit, busyTests, recordsFit, fit, fitTests, stepQuestions}
+use Rattle.questions.specs.Questions.{Question, refusal, lineFit, recordFit, busyTests, recordsFit, fit, fitTests, stepQuestions, answers}
 use Rattle.blocks.specs.Blocks.{unused}
 use Rattle.cells.specs.Step.{current, putBack, ran, stepped}
 use Rattle.cells.specs.Turn.{turn, There, Ready}
-use Rattle.questions.proofs.Tests.{answers, all-yes, all-at, nth}
+use Rattle.questions.proofs.Tests.{all-yes, all-at, nth}
 use Rattle.questions.proofs.Fits.{sizes, busy-test}
 use Rattle.questions.proofs.Numbers.{at-number}
 use Rattle.blocks.proofs.Search.{unused-below}

@@ -1,4 +1,5 @@
 -- What the entries answer: for each case of the code's enums document 01's number and values. The promises use these.
+use mathlib.Core.Bool.{Bool, true, false}
 use Prim.Native.Nat.{ℕ}
 use Rattle.lines.specs.declared.Finished.{Finished}
 use Rattle.lines.specs.declared.Answer as Code
@@ -37,6 +38,11 @@ said (outcome.Refused n) = Refused n
 said outcome.Acted = Acted
 said (outcome.Ended f) = Ended (result f)
 
+abbrev pub acts : Said → Bool
+acts (Refused n) = false
+acts Acted = true
+acts (Ended f) = true
+
 -- a look: the number of the first question answered no, or the cell's value
 pub data Seen : Type 0 where
   NotShown : (question : ℕ) → Seen
@@ -45,3 +51,7 @@ pub data Seen : Type 0 where
 abbrev pub seen : Looked → Seen
 seen (look.NotShown n) = NotShown n
 seen (look.Shown v) = Shown v
+
+abbrev pub shows : Seen → Bool
+shows (NotShown n) = false
+shows (Shown v) = true

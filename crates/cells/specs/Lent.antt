@@ -1,19 +1,17 @@
 -- A step over a record that the caller lends: it stands in place of the state's record of the task.
-use mathlib.Core.Bool.{Bool, true, false, cond}
+use mathlib.Core.Bool.{Bool, not, cond}
 use mathlib.Core.List.{List}
 use Prim.Native.Nat.{ℕ}
 use Rattle.lines.specs.declared.Record.{Record}
 use Rattle.questions.specs.declared.State.{State}
-use Rattle.cells.specs.Answers.{Said, Refused, Acted, Ended}
+use Rattle.cells.specs.Answers.{Said, acts}
 use Rattle.lines.specs.Record.{recordAt}
 use Rattle.cells.specs.Open.{After, leaving}
 use Rattle.cells.specs.Begin.{withRecord}
 use Rattle.cells.specs.Step.{stepped}
 
 abbrev pub isRefused : Said → Bool
-isRefused (Refused n) = true
-isRefused Acted = false
-isRefused (Ended f) = false
+isRefused o = not (acts o)
 
 -- what the entry leaves and answers, and the lent record
 pub record Lent : Type 0 where

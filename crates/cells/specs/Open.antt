@@ -1,4 +1,5 @@
 -- Opening.
+use mathlib.Core.Path.{_≡_}
 use mathlib.Core.Option.{Option, none, some}
 use mathlib.Core.List.{List, [], _∷_}
 use Prim.Native.Nat.{ℕ, _+_, _-_}
@@ -22,6 +23,10 @@ leaving s p o = record { state = s; pool = p; outcome = o }
 abbrev pub unless : Option ℕ → State → List ℕ → After → After
 unless none s p acted = acted
 unless (some n) s p acted = record { state = s; pool = p; outcome = Refused n }
+
+-- refused, an entry leaves nothing but the number
+abbrev pub Untouched : State → List ℕ → After → Type 0
+Untouched s p a = (n : ℕ) → a .outcome ≡ Refused n → a ≡ leaving s p (Refused n)
 
 -- block k starts with the k-th value
 abbrev pub filled : List ℕ → List ℕ → ℕ → List ℕ

@@ -11,7 +11,7 @@ use lib.Dec.{eqb, leb}
 use lib.ListN.{getD}
 use borrow.Author.Tests.{eqb-true, leb-true}
 use Rattle.lines.specs.Basics.{within, ands, allFrom, anyFrom}
-use Rattle.questions.specs.Questions.{Question, refusal, blocksOk}
+use Rattle.questions.specs.Questions.{Question, refusal, blocksOk, answers}
 
 pub both : {a b : Bool} → a ≡ true → b ≡ true → (a && b) ≡ true
 both e g = rw e g
@@ -42,10 +42,6 @@ pub nth : (l : List Bool) → ands l ≡ true → (k : ℕ) → getD l k true �
 nth [] e k = refl
 nth (x ∷ l) e zero = and-eq-true-iff x (ands l) .0 e .0
 nth (x ∷ l) e (suc k) = nth l (and-eq-true-iff x (ands l) .0 e .1) k
-
-abbrev pub answers : List Question → List Bool
-answers [] = []
-answers (q ∷ l) = q .1 ∷ answers l
 
 -- where none is refused, every question is answered yes
 pub all-yes : (l : List Question) → refusal l ≡ none → ands (answers l) ≡ true

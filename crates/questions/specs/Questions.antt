@@ -19,6 +19,10 @@ abbrev pub refusal : List Question → Option ℕ
 refusal [] = none
 refusal (q ∷ l) = cond (q .1) (refusal l) (some (q .0))
 
+abbrev pub answers : List Question → List Bool
+answers [] = []
+answers (q ∷ l) = q .1 ∷ answers l
+
 -- OPEN: 1 to 5
 
 abbrev pub tasksOk : ℕ → Bool

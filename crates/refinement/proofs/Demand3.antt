@@ -12,8 +12,8 @@ use lib.ListN.{getD, length}
 use borrow.Author.Tests.{eqb-false}
 use Rattle.questions.specs.declared.State.{State}
 use Rattle.lines.specs.Record.{noValue}
-use Rattle.questions.specs.Questions.{refusal, hasNone, openQuestions}
-use Rattle.questions.proofs.Tests.{nth, answers, all-yes, none-of}
+use Rattle.questions.specs.Questions.{refusal, hasNone, openQuestions, answers}
+use Rattle.questions.proofs.Tests.{nth, all-yes, none-of}
 use Rattle.history.specs.History.{Action, Event, history, Call, callsOf}
 use Rattle.history.specs.Demand3.{most, Demand3, Meets, Finishes, clearAfter}
 use Rattle.history.proofs.EndsWithin.{ends-within}

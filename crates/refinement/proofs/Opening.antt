@@ -11,9 +11,9 @@ use borrow.Author.Tests.{eqb-true}
 use Rattle.lines.specs.declared.Field.{Field}
 use Rattle.lines.specs.Record.{idle}
 use Rattle.cells.specs.Pool.{word, fresh}
-use Rattle.questions.specs.Questions.{refusal, openQuestions}
+use Rattle.questions.specs.Questions.{refusal, openQuestions, answers}
 use Rattle.cells.specs.Open.{openState, openPool}
-use Rattle.questions.proofs.Tests.{nth, answers, all-yes, all-at, within-true, blocks-true}
+use Rattle.questions.proofs.Tests.{nth, all-yes, all-at, within-true, blocks-true}
 use Rattle.cells.proofs.Words.{fields, length-filled, filled-word}
 use Rattle.figure.specs.Figure.{wordOf, opening}
 use Rattle.refinement.proofs.Agree.{Agree, no-blocks}

@@ -14,14 +14,14 @@ use Rattle.lines.specs.declared.Next.{Next}
 use Rattle.lines.specs.Basics.{ands}
 use Rattle.lines.specs.Record.{noValue, idle, isIdle, recordAt}
 use Rattle.lines.specs.Lines.{lineOf, accessOf, counted, hardware}
-use Rattle.questions.specs.Questions.{Question, refusal, reads, swaps, fit}
+use Rattle.questions.specs.Questions.{Question, refusal, reads, swaps, fit, answers}
 use Rattle.cells.specs.Open.{After, unless}
 use Rattle.lines.specs.Record.{firstRead, firstSwap}
 use Rattle.cells.specs.Begin.{readBegun, swapBegun, started}
 use Rattle.blocks.specs.Blocks.{unused}
 use Rattle.cells.specs.Turn.{Touched, performed, ending}
 use Rattle.cells.specs.Step.{current, withBlocks, putBack, ran, stepped}
-use Rattle.questions.proofs.Tests.{nth, answers, all-yes}
+use Rattle.questions.proofs.Tests.{nth, all-yes}
 use Rattle.questions.proofs.Numbers.{number, at-number}
 use Rattle.blocks.proofs.Unused.{one-is-unused}
 use Rattle.history.specs.History.{Op, read, swap, begin, step, Event}

@@ -12,10 +12,10 @@ use Rattle.io.specs.Counts.{Counts}
 use Rattle.text.specs.Append.{Appended}
 use Rattle.text.proofs.Appending.{nothing, whole}
 use Rattle.questions.specs.declared.State.{State}
-use Rattle.cells.specs.Answers.{Result, Said, Refused, Acted, Ended}
+use Rattle.cells.specs.Answers.{Result, Said, Refused, Acted, Ended, acts}
 use Rattle.cells.specs.Open.{After, leaving, opened}
 use Rattle.questions.specs.Questions.{refusal, openQuestions}
-use Rattle.cells.proofs.Acts.{acts, acts-iff, open-acts}
+use Rattle.cells.proofs.Acts.{acts-iff, open-acts}
 use Rattle.refinement.specs.Reached.{Reached}
 use Rattle.refinement.proofs.Reaching.{reached-open}
 use Rattle.history.specs.History.{Action, taskOf, history, run}

@@ -12,8 +12,8 @@ use borrow.Author.Tests.{lt-ltb, ltb-true}
 use Rattle.lines.specs.declared.Record.{Record}
 use Rattle.lines.specs.Record.{idle, recordAt, firstRead, firstSwap}
 use Rattle.questions.specs.declared.State.{State}
-use Rattle.questions.specs.Questions.{refusal, fit, openQuestions, swapQuestions, stepQuestions}
-use Rattle.questions.proofs.Tests.{answers, all-yes, nth, within-true}
+use Rattle.questions.specs.Questions.{refusal, fit, openQuestions, swapQuestions, stepQuestions, answers}
+use Rattle.questions.proofs.Tests.{all-yes, nth, within-true}
 use Rattle.questions.proofs.Fits.{sizes}
 use Rattle.cells.specs.Answers.{Said, Refused, Acted}
 use Rattle.blocks.specs.Blocks.{unused, found}
