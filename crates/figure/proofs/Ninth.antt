@@ -23,8 +23,8 @@ use Rattle.lines.specs.Lines.{Line, for25, for28, l1, l2, l3, l29, l30, lineOf,
 use Rattle.history.specs.Basics.{upd, _∈_}
 use Rattle.history.specs.History.{Op, read, swap, Action, begin, step, Answer, run}
 use Rattle.history.proofs.Basics.{upd-same, upd-off, upd-cases}
-use Rattle.figure.specs.Figure.{Cell, World, withBoth, WorldAfter, store, install, accessed, Accessed, accessCell, recordAfter, outcomeOf, figureRan, opening, figure}
-use Rattle.cells.specs.Events.{eventOf, tried}
+use Rattle.figure.specs.Figure.{Cell, World, withBoth, WorldAfter, store, install, accessed, Accessed, accessCell, recordAfter, outcomeOf, figureRan, opening, figure, attempts}
+use Rattle.cells.specs.Events.{eventOf}
 use Rattle.figure.specs.Paths.{paths, reached, by25, pathsOf, Traced, Trace, noTrace, didLine, enterLine, figureTraces}
 use Rattle.figure.proofs.LineLaws.{every, every-in, every-line, has, same, same-is, imp, before, waysOf, has-in, by-test}
 use Rattle.figure.proofs.Records.{OnPath, Sound, with-first, upd-both, firstOf, Begun, starts, begin-cases, Stepped, runs, step-cases, act-sound}
@@ -194,11 +194,11 @@ module _ (v : ℕ) (w : World) (i : Reachable v w) (r : Trace) (s : Sound w r) (
     put c p did = upd-both (λ u did p. through25 did ≡ true → Expected c p) (r .did) (w .records) t did p
 
     line-kept : (n : Next) → next ≡ n → (through25 (didLine now r t) ≡ true → Goes cells n)
-        → NotNinth (withBoth w (q .cell) (accessCell m (accessOf t q) .cell) t (recordAfter n)) (enterLine now r (step t) (eventOf (tried t q) (outcomeOf n)))
+        → NotNinth (withBoth w (q .cell) (accessCell m (accessOf t q) .cell) t (recordAfter n)) (enterLine now r (step t) (eventOf (attempts w t) (outcomeOf n)))
     line-kept (Go p) e g = record { late = put cells p (didLine now r t) g stays; done = o .done }
     line-kept (Done f) e g = record { late = put cells idle [] (λ h. absurd (false≢true h)) stays; done = with-first (λ x. x .lines ≢ by25) _ (r .done) (ends f e) (o .done) }
 
-    step-kept : {f : WorldAfter} → Stepped w t (r .did t) f → NotNinth (f .world) (enterLine now r (step t) (eventOf (tried t q) (f .outcome)))
+    step-kept : {f : WorldAfter} → Stepped w t (r .did t) f → NotNinth (f .world) (enterLine now r (step t) (eventOf (attempts w t) (f .outcome)))
     unfolding figureRan
     step-kept (Stepped.refuses n e) = o
     step-kept (runs n p) = line-kept next refl goes-on

@@ -19,8 +19,7 @@ use Rattle.history.specs.History.{Op, read, swap, cellOf}
 use Rattle.history.specs.Demand3.{Unequal}
 use Rattle.history.proofs.Basics.{either, upd-at, upd-same, upd-off}
 use Rattle.history.proofs.Simulation.{Ghost, Tally, QuietStarts, QuietSteps, Free}
-use Rattle.figure.specs.Figure.{Cell, World, withTask, recordAfter, accessCell, clear}
-use Rattle.cells.specs.Events.{tried}
+use Rattle.figure.specs.Figure.{Cell, World, withTask, recordAfter, accessCell, clear, attempts}
 use Rattle.figure.proofs.LineLaws.{Leads, goes, done}
 use Rattle.figure.proofs.Records.{Pending, OnPath, AllOnPath, Accepted, firstOf, led}
 use Rattle.figure.proofs.AsBegun.{opOf, cell-of}
@@ -125,7 +124,7 @@ module _ (w : World) (g : Ghost) (κ : Knowledge) (G : Good w g κ) (marks : (k 
           (others-step (w .cell k) (on (w .records) k) u t (recordAfter n) y ne (λ b. no-swap (rw here (stays .1 b))) no-swap)))
       go (inr e) = rw (upd-off (w .cell) k m j e, on-others (w .records) t (recordAfter n) j e (stays .0)) z
 
-  pub step-quietly : QuietSteps doing clear QuietIn w w′ t (tried t q)
+  pub step-quietly : QuietSteps doing clear QuietIn w w′ t (attempts w t)
   step-quietly = record {
     untried = λ z. subst (λ (p : Record). hardware (accessAt (lineOf p) t p) ≡ 0) here (untried (w .cell k) (on (w .records) k) t z);
     kept = λ u a d z. go u a d z (either u t);

@@ -19,8 +19,8 @@ use Rattle.lines.specs.Record.{firstRead, firstSwap}
 use Rattle.history.specs.Basics.{upd, _∈_}
 use Rattle.history.specs.History.{Op, read, swap, cellOf, Action, begin, step, Report, run}
 use Rattle.history.proofs.Basics.{either, upd-at, upd-off, upd-cases}
-use Rattle.figure.specs.Figure.{Cell, World, withTask, withBoth, WorldAfter, worldAfter, unlessRefused, recordAfter, outcomeOf, figureRan, figureStepped, figureBegun, opening, figure, accessCell}
-use Rattle.cells.specs.Events.{reportOf, eventOf, tried}
+use Rattle.figure.specs.Figure.{Cell, World, withTask, withBoth, WorldAfter, worldAfter, unlessRefused, recordAfter, outcomeOf, figureRan, figureStepped, figureBegun, opening, figure, accessCell, attempts}
+use Rattle.cells.specs.Events.{reportOf, eventOf}
 use Rattle.figure.specs.Paths.{count, Traced, Trace, didLine, enterLine, figureTraces}
 use Rattle.figure.specs.Paths as Paths
 use Rattle.figure.proofs.AsBegun.{opOf}
@@ -251,7 +251,7 @@ module _ (w : World) (r : Trace) (s : Sound w r) where
         go (inr i) = i
 
     line-sound : (c : Cell) {n : Next} → Leads (lineOf q) (counted q (accessOf t q)) n → Then (w .cells) (r .did t) q o n
-        → Sound (withBoth w (q .cell) c t (recordAfter n)) (enterLine now r (step t) (eventOf (tried t q) (outcomeOf n)))
+        → Sound (withBoth w (q .cell) c t (recordAfter n)) (enterLine now r (step t) (eventOf (attempts w t) (outcomeOf n)))
     line-sound c (goes f) k = record { pending = put t _ (didLine now r t) (inr (m, k)); begun = put-begun t _ (inr its-op); complete = s .complete }
     line-sound c (done f) k = record {
       pending = put t idle [] (inl (refl, refl));
@@ -259,7 +259,7 @@ module _ (w : World) (r : Trace) (s : Sound w r) where
       complete = with-first CompleteCall _ (r .done) (rw its-op k) (s .complete);
     }
 
-  step-sound : (t : ℕ) {f : WorldAfter} → Stepped w t (r .did t) f → Sound (f .world) (enterLine now r (step t) (eventOf (tried t (w .records t)) (f .outcome)))
+  step-sound : (t : ℕ) {f : WorldAfter} → Stepped w t (r .did t) f → Sound (f .world) (enterLine now r (step t) (eventOf (attempts w t) (f .outcome)))
   unfolding figureRan
   step-sound t (refuses n i) = s
   step-sound t (runs m o) =

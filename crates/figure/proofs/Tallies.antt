@@ -18,8 +18,8 @@ use Rattle.history.specs.History.{Op, read, swap, Action, begin, step, Answer}
 use Rattle.history.specs.Demand3.{most, mostHard}
 use Rattle.history.proofs.Basics.{either, upd-at, upd-off}
 use Rattle.history.proofs.Simulation.{Tally, first, Follows}
-use Rattle.figure.specs.Figure.{Cell, World, WorldAfter, withBoth, recordAfter, outcomeOf, figureRan, figure, accessCell}
-use Rattle.cells.specs.Events.{eventOf, tried}
+use Rattle.figure.specs.Figure.{Cell, World, WorldAfter, withBoth, recordAfter, outcomeOf, figureRan, figure, accessCell, attempts}
+use Rattle.cells.specs.Events.{eventOf}
 use Rattle.figure.specs.Paths.{readPaths, paths, count}
 use Rattle.figure.proofs.AsBegun.{opOf, kind-of, cell-of}
 use Rattle.figure.proofs.LineLaws.{every-in, waysOf, on-paths, on-read-paths, Leads, goes, done, by-test}
@@ -83,7 +83,7 @@ module _ (w : World) where
     q = w .records t
 
     line-follows : (c : Cell) {n : Next} → Leads (lineOf q) (counted q (accessOf t q)) n → Then (w .cells) did q o n
-        → Follows doing (w .cells) w (step t) (withBoth w (q .cell) c t (recordAfter n)) (eventOf (tried t q) (outcomeOf n))
+        → Follows doing (w .cells) w (step t) (withBoth w (q .cell) c t (recordAfter n)) (eventOf (attempts w t) (outcomeOf n))
     line-follows c (goes f) next = record { now = tally q; was = was-doing (w .cells) did q o; rest = put t _ _ (rw (not-idle _ (next .line), add-one)) }
     line-follows c (done f) end = record {
       now = tally q;
@@ -96,7 +96,7 @@ module _ (w : World) where
       few = rw (end .all-hard) (few-hard (opOf q) _ _ (end .path));
     }
 
-  step-follows : (t : ℕ) (did : List Line) {f : WorldAfter} → Stepped w t did f → Follows doing (w .cells) w (step t) (f .world) (eventOf (tried t (w .records t)) (f .outcome))
+  step-follows : (t : ℕ) (did : List Line) {f : WorldAfter} → Stepped w t did f → Follows doing (w .cells) w (step t) (f .world) (eventOf (attempts w t) (f .outcome))
   unfolding figureRan
   step-follows t did (Stepped.refuses n i) = (refl, rw i)
   step-follows t did (runs m o) =

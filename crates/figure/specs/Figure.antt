@@ -142,9 +142,13 @@ figureLooked w k = let m = w .cell k in let b = m .current in shown (refusal (lo
 
 -- AS A MACHINE THAT TAKES ACTIONS AND GIVES EVENTS
 
+-- the hardware CAS attempts of a task's next step
+abbrev pub attempts : World → ℕ → ℕ
+attempts w t = tried t (w .records t)
+
 abbrev pub figure : World → Action → World × Event
 figure w (begin t op) = let r = figureBegun w t op in (r .world, eventOf 0 (r .outcome))
-figure w (step t) = let r = figureStepped w t in (r .world, eventOf (tried t (w .records t)) (r .outcome))
+figure w (step t) = let r = figureStepped w t in (r .world, eventOf (attempts w t) (r .outcome))
 
 -- nothing is left of an earlier collision: the current block of cell k is active
 abbrev pub clear : World → ℕ → Type 0
