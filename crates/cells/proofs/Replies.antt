@@ -1,4 +1,4 @@
--- What an entry that is not refused has been told.
+-- What an entry that is not refused is known to have been asked.
 use mathlib.Core.Path.{_≡_, refl, sym, _∙_}
 use mathlib.Core.Logic.{_⊎_, inl, inr}
 use mathlib.Core.Bool.{Bool, true, false, _&&_, and-eq-true-iff, false≢true}
@@ -41,7 +41,7 @@ module _ (s : State) (p : List ℕ) (t : ℕ) where
       let yes = yes-at ((6, fit s p) ∷ (7, ltb t (s .tasks)) ∷ l) e in
       task-below (fit s p) refl (rw (yes 0) (yes 1))
 
--- what an opening that is not refused has been told
+-- what is known of an opening that is not refused
 pub opens : (p vs : List ℕ) (n v b : ℕ) → refusal (openQuestions (length p) n v b vs) ≡ none
     → (1 ≤ v) × (length vs ≤ 16) × (5 * length vs ≤ length p)
 unfolding openQuestions

@@ -1,4 +1,4 @@
--- What an access does to memory, and a busy task's next line, told numbers only: the block that its cell names, the block taken last, and
+-- What an access does to memory, and a busy task's next line, given numbers only: the block that its cell names, the block taken last, and
 -- what the search for an unused block answers. No line names another cell than the task's own (questions/proofs/Accesses.antt).
 use mathlib.Core.Bool.{cond}
 use mathlib.Core.Option.{Option, none, some}

@@ -49,7 +49,7 @@ module _ (old : State) (words : List ℕ) (tasks cells blocks : ℕ) (values : L
       no false e = refl
 
   -- DEMAND 3. For every list of begins and steps from a fresh opening, with any numbers, refused ones included, wherever tasks halt: the
-  -- calls can be told one after another on plain cells, every finished call once with its own answer and some pending ones once each,
+  -- calls can be put one after another on sequential cells, every finished call once with its own answer and some pending ones once each,
   -- every one after its begin and no later than its last step; a read ends within 6 own steps with at most 1 hardware CAS, a swap within
   -- 17 with at most 3; and a call attempts none if its cell's block was active at its begin and no other swap of unequal values is
   -- pending on that cell from its begin to its end.
