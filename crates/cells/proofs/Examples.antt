@@ -6,7 +6,7 @@ use lib.ListN.{replicate}
 use Rattle.questions.specs.Questions.{hasNone, openQuestions, recordFit, cellsFit, recordsFit, fit}
 use Rattle.blocks.specs.Blocks.{isCurrent, usedByTask, used, unused}
 use Rattle.lines.specs.Record.{idle}
-use Rattle.history.specs.History.{Op, read, swap, Action, begin, step, Kind, aRead, aSwap, Answer, Value, Yes, No, Report, Event, refused, accepted, answered, history}
+use Rattle.history.specs.History.{Op, read, swap, Action, begin, step, Kind, aRead, aSwap, Response, Value, Yes, No, Report, Event, refused, accepted, answered, history}
 use Rattle.cells.specs.Open.{opened}
 use Rattle.cells.specs.Begin.{readBegun, swapBegun}
 use Rattle.cells.specs.Step.{ran, stepped}
@@ -27,7 +27,7 @@ start =
 abbrev steps : (count task : ℕ) → List Action
 steps n t = replicate n (step t)
 
-abbrev report : Kind → Answer → (steps hard : ℕ) → Report
+abbrev report : Kind → Response → (steps hard : ℕ) → Report
 report k a s h = record { kind = k; cell = 0; answer = a; steps = s; hard = h }
 
 -- tasks 1 and 2 collide on the cell's block: 2 replaces it, putting v2 for v; 1 comes too late

@@ -8,10 +8,10 @@ use Rattle.cells.specs.declared.Outcome.{Outcome}
 use Rattle.cells.specs.declared.Outcome.the-variants as outcome
 use Rattle.cells.specs.declared.Looked.{Looked}
 use Rattle.cells.specs.declared.Looked.the-variants as look
-use Rattle.history.specs.History.{Answer, Value, Yes, No}
+use Rattle.history.specs.History.{Response, Value, Yes, No}
 
 -- a read's value, or whether a swap won
-abbrev pub answerOf : Code.Answer → Answer
+abbrev pub answerOf : Code.Answer → Response
 answerOf (code.Value v) = Value v
 answerOf code.Yes = Yes
 answerOf code.No = No
@@ -20,7 +20,7 @@ answerOf code.No = No
 pub record Result : Type 0 where
   pub kind : ℕ
   pub cell : ℕ
-  pub answer : Answer
+  pub answer : Response
   pub steps : ℕ
   pub hard : ℕ
 

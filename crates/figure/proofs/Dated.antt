@@ -16,7 +16,7 @@ use Rattle.lines.specs.Basics.{within}
 use Rattle.lines.specs.Lines.{Line, l10, l15, l21, l30, lineAt, lineOf, accessAt, accessOf, counted, nextAt, readAnswer}
 use Rattle.questions.specs.Questions.{lineFit}
 use Rattle.history.specs.Basics.{upd}
-use Rattle.history.specs.History.{Op, read, swap, cellOf, Answer, Value, Yes, No}
+use Rattle.history.specs.History.{Op, read, swap, cellOf, Response, Value, Yes, No}
 use Rattle.history.specs.Moments.{before, after, C3, C4, Rule, Spot, changes}
 use Rattle.history.proofs.Basics.{either, upd-at, upd-same, upd-off, upd-cases}
 use Rattle.history.proofs.Simulation as Sim
@@ -155,10 +155,10 @@ module _ (w : World) (notes : Notes) (g : Ghost) (κ : Sim.Knowledge) (G : Good 
 
     -- WHY IT MAY ANSWER, and that its moment is the one named
 
-    abbrev moment : Answer → ℕ
+    abbrev moment : Response → ℕ
     moment a = ruled notes t see a .moment
 
-    named : (a : Answer) (n : ℕ) → figureLine (line s t) ≡ n → moment a ≡ ruleAt n (rules notes t see a) .moment
+    named : (a : Response) (n : ℕ) → figureLine (line s t) ≡ n → moment a ≡ ruleAt n (rules notes t see a) .moment
     named a n e = ap (λ n. ruleAt n (rules notes t see a) .moment) (figure-line-is q (o .line) ∙ ap (λ (r : Record). figureLine (lineOf r)) (sym here) ∙ e)
 
     saw-there : (v : ℕ) (a : Code.Answer) (n : ℕ) → Saw κ₀ t v a n → κ .saw t (ruleAt n (rules notes t see (answerOf a)) .moment) v
@@ -186,10 +186,10 @@ module _ (w : World) (notes : Notes) (g : Ghost) (κ : Sim.Knowledge) (G : Good 
         Sim.observes v (saw-named v a z) (r .0 ∙ sym (ap answerOf e)) (r .1) u (λ y. l (sym (ap (g .phase) (cell-of q)) ∙ y))
 
     -- a lost line 30 has found the expected value decided: after the replacement, never before
-    pub sided : (a : Answer) → Sided op a (ruled notes t see a)
+    pub sided : (a : Response) → Sided op a (ruled notes t see a)
     sided a = found (Sided op a) (see .figureLine) (rules notes t see a) ((λ z. it a), ((λ z. it a), ((λ z. it a), ((λ z. it a), ((λ z. it a), ((λ z. it a), (last a, it a)))))))
       where
-        it : (a : Answer) {n : ℕ} {r : Rule} → Sided op a (at n r)
+        it : (a : Response) {n : ℕ} {r : Rule} → Sided op a (at n r)
         it a = record { never-before = λ z. let y : _≡_ {A = ℕ} 0 1 = cc in omega arith; change-itself = λ z. refl }
 
         no-change : (op : Op) → T (changes op No) → ⊥
@@ -201,7 +201,7 @@ module _ (w : World) (notes : Notes) (g : Ghost) (κ : Sim.Knowledge) (G : Good 
             let b = lies-in (λ ℓ. eqb (figureLine ℓ) 30) replacing tt ℓ (subst (λ n. T (eqb n 30)) (figure-line-is q (o .line)) z) in
             with (holdsBlock q) (eqb (m .d (q .held)) (q .expected)) (holds-block q (o .line) (lies-in replacing holding tt ℓ b)) (equal _ _ (f .decided .expected b))
 
-        last : (a : Answer) → T (eqb (see .figureLine) 30) → Sided op a (lineC6 notes t see a)
+        last : (a : Response) → T (eqb (see .figureLine) 30) → Sided op a (lineC6 notes t see a)
         last (Value v) z = it (Value v)
         last Yes z = it Yes
         last No z = record { never-before = λ y. let x : after ≡ before = sym (cond-true (see .asExpected) after before (expected z)) ∙ y in let e : _≡_ {A = ℕ} 0 1 = cc in omega arith; change-itself = λ y. absurd (no-change op y) }

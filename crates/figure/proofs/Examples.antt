@@ -4,7 +4,7 @@ use mathlib.Core.List.{List, [], _∷_, _++_}
 use Prim.Native.Nat.{ℕ}
 use lib.ListN.{replicate}
 use Rattle.history.specs.Basics.{upd}
-use Rattle.history.specs.History.{Op, swap, aSwap, Action, begin, step, Answer, Yes, No, Event, refused, accepted, answered, history}
+use Rattle.history.specs.History.{Op, swap, aSwap, Action, begin, step, Response, Yes, No, Event, refused, accepted, answered, history}
 use Rattle.figure.specs.Figure.{opening, figureRan, figureStepped, figureBegun, figure}
 
 abbrev ends : List (Action × Event) → List Event
@@ -13,7 +13,7 @@ ends ((a, refused r) ∷ h) = refused r ∷ ends h
 ends ((a, accepted x) ∷ h) = ends h
 ends ((a, answered x r) ∷ h) = answered x r ∷ ends h
 
-abbrev swapped : (tried : ℕ) → Answer → (steps hard : ℕ) → Event
+abbrev swapped : (tried : ℕ) → Response → (steps hard : ℕ) → Event
 swapped x a n h = answered x (record { kind = aSwap; cell = 0; answer = a; steps = n; hard = h })
 
 -- two tasks and a cell that holds 5

@@ -156,18 +156,18 @@ abbrev pub MayFollow : Line → Line → (b h : ℕ) → Type 0
 MayFollow l k b h = T (extends l (before k)) × ((read swap : Bool) → ofKind l read swap ≡ ofKind k read swap) × (T (not (same l l10 || same l l15)) → h ≡ b)
 
 -- the paths of an operation with this answer; a swap's with the ninth, which takes an invariant to rule out
-abbrev pub waysOf : Op → Event.Answer → List (List Line)
+abbrev pub waysOf : Op → Event.Response → List (List Line)
 waysOf (read k) a = pathsOf (read k) a
 waysOf (swap k e n) a = by25 ∷ pathsOf (swap k e n) a
 
 -- they are among the thirteen, a read's among its two
-pub on-paths : (op : Op) (a : Event.Answer) (x : List Line) → x ∈ waysOf op a → x ∈ paths
+pub on-paths : (op : Op) (a : Event.Response) (x : List Line) → x ∈ waysOf op a → x ∈ paths
 on-paths op a x m = among paths x (every-in (has sameLines paths) (waysOf op a) (all op a) x m)
   where
     Passes : List (List Line) → Type 0
     Passes ps = T (every (has sameLines paths) ps)
 
-    all : (op : Op) (a : Event.Answer) → T (every (has sameLines paths) (waysOf op a))
+    all : (op : Op) (a : Event.Response) → T (every (has sameLines paths) (waysOf op a))
     all (read k) (Event.Value v) = tt
     all (read k) Event.Yes = tt
     all (read k) Event.No = tt
@@ -175,7 +175,7 @@ on-paths op a x m = among paths x (every-in (has sameLines paths) (waysOf op a) 
     all (swap k e n) Event.Yes = by-test Passes (eqb e n) readPaths yesPaths (λ z. tt) (λ z. tt)
     all (swap k e n) Event.No = by-test Passes (eqb e n) readPaths noPaths (λ z. tt) (λ z. tt)
 
-pub on-read-paths : (k : ℕ) (a : Event.Answer) (x : List Line) → x ∈ waysOf (read k) a → x ∈ readPaths
+pub on-read-paths : (k : ℕ) (a : Event.Response) (x : List Line) → x ∈ waysOf (read k) a → x ∈ readPaths
 on-read-paths k (Event.Value v) x m = m
 on-read-paths k Event.Yes x m = absurd m
 on-read-paths k Event.No x m = absurd m

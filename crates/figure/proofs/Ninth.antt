@@ -21,7 +21,7 @@ use Rattle.lines.specs.Record.{noValue, idle}
 use Rattle.cells.specs.Pool.{offset}
 use Rattle.lines.specs.Lines.{Line, for25, for28, l1, l2, l3, l29, l30, lineOf, accessAt, accessOf, counted, nextAt, nextOf}
 use Rattle.history.specs.Basics.{upd, _∈_}
-use Rattle.history.specs.History.{Op, read, swap, Action, begin, step, Answer, run}
+use Rattle.history.specs.History.{Op, read, swap, Action, begin, step, Response, run}
 use Rattle.history.proofs.Basics.{upd-same, upd-off, upd-cases}
 use Rattle.figure.specs.Figure.{Cell, World, withBoth, WorldAfter, store, install, accessed, Accessed, accessCell, recordAfter, outcomeOf, figureRan, opening, figure, attempts}
 use Rattle.cells.specs.Events.{eventOf}
@@ -220,7 +220,7 @@ pub never-ninth : (n v : ℕ) (vs : List ℕ) → ((k : ℕ) → getD vs k 0 ≢
 never-ninth n v vs ok l = traces-kept v (opening n v vs) (opening-reachable n v vs ok) noTrace (start-sound n v vs) (record { late = λ t h. absurd (false≢true h); done = λ x i. absurd i }) l .done
 
 -- so it is on a path that is its own, and on one of the twelve others
-pub own-path : (op : Op) (a : Answer) (p : List Line) → p ∈ waysOf op a → p ≢ by25 → p ∈ pathsOf op a
+pub own-path : (op : Op) (a : Response) (p : List Line) → p ∈ waysOf op a → p ≢ by25 → p ∈ pathsOf op a
 own-path (read k) a p i n = i
 own-path (swap k e m) a p (inl z) n = absurd (n z)
 own-path (swap k e m) a p (inr i) n = i

@@ -14,7 +14,7 @@ use Rattle.lines.specs.declared.Next.{Next}
 use Rattle.lines.specs.Record.{idle, isIdle}
 use Rattle.lines.specs.Lines.{Line, lineOf, accessOf, counted, hardware}
 use Rattle.history.specs.Basics.{upd, _∈_}
-use Rattle.history.specs.History.{Op, read, swap, Action, begin, step, Answer}
+use Rattle.history.specs.History.{Op, read, swap, Action, begin, step, Response}
 use Rattle.history.specs.Demand3.{most, mostHard}
 use Rattle.history.proofs.Basics.{either, upd-at, upd-off}
 use Rattle.history.proofs.Simulation.{Tally, first, Follows}
@@ -40,7 +40,7 @@ was-doing v did q o = rw (not-idle q (o .line))
 -- BOUNDS
 
 -- found by computing over the paths
-few-hard : (op : Op) (a : Answer) (p : List Line) → p ∈ waysOf op a → count hardware p ≤ mostHard op
+few-hard : (op : Op) (a : Response) (p : List Line) → p ∈ waysOf op a → count hardware p ≤ mostHard op
 few-hard (read k) a p i = leb→le _ _ (every-in (λ p. leb (count hardware p) 1) readPaths tt p (on-read-paths k a p i))
 few-hard (swap k e n) a p i = leb→le _ _ (every-in (λ p. leb (count hardware p) 3) paths tt p (on-paths (swap k e n) a p i))
 

@@ -11,7 +11,7 @@ use Rattle.lines.specs.declared.Field.{Field}
 use Rattle.lines.specs.declared.Field.the-variants.{C, D}
 use Rattle.lines.specs.Record.{noValue, isIdle}
 use Rattle.questions.specs.Questions.{holds}
-use Rattle.history.specs.History.{Action, begin, step, Answer, Value, Yes, No, Event, refused, accepted, answered}
+use Rattle.history.specs.History.{Action, begin, step, Response, Value, Yes, No, Event, refused, accepted, answered}
 use Rattle.history.specs.Moments.{itself, before, after, Rule, R1, R2, C1, C2, C3, C4, C5, C6, Spot, Mark, Names, beside, linearized}
 use Rattle.figure.specs.Figure.{World, wordOf, figure, opening}
 
@@ -96,7 +96,7 @@ at n r = record { moment = n; side = itself; rule = r }
 
 -- C6: who installs its block takes effect there. Who fails: o.b was replaced; before that, if another value than the expected was decided,
 -- else after it.
-abbrev pub lineC6 : Notes → ℕ → Sight → Answer → Spot
+abbrev pub lineC6 : Notes → ℕ → Sight → Response → Spot
 lineC6 o t x (Value v) = at (o .now) C6
 lineC6 o t x Yes = at (o .now) C6
 lineC6 o t x No = record { moment = o .replaced t; side = cond (x .asExpected) after before; rule = C6 }
@@ -106,7 +106,7 @@ abbrev pub effect : Notes → ℕ → ℕ
 effect o t = cond (o .storedActive t) (o .stored t) (o .inactive t)
 
 -- by the line of the figure's list from which the call returns. C1: a swap of equal values is linearized where its read is.
-abbrev pub rules : Notes → ℕ → Sight → Answer → List (ℕ × Spot)
+abbrev pub rules : Notes → ℕ → Sight → Response → List (ℕ × Spot)
 rules o t x a =
     (12, at (o .loaded t) (cond (x .swaps) C1 R1)) ∷
     (13, at (o .decided t) (cond (x .swaps) C1 R2)) ∷
@@ -121,7 +121,7 @@ abbrev pub ruleAt : ℕ → List (ℕ × Spot) → Spot
 ruleAt n [] = at 0 R1
 ruleAt n (p ∷ l) = cond (eqb n (p .0)) (p .1) (ruleAt n l)
 
-abbrev pub ruled : Notes → ℕ → Sight → Answer → Spot
+abbrev pub ruled : Notes → ℕ → Sight → Response → Spot
 ruled o t x a = ruleAt (x .figureLine) (rules o t x a)
 
 -- PENDING SWAPS: one that has stored, so at line 24, 25 or 26 (who went on to 28 found another value decided). It is listed if its block was

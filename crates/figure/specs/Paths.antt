@@ -10,7 +10,7 @@ use Rattle.lines.specs.Paths.{table}
 use Rattle.lines.specs.Lines.{Line, Wanted, for13, for25, for28, l1, l2, l3, l10, l11, l12, l15, l16, l17, l18, l19, l20, l21, l22, l23, l24, l26, l27, l29, l30, lineOf, accessAt, loads, stores, hardware}
 use Rattle.history.specs.Basics.{upd, _∈_}
 use Rattle.figure.specs.Figure.{World, figure}
-use Rattle.history.specs.History.{Op, read, swap, Action, begin, step, Answer, Value, Yes, No, Report, Event, refused, accepted, answered, Finished}
+use Rattle.history.specs.History.{Op, read, swap, Action, begin, step, Response, Value, Yes, No, Report, Event, refused, accepted, answered, FinishedCall}
 
 -- THE THIRTEEN PATHS
 
@@ -82,7 +82,7 @@ abbrev pub noPaths : List (List Line)
 noPaths = noFrom22 ∷ by17 ∷ by19 ∷ by21 ∷ replacing
 
 -- line 14: a swap of equal values reads, and answers yes or no
-abbrev pub pathsOf : Op → Answer → List (List Line)
+abbrev pub pathsOf : Op → Response → List (List Line)
 pathsOf (read k) (Value v) = readPaths
 pathsOf (read k) Yes = []
 pathsOf (read k) No = []
@@ -159,7 +159,7 @@ pub record Counted (x : Traced) : Type 0 where
   pub row : counts (x .lines) ∈ table
 
 -- what a call is as begun, and what its last step reported: of a history, and of a trace
-abbrev pub finishedReport : Finished → Op × Report
+abbrev pub finishedReport : FinishedCall → Op × Report
 finishedReport f = (f .call .start .op, f .report)
 
 abbrev pub tracedReport : Traced → Op × Report

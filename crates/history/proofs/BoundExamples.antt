@@ -8,7 +8,7 @@ use native.Mathlib.Omega.{arith}
 use lib.ListN.{replicate}
 use borrow.Author.Tests.{ne-eqb}
 use Rattle.history.specs.Basics.{upd, _∈_}
-use Rattle.history.specs.History.{aRead, aSwap, read, swap, Action, begin, step, Event, refused, accepted, Value, Yes, Call, Finished, Calls, noCalls, callsOf}
+use Rattle.history.specs.History.{aRead, aSwap, read, swap, Action, begin, step, Event, refused, accepted, Value, Yes, Call, FinishedCall, Calls, noCalls, callsOf}
 use Rattle.history.specs.History.{finished, pending, WellFormed}
 use Rattle.history.specs.Demand3.{most, mostHard, Reports, Bounds, Unequal, Alone, NoHardware}
 use Rattle.history.proofs.Tracks.{clash, some-inj}
@@ -66,16 +66,16 @@ unfolding upd
 no-swap-of-four-hardware-CAS c = omega (arith, c .unended 0 _ refl .1)
 
 -- RIGHT: document 01's longest calls, a read that decides and a swap that ends at 30 by 25
-abbrev only : Finished → Calls
+abbrev only : FinishedCall → Calls
 only f = record { now = 18; accepted = []; pending = λ t. none; finished = f ∷ [] }
 
-within-bounds : (f : Finished) → (f .call .steps ≤ most (f .call .start .op)) × (f .call .hard ≤ mostHard (f .call .start .op)) → Reports (f .call) (f .report) → Bounds (only f)
+within-bounds : (f : FinishedCall) → (f .call .steps ≤ most (f .call .start .op)) × (f .call .hard ≤ mostHard (f .call .start .op)) → Reports (f .call) (f .report) → Bounds (only f)
 within-bounds f h r = record { ended = ended; reported = reported; unended = λ t c e. absurd (clash refl e) }
   where
-    ended : (g : Finished) → g ∈ (f ∷ []) → (g .call .steps ≤ most (g .call .start .op)) × (g .call .hard ≤ mostHard (g .call .start .op))
+    ended : (g : FinishedCall) → g ∈ (f ∷ []) → (g .call .steps ≤ most (g .call .start .op)) × (g .call .hard ≤ mostHard (g .call .start .op))
     ended g (inl q) = rw q h
 
-    reported : (g : Finished) → g ∈ (f ∷ []) → Reports (g .call) (g .report)
+    reported : (g : FinishedCall) → g ∈ (f ∷ []) → Reports (g .call) (g .report)
     reported g (inl q) = rw q r
 
 pub longest-read : Bounds (only (ended 0 0 (read 0) [] 6 6 1 (Value 5)))
@@ -85,7 +85,7 @@ pub longest-swap : Bounds (only (ended 0 0 (swap 0 5 7) [] 17 17 3 Yes))
 longest-swap = within-bounds _ (omega arith) (record { kind = refl; cell = refl; steps = refl; hard = refl })
 
 -- a swap that is alone, on a clear cell, tries the hardware CAS
-abbrev needless : Finished
+abbrev needless : FinishedCall
 needless = ended 0 0 (swap 0 5 7) [] 1 1 1 Yes
 
 pub no-hardware-CAS-alone : NoHardware (λ l k. Unit {0}) (callsOf ((begin 0 (swap 0 5 7), accepted 0) ∷ (step 0, answers 1 aSwap Yes 1 1) ∷ [])) → ⊥
@@ -109,15 +109,15 @@ beside-equal = (begin 0 (swap 0 5 5), accepted 0) ∷ (begin 1 (swap 0 5 7), acc
 abbrev equal : Call
 equal = record { start = record { at = 0; task = 0; op = swap 0 5 5; before = [] }; last = 0; steps = 0; hard = 0 }
 
-abbrev beside : Finished
+abbrev beside : FinishedCall
 beside = ended 1 1 (swap 0 5 7) (begin 0 (swap 0 5 5) ∷ []) 2 1 1 Yes
 
 pub no-hardware-CAS-beside-an-equal-swap : NoHardware (λ l k. Unit {0}) (callsOf beside-equal) → ⊥
 unfolding upd
 no-hardware-CAS-beside-an-equal-swap h = omega (arith, h (beside .call) 2 (finished beside (inl refl)) tt alone)
   where
-    done : (f : Finished) → f ∈ (beside ∷ []) → (f .call ≡ equal) ⊎ (f .call ≡ beside .call)
-    done f (inl q) = inr (ap (λ (f : Finished). f .call) q)
+    done : (f : FinishedCall) → f ∈ (beside ∷ []) → (f .call ≡ equal) ⊎ (f .call ≡ beside .call)
+    done f (inl q) = inr (ap (λ (f : FinishedCall). f .call) q)
 
     two : TwoCalls (callsOf beside-equal) equal (beside .call)
     two = two-calls (callsOf beside-equal) equal (beside .call) (λ t p q. rw (ne-eqb t 0 p, ne-eqb t 1 q)) (λ e h. some-inj h refl) refl done

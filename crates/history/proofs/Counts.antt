@@ -6,7 +6,7 @@ use mathlib.Core.List.{_∷_}
 use Prim.Native.Nat.{ℕ, _≤_, _<_}
 use native.Mathlib.Omega.{arith}
 use Rattle.history.specs.Basics.{_∈_}
-use Rattle.history.specs.History.{Action, Event, Call, Finished, Calls, enter}
+use Rattle.history.specs.History.{Action, Event, Call, FinishedCall, Calls, enter}
 use Rattle.history.specs.Demand3.{most, mostHard, Reports, Bounds}
 use Rattle.history.proofs.Tracks.{Change, refuses, starts, goes, ends}
 use Rattle.history.proofs.MovesOne.{Dated, last-one, ended-finished}
@@ -15,12 +15,12 @@ use Rattle.history.proofs.MovesOne.{Dated, last-one, ended-finished}
 abbrev pub Within : Calls → Type 0
 Within b = (t : ℕ) (c : Call) → b .pending t ≡ some c → (c .steps < most (c .start .op)) × (c .hard ≤ mostHard (c .start .op))
 
-pub record Ended (f : Finished) : Type 0 where
+pub record Ended (f : FinishedCall) : Type 0 where
   pub few : (f .call .steps ≤ most (f .call .start .op)) × (f .call .hard ≤ mostHard (f .call .start .op))
   pub reported : Reports (f .call) (f .report)
 
 abbrev pub AllEnded : Calls → Type 0
-AllEnded b = (f : Finished) → f ∈ b .finished → Ended f
+AllEnded b = (f : FinishedCall) → f ∈ b .finished → Ended f
 
 pub ended-next : {S : Type 0} {s s' : S} {b : Calls} {a : Action} {e : Event} → Dated b → Within b → AllEnded b → Change s s' b a e → AllEnded (enter b a e)
 ended-next dated within all (refuses q) f i = all f i

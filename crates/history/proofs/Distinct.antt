@@ -6,11 +6,11 @@ use mathlib.Core.List.{List, _∷_, map}
 use Prim.Native.Nat.{ℕ, suc, _<_}
 use native.Mathlib.Omega.{arith}
 use Rattle.history.specs.Basics.{_∈_, Once}
-use Rattle.history.specs.History.{Action, step, Event, answered, Call, Finished, Calls, called, advanced, enter}
+use Rattle.history.specs.History.{Action, step, Event, answered, Call, FinishedCall, Calls, called, advanced, enter}
 use Rattle.history.proofs.Tracks.{clash, some-inj, upd-some, Change, refuses, starts, goes, ends}
 use Rattle.history.proofs.MovesOne.{Dated, last-one, ended-finished}
 
-abbrev pub begun : List Finished → List ℕ
+abbrev pub begun : List FinishedCall → List ℕ
 begun l = map (λ f. f .call .start .at) l
 
 pub record Distinct (b : Calls) : Type 0 where

@@ -7,7 +7,7 @@ use Prim.Native.Nat.{ℕ, zero, suc, _+_, _≤_}
 use native.Mathlib.Omega.{arith}
 use lib.ListN.{replicate}
 use Rattle.history.specs.Basics.{_∈_}
-use Rattle.history.specs.History.{Action, step, Event, refused, accepted, answered, history, run, Call, Finished, Calls, noCalls, advance, advanced, closed, enter, enterAll, callsOf}
+use Rattle.history.specs.History.{Action, step, Event, refused, accepted, answered, history, run, Call, FinishedCall, Calls, noCalls, advance, advanced, closed, enter, enterAll, callsOf}
 use Rattle.history.specs.History.{Allowed, WellFormed}
 use Rattle.history.specs.Demand3.{most, Meets, Finishes}
 use Rattle.history.proofs.Basics.{upd-same}
@@ -58,7 +58,7 @@ module _ {S : Type 0} (machine : S → Action → S × Event) (start : S) where
               done = subst (λ l. r .end ∈ callsAfter l .finished) (append-assoc l (step t ∷ []) (replicate (r .steps) (step t))) (r .done);
             }
         go (answered x r) q f rec =
-            let e : Finished = record { call = advance b x c; report = r } in
+            let e : FinishedCall = record { call = advance b x c; report = r } in
             record {
               steps = 1;
               at-most = omega arith;

@@ -10,7 +10,7 @@ use native.Mathlib.Omega.{arith}
 use lib.Dec.{eqb, T}
 use borrow.Author.Tests.{eq-eqb, ne-eqb}
 use Rattle.history.specs.Basics.{upd, _∈_, Once}
-use Rattle.history.specs.History.{Op, Kind, aRead, aSwap, kindOf, Report, read, swap, Action, begin, step, Event, accepted, answered, Answer, Value, Yes, No, Begin, Call, Finished, Calls, callsOf}
+use Rattle.history.specs.History.{Op, Kind, aRead, aSwap, kindOf, Report, read, swap, Action, begin, step, Event, accepted, answered, Response, Value, Yes, No, CallId, Call, FinishedCall, Calls, callsOf}
 use Rattle.history.specs.History.{CallOf, finished, pending}
 use Rattle.history.specs.Linearization.{reply, apply, Point, replies, Placed, Linearizes}
 use Rattle.history.specs.Demand3.{most, mostHard, Reports, Alone, Demand3}
@@ -31,17 +31,17 @@ abbrev five : ℕ → ℕ
 five k = 5
 
 -- of calls on cell 0
-abbrev pub report : Kind → Answer → (steps hard : ℕ) → Report
+abbrev pub report : Kind → Response → (steps hard : ℕ) → Report
 report k a n h = record { kind = k; cell = 0; answer = a; steps = n; hard = h }
 
-abbrev pub answers : (tried : ℕ) → Kind → Answer → (steps hard : ℕ) → Event
+abbrev pub answers : (tried : ℕ) → Kind → Response → (steps hard : ℕ) → Event
 answers x k a n h = answered x (report k a n h)
 
 abbrev pub TwoCalls : Calls → Call → Call → Type 0
 TwoCalls b c d = (e : Call) (n : ℕ) → CallOf b e n → (e ≡ c) ⊎ (e ≡ d)
 
 pub two-calls : (b : Calls) (c d : Call) → ((t : ℕ) → t ≢ 0 → t ≢ 1 → b .pending t ≡ none) → ((e : Call) → b .pending 0 ≡ some e → e ≡ c) → b .pending 1 ≡ none →
-    ((f : Finished) → f ∈ b .finished → (f .call ≡ c) ⊎ (f .call ≡ d)) → TwoCalls b c d
+    ((f : FinishedCall) → f ∈ b .finished → (f .call ≡ c) ⊎ (f .call ≡ d)) → TwoCalls b c d
 two-calls b c d rest at0 at1 done e n (finished f i) = done f i
 two-calls b c d rest at0 at1 done e n (pending t f h) = go (either t 0) (either t 1)
   where
@@ -104,20 +104,20 @@ module _ {values : ℕ → ℕ} {b : Calls} {l : List Point} (c d : Call) (two :
     where
       go : (p : Placed b (point c m)) → (p .call ≡ c) ⊎ (p .call ≡ d) → (c .start .at < m) × (m ≤ c .last)
       go p (inl q) = subst (λ (c : Call). (c .start .at < m) × (m ≤ c .last)) q (p .after-begin, p .by-last-step)
-      go p (inr q) = absurd (ne (ap (λ (s : Begin). s .at) (p .is ∙ ap (λ (c : Call). c .start) q)))
+      go p (inr q) = absurd (ne (ap (λ (s : CallId). s .at) (p .is ∙ ap (λ (c : Call). c .start) q)))
 
 -- a begin's moment and an answer as one number, so that what a linearization answers is computed
-abbrev code : ℕ → Answer → ℕ
+abbrev code : ℕ → Response → ℕ
 code n (Value v) = n + 100 * (v + 2)
 code n Yes = n + 100
 code n No = n
 
-abbrev said : ℕ → List (Point × Answer) → Bool
+abbrev said : ℕ → List (Point × Response) → Bool
 said k [] = false
 said k (p ∷ l) = cond (eqb k (code (p .0 .call .at) (p .1))) true (said k l)
 
-in-said : (r : List (Point × Answer)) (p : Point × Answer) → p ∈ r → T (said (code (p .0 .call .at) (p .1)) r)
-in-said (q ∷ r) p (inl h) = rw (eq-eqb (code (p .0 .call .at) (p .1)) (code (q .0 .call .at) (q .1)) (ap (λ (p : Point × Answer). code (p .0 .call .at) (p .1)) h)) tt
+in-said : (r : List (Point × Response)) (p : Point × Response) → p ∈ r → T (said (code (p .0 .call .at) (p .1)) r)
+in-said (q ∷ r) p (inl h) = rw (eq-eqb (code (p .0 .call .at) (p .1)) (code (q .0 .call .at) (q .1)) (ap (λ (p : Point × Response). code (p .0 .call .at) (p .1)) h)) tt
 in-said (q ∷ r) p (inr h) = go (eqb (code (p .0 .call .at) (p .1)) (code (q .0 .call .at) (q .1))) (in-said r p h)
   where
     go : (x : Bool) → T (said (code (p .0 .call .at) (p .1)) r) → T (cond x true (said (code (p .0 .call .at) (p .1)) r))
@@ -125,10 +125,10 @@ in-said (q ∷ r) p (inr h) = go (eqb (code (p .0 .call .at) (p .1)) (code (q .0
     go false i = i
 
 -- a finished call's answer is among those of the linearization
-must : {values : ℕ → ℕ} {b : Calls} {l : List Point} → Linearizes values b l → (f : Finished) → f ∈ b .finished → T (said (code (f .call .start .at) (f .report .answer)) (replies values l))
+must : {values : ℕ → ℕ} {b : Calls} {l : List Point} → Linearizes values b l → (f : FinishedCall) → f ∈ b .finished → T (said (code (f .call .start .at) (f .report .answer)) (replies values l))
 must {values} {l = l} r f i =
     let a = r .answers f i in
-    subst (λ (s : Begin). T (said (code (s .at) (f .report .answer)) (replies values l))) (a .1) (in-said (replies values l) (a .0, f .report .answer) (a .4))
+    subst (λ (s : CallId). T (said (code (s .at) (f .report .answer)) (replies values l))) (a .1) (in-said (replies values l) (a .0, f .report .answer) (a .4))
 
 -- A LATE SWAP THAT HALTS
 
@@ -148,7 +148,7 @@ halted = record { start = record { at = 0; task = 0; op = swap 0 5 7; before = [
 abbrev decider : Call
 decider = record { start = record { at = 1; task = 1; op = swap 0 5 9; before = begin 0 (swap 0 5 7) ∷ [] }; last = 16; steps = 7; hard = 1 }
 
-abbrev decided : Finished
+abbrev decided : FinishedCall
 decided = record { call = decider; report = report aSwap No 7 1 }
 
 its-calls : (callsOf late-swap .pending 0 ≡ some halted) × (callsOf late-swap .pending 1 ≡ none) × (callsOf late-swap .finished ≡ decided ∷ []) × (callsOf late-swap .now ≡ 17)
@@ -159,8 +159,8 @@ late-two : TwoCalls (callsOf late-swap) halted decider
 unfolding upd
 late-two = two-calls (callsOf late-swap) halted decider (λ t p q. rw (ne-eqb t 0 p, ne-eqb t 1 q)) (λ e h. some-inj h refl) refl done
   where
-    done : (f : Finished) → f ∈ (decided ∷ []) → (f .call ≡ halted) ⊎ (f .call ≡ decider)
-    done f (inl q) = inr (ap (λ (f : Finished). f .call) q)
+    done : (f : FinishedCall) → f ∈ (decided ∷ []) → (f .call ≡ halted) ⊎ (f .call ≡ decider)
+    done f (inl q) = inr (ap (λ (f : FinishedCall). f .call) q)
 
 late-done : decided ∈ callsOf late-swap .finished
 unfolding upd
@@ -181,7 +181,7 @@ late-linearizes m low high = record { sorted = (first, ((λ x i. absurd i), tt))
     placed x (inl q) = rw q (record { call = halted; end = 17; of-history = pending 0 halted refl; is = refl; after-begin = low; by-last-step = high })
     placed x (inr (inl q)) = rw q (record { call = decider; end = 16; of-history = finished decided (inl refl); is = refl; after-begin = omega arith; by-last-step = omega arith })
 
-    answers : (f : Finished) → f ∈ (decided ∷ []) →
+    answers : (f : FinishedCall) → f ∈ (decided ∷ []) →
         (e : Point) × (e .call ≡ f .call .start) × (f .call .start .at < e .moment) × (e .moment ≤ f .call .last) × ((e, f .report .answer) ∈ replies five (point halted m ∷ point decider 15 ∷ []))
     answers f (inl q) = rw q (point decider 15, refl, omega arith, omega arith, inr (inl refl))
 
@@ -205,10 +205,10 @@ late-swap-meets-demand-3 = record {
   };
 }
   where
-    ended : (f : Finished) → f ∈ (decided ∷ []) → (f .call .steps ≤ most (f .call .start .op)) × (f .call .hard ≤ mostHard (f .call .start .op))
+    ended : (f : FinishedCall) → f ∈ (decided ∷ []) → (f .call .steps ≤ most (f .call .start .op)) × (f .call .hard ≤ mostHard (f .call .start .op))
     ended f (inl q) = rw q (omega arith)
 
-    reported : (f : Finished) → f ∈ (decided ∷ []) → Reports (f .call) (f .report)
+    reported : (f : FinishedCall) → f ∈ (decided ∷ []) → Reports (f .call) (f .report)
     reported f (inl q) = rw q (record { kind = refl; cell = refl; steps = refl; hard = refl })
 
     unended : (c : Call) → (c ≡ halted) ⊎ (c ≡ decider) → (c .steps < most (c .start .op)) × (c .hard ≤ mostHard (c .start .op))
@@ -259,7 +259,7 @@ pub no-call-twice : (values : ℕ → ℕ) (b : Calls) (c : Call) (m n : ℕ) (x
 no-call-twice values b c m n xs ys i r = not-again xs ys (point c m) (point c n) (r .once) i refl
 
 pub no-effect-at-the-begin : (values : ℕ → ℕ) (b : Calls) (l : List Point) (x : Point) → x ∈ l → x .moment ≤ x .call .at → Linearizes values b l → ⊥
-no-effect-at-the-begin values b l x i q r = let p = r .placed x i in omega (arith, p .after-begin, ap (λ (s : Begin). s .at) (p .is))
+no-effect-at-the-begin values b l x i q r = let p = r .placed x i in omega (arith, p .after-begin, ap (λ (s : CallId). s .at) (p .is))
 
 -- RIGHT: a swap changes its own cell and no other
 pub its-own-cell : apply five (swap 1 5 7) 1 ≡ 7
@@ -281,25 +281,25 @@ equal-swap-changes-nothing = refl
 -- WRONG ANSWERS: no linearization has them
 
 -- a call of one step or more, finished as reported
-abbrev pub ended : (begun task : ℕ) → Op → List Action → (last steps hard : ℕ) → Answer → Finished
+abbrev pub ended : (begun task : ℕ) → Op → List Action → (last steps hard : ℕ) → Response → FinishedCall
 ended n t op l last steps hard a = record {
   call = record { start = record { at = n; task = t; op = op; before = l }; last = last; steps = steps; hard = hard };
   report = report (kindOf op) a steps hard;
 }
 
 -- all calls of the history are finished, and they are f and g
-pub both-ended : (b : Calls) (f g : Finished) → ((t : ℕ) → t ≢ 0 → t ≢ 1 → b .pending t ≡ none) → b .pending 0 ≡ none → b .pending 1 ≡ none →
-    ((h : Finished) → h ∈ b .finished → (h ≡ f) ⊎ (h ≡ g)) → TwoCalls b (f .call) (g .call)
+pub both-ended : (b : Calls) (f g : FinishedCall) → ((t : ℕ) → t ≢ 0 → t ≢ 1 → b .pending t ≡ none) → b .pending 0 ≡ none → b .pending 1 ≡ none →
+    ((h : FinishedCall) → h ∈ b .finished → (h ≡ f) ⊎ (h ≡ g)) → TwoCalls b (f .call) (g .call)
 both-ended b f g rest at0 at1 all = two-calls b (f .call) (g .call) rest (λ e h. absurd (clash at0 h)) at1 (λ h i. go h (all h i))
   where
-    go : (h : Finished) → (h ≡ f) ⊎ (h ≡ g) → (h .call ≡ f .call) ⊎ (h .call ≡ g .call)
-    go h (inl q) = inl (ap (λ (f : Finished). f .call) q)
-    go h (inr q) = inr (ap (λ (f : Finished). f .call) q)
+    go : (h : FinishedCall) → (h ≡ f) ⊎ (h ≡ g) → (h .call ≡ f .call) ⊎ (h .call ≡ g .call)
+    go h (inl q) = inl (ap (λ (f : FinishedCall). f .call) q)
+    go h (inr q) = inr (ap (λ (f : FinishedCall). f .call) q)
 
-pub one-of : (f : Finished) (h : Finished) → h ∈ (f ∷ []) → (h ≡ f) ⊎ (h ≡ f)
+pub one-of : (f : FinishedCall) (h : FinishedCall) → h ∈ (f ∷ []) → (h ≡ f) ⊎ (h ≡ f)
 one-of f h (inl q) = inl q
 
-pub two-of : (f g : Finished) (h : Finished) → h ∈ (g ∷ f ∷ []) → (h ≡ f) ⊎ (h ≡ g)
+pub two-of : (f g : FinishedCall) (h : FinishedCall) → h ∈ (g ∷ f ∷ []) → (h ≡ f) ⊎ (h ≡ g)
 two-of f g h (inl q) = inr q
 two-of f g h (inr (inl q)) = inl q
 
@@ -307,7 +307,7 @@ two-of f g h (inr (inl q)) = inl q
 abbrev odd-read : List (Action × Event)
 odd-read = (begin 0 (read 0), accepted 0) ∷ (step 0, accepted 0) ∷ (step 0, accepted 0) ∷ (step 0, answers 0 aRead (Value 6) 3 0) ∷ []
 
-abbrev odd : Finished
+abbrev odd : FinishedCall
 odd = ended 0 0 (read 0) [] 3 3 0 (Value 6)
 
 pub no-value-never-held : (l : List Point) → Linearizes five (callsOf odd-read) l → ⊥
@@ -325,7 +325,7 @@ no-value-never-held l r = go l (must r odd (inl refl)) (shape (odd .call) (odd .
 abbrev lone-no : List (Action × Event)
 lone-no = (begin 0 (swap 0 5 7), accepted 0) ∷ (step 0, answers 0 aSwap No 1 0) ∷ []
 
-abbrev refusal : Finished
+abbrev refusal : FinishedCall
 refusal = ended 0 0 (swap 0 5 7) [] 1 1 0 No
 
 pub no-spurious-no : (l : List Point) → Linearizes five (callsOf lone-no) l → ⊥
@@ -346,10 +346,10 @@ no-spurious-no l r = go l (must r refusal (inl refl)) (shape (refusal .call) (re
 abbrev two-winners : List (Action × Event)
 two-winners = (begin 0 (swap 0 5 7), accepted 0) ∷ (begin 1 (swap 0 5 9), accepted 0) ∷ (step 0, answers 0 aSwap Yes 1 0) ∷ (step 1, answers 0 aSwap Yes 1 0) ∷ []
 
-abbrev winner : Finished
+abbrev winner : FinishedCall
 winner = ended 0 0 (swap 0 5 7) [] 2 1 0 Yes
 
-abbrev second-winner : Finished
+abbrev second-winner : FinishedCall
 second-winner = ended 1 1 (swap 0 5 9) (begin 0 (swap 0 5 7) ∷ []) 3 1 0 Yes
 
 pub no-two-winners : (l : List Point) → Linearizes five (callsOf two-winners) l → ⊥
@@ -370,10 +370,10 @@ no-two-winners l r = go l (must r winner (inr (inl refl))) (must r second-winner
 abbrev stale-read : List (Action × Event)
 stale-read = (begin 0 (swap 0 5 7), accepted 0) ∷ (step 0, answers 0 aSwap Yes 1 0) ∷ (begin 1 (read 0), accepted 0) ∷ (step 1, answers 0 aRead (Value 5) 1 0) ∷ []
 
-abbrev changer : Finished
+abbrev changer : FinishedCall
 changer = ended 0 0 (swap 0 5 7) [] 1 1 0 Yes
 
-abbrev stale : Finished
+abbrev stale : FinishedCall
 stale = ended 2 1 (read 0) (begin 0 (swap 0 5 7) ∷ step 0 ∷ []) 3 1 0 (Value 5)
 
 pub no-stale-read : (l : List Point) → Linearizes five (callsOf stale-read) l → ⊥
@@ -394,6 +394,6 @@ no-stale-read l r = go l r (must r changer (inr (inl refl))) (must r stale (inl 
           arith,
           r .sorted .0 (point (changer .call) m) (inl refl),
           p .after-begin,
-          ap (λ (s : Begin). s .at) (p .is),
+          ap (λ (s : CallId). s .at) (p .is),
           within-c (changer .call) (stale .call) two r (λ q. omega arith) m (inr (inl refl)) .1,
         )

@@ -7,21 +7,21 @@ use Prim.Native.Nat.{ℕ, suc, _≤_, _<_}
 use native.Mathlib.Omega.{arith}
 use lib.Dec.{eqb, ltb, T}
 use borrow.Author.Tests.{eq-eqb, ne-eqb, lt-ltb, le-ltb}
-use Rattle.history.specs.History.{Answer}
+use Rattle.history.specs.History.{Response}
 use Rattle.history.specs.Linearization.{reply, after, Point}
 use Rattle.history.specs.Moments.{changes}
 use Rattle.history.proofs.Basics.{either}
 use Rattle.history.proofs.Timeline.{le-or-lt, calm-after, after-calm, cell, found, Right, Cause, Timeline}
 
 -- the calls E', with their answers, are E and the call e with the answer a
-pub record Joins (E E' : Point → Answer → Type 0) (e : Point) (a : Answer) : Type 0 where
-  pub old : (x : Point) (b : Answer) → E x b → E' x b
+pub record Joins (E E' : Point → Response → Type 0) (e : Point) (a : Response) : Type 0 where
+  pub old : (x : Point) (b : Response) → E x b → E' x b
   pub new : E' e a
-  pub split : (x : Point) (b : Answer) → E' x b → ((x ≡ e) × (b ≡ a)) ⊎ E x b
+  pub split : (x : Point) (b : Response) → E' x b → ((x ≡ e) × (b ≡ a)) ⊎ E x b
 
-module _ {values : ℕ → ℕ} {past : ℕ → ℕ → ℕ} {E E' : Point → Answer → Type 0} (L : Timeline values past E) where
+module _ {values : ℕ → ℕ} {past : ℕ → ℕ → ℕ} {E E' : Point → Response → Type 0} (L : Timeline values past E) where
   -- the same calls
-  pub regarded : ((x : Point) (b : Answer) → E x b → E' x b) → ((x : Point) (b : Answer) → E' x b → E x b) → Timeline values past E'
+  pub regarded : ((x : Point) (b : Response) → E x b → E' x b) → ((x : Point) (b : Response) → E' x b → E x b) → Timeline values past E'
   regarded to from = record {
     first = L .first;
     right = λ x b i. L .right x b (from x b i);
@@ -33,11 +33,11 @@ module _ {values : ℕ → ℕ} {past : ℕ → ℕ → ℕ} {E E' : Point → A
       go k n (inl z) = inl z
       go k n (inr c) = inr (record { point = c .point; answer = c .answer; is = to (c .point) (c .answer) (c .is); change = c .change; on = c .on; at = c .at })
 
-module _ {values : ℕ → ℕ} {past : ℕ → ℕ → ℕ} {E E' : Point → Answer → Type 0} (L : Timeline values past E) (e : Point) (a : Answer) (J : Joins E E' e a) where
+module _ {values : ℕ → ℕ} {past : ℕ → ℕ → ℕ} {E E' : Point → Response → Type 0} (L : Timeline values past E) (e : Point) (a : Response) (J : Joins E E' e a) where
   old-cause : {k n : ℕ} → Cause E k n → Cause E' k n
   old-cause c = record { point = c .point; answer = c .answer; is = J .old (c .point) (c .answer) (c .is); change = c .change; on = c .on; at = c .at }
 
-  both-ways : (past' : ℕ → ℕ → ℕ) → Right past' e a → ((x : Point) (b : Answer) → E x b → Right past' x b) → (x : Point) (b : Answer) → E' x b → Right past' x b
+  both-ways : (past' : ℕ → ℕ → ℕ) → Right past' e a → ((x : Point) (b : Response) → E x b → Right past' x b) → (x : Point) (b : Response) → E' x b → Right past' x b
   both-ways past' new old x b i = go (J .split x b i)
     where
       go : ((x ≡ e) × (b ≡ a)) ⊎ E x b → Right past' x b
@@ -45,12 +45,12 @@ module _ {values : ℕ → ℕ} {past : ℕ → ℕ → ℕ} {E E' : Point → A
       go (inr j) = old x b j
 
   -- the new call shares its moment and cell with no old change, unless it changes nothing
-  one-each : ((x : Point) (b : Answer) → E x b → T (changes (x .call .op) b) → T (changes (e .call .op) a) → cell x ≡ cell e → x .moment ≡ e .moment → ⊥) →
-      (x y : Point) (b c : Answer) → E' x b → E' y c → T (changes (x .call .op) b) → T (changes (y .call .op) c) → cell x ≡ cell y → x .moment ≡ y .moment → x .call .at ≡ y .call .at
+  one-each : ((x : Point) (b : Response) → E x b → T (changes (x .call .op) b) → T (changes (e .call .op) a) → cell x ≡ cell e → x .moment ≡ e .moment → ⊥) →
+      (x y : Point) (b c : Response) → E' x b → E' y c → T (changes (x .call .op) b) → T (changes (y .call .op) c) → cell x ≡ cell y → x .moment ≡ y .moment → x .call .at ≡ y .call .at
   one-each apart x y b c i j z w q n = go (J .split x b i) (J .split y c j)
     where
-      changes-too : (x : Point) (b : Answer) → x ≡ e → b ≡ a → T (changes (x .call .op) b) → T (changes (e .call .op) a)
-      changes-too x b p q z = subst (λ (b : Answer). T (changes (e .call .op) b)) q (subst (λ (x : Point). T (changes (x .call .op) b)) p z)
+      changes-too : (x : Point) (b : Response) → x ≡ e → b ≡ a → T (changes (x .call .op) b) → T (changes (e .call .op) a)
+      changes-too x b p q z = subst (λ (b : Response). T (changes (e .call .op) b)) q (subst (λ (x : Point). T (changes (x .call .op) b)) p z)
 
       moment : Point → ℕ
       moment x = x .moment
@@ -106,8 +106,8 @@ pub since-after : (past : ℕ → ℕ → ℕ) (k m v j n : ℕ) → j ≡ k →
 unfolding since
 since-after past k m v j n e h = rw (eq-eqb j k e, lt-ltb m n h)
 
-module _ {values : ℕ → ℕ} {past : ℕ → ℕ → ℕ} {E E' : Point → Answer → Type 0} (L : Timeline values past E) (e : Point) (a : Answer) (J : Joins E E' e a) (v : ℕ)
-    (is : (n : ℕ) → e .moment ≤ n → past (cell e) n ≡ v) (says : reply v (e .call .op) ≡ a) (last : (x : Point) (b : Answer) → E x b → cell x ≡ cell e → x .moment < e .moment) where
+module _ {values : ℕ → ℕ} {past : ℕ → ℕ → ℕ} {E E' : Point → Response → Type 0} (L : Timeline values past E) (e : Point) (a : Response) (J : Joins E E' e a) (v : ℕ)
+    (is : (n : ℕ) → e .moment ≤ n → past (cell e) n ≡ v) (says : reply v (e .call .op) ≡ a) (last : (x : Point) (b : Response) → E x b → cell x ≡ cell e → x .moment < e .moment) where
   abbrev k : ℕ
   k = cell e
 
@@ -121,14 +121,14 @@ module _ {values : ℕ → ℕ} {past : ℕ → ℕ → ℕ} {E E' : Point → A
   past⁺ = since past k m v⁺
 
   -- what an old call looks at stays
-  kept : (x : Point) (b : Answer) → E x b → (n : ℕ) → n ≤ suc (x .moment) → past⁺ (cell x) n ≡ past (cell x) n
+  kept : (x : Point) (b : Response) → E x b → (n : ℕ) → n ≤ suc (x .moment) → past⁺ (cell x) n ≡ past (cell x) n
   kept x b i n h = go (either (cell x) k)
     where
       go : (cell x ≡ k) ⊎ (cell x ≢ k) → past⁺ (cell x) n ≡ past (cell x) n
       go (inl q) = since-before past k m v⁺ (cell x) n (omega (arith, last x b i q))
       go (inr q) = since-other past k m v⁺ (cell x) n q
 
-  old-right : (x : Point) (b : Answer) → E x b → Right past⁺ x b
+  old-right : (x : Point) (b : Response) → E x b → Right past⁺ x b
   old-right x b i =
       let r = L .right x b i in
       let f = kept x b i (found x b) (most (changes (x .call .op) b)) in

@@ -9,7 +9,7 @@ use Prim.Native.Nat.{ℕ, _≤_, _<_}
 use native.Mathlib.Omega.{arith}
 use lib.Dec.{T, T-not}
 use Rattle.history.specs.Basics.{upd, _∈_}
-use Rattle.history.specs.History.{Op, cellOf, Answer, Yes, Begin, Call, Finished, Calls}
+use Rattle.history.specs.History.{Op, cellOf, Response, Yes, CallId, Call, FinishedCall, Calls}
 use Rattle.history.specs.Linearization.{reply, after, apply, Point}
 use Rattle.history.specs.Moments.{Mark, pointOf}
 use Rattle.history.proofs.Basics.{either, upd-at, upd-same, upd-off}
@@ -28,12 +28,12 @@ abbrev pub point : Call → ℕ → Point
 point c m = record { moment = m; call = c .start }
 
 -- the finished ones, by their marks, and the pending swaps that are placed
-pub data Entry (placed : ℕ → Bool) (when : ℕ → ℕ) (pending : ℕ → Option Call) (ms : List Mark) : Point → Answer → Type 0 where
+pub data Entry (placed : ℕ → Bool) (when : ℕ → ℕ) (pending : ℕ → Option Call) (ms : List Mark) : Point → Response → Type 0 where
   of-finished : (m : Mark) → m ∈ ms → Entry placed when pending ms (pointOf m) (m .answer)
   of-pending : (t : ℕ) (c : Call) → pending t ≡ some c → T (placed t) → Entry placed when pending ms (point c (when t)) Yes
 
 -- a finished call's mark
-pub record MarkOf (f : Finished) (m : Mark) : Type 0 where
+pub record MarkOf (f : FinishedCall) (m : Mark) : Type 0 where
   pub call : m .call ≡ f .call .start
   pub answer : m .answer ≡ f .report .answer
   pub begun : f .call .start .at < m .spot .moment
@@ -41,7 +41,7 @@ pub record MarkOf (f : Finished) (m : Mark) : Type 0 where
   pub sided : Sided (m .call .op) (m .answer) (m .spot)
 
 -- the marks are those of the finished calls, one for each
-abbrev pub Marked : List Finished → List Mark → Type 0
+abbrev pub Marked : List FinishedCall → List Mark → Type 0
 Marked [] [] = Unit {0}
 Marked [] (m ∷ l) = ⊥
 Marked (f ∷ k) [] = ⊥
@@ -61,7 +61,7 @@ pub record Late (placed : ℕ → Bool) (froze : ℕ → ℕ) (pending : ℕ →
 pub record Kept (values : ℕ → ℕ) (g : Ghost) (b : Calls) (past : ℕ → ℕ → ℕ) (firm : ℕ → ℕ) (ms : List Mark) : Type 0 where
   pub line : Timeline values past (Entry (g .placed) (g .when) (b .pending) ms)
   pub ends : (k n : ℕ) → firm k ≤ n → past k n ≡ g .cells k
-  pub firmed : (e : Point) (a : Answer) → Entry (g .placed) (g .when) (b .pending) ms e a → e .moment < firm (cell e)
+  pub firmed : (e : Point) (a : Response) → Entry (g .placed) (g .when) (b .pending) ms e a → e .moment < firm (cell e)
   pub bound : (k : ℕ) → firm k ≤ b .now
   pub marked : Marked (b .finished) ms
   pub stands : (t : ℕ) (c : Call) → b .pending t ≡ some c → T (g .placed t) → (c .start .at < g .when t) × (g .when t ≤ c .last)
@@ -84,12 +84,12 @@ module _ {values : ℕ → ℕ} {g : Ghost} {b : Calls} {past : ℕ → ℕ → 
     firmed = λ e a i. k .firmed e a (from e a i);
     bound = λ j. omega (arith, k .bound j, m .later);
     marked = marked;
-    stands = λ u d h p. let c = was u d h p in let s = k .stands u (c .0) (c .1) (subst T (old u (c .0) (c .1)) p) in omega (arith, ap (λ (s : Begin). s .at) (c .2 .start), c .2 .last);
+    stands = λ u d h p. let c = was u d h p in let s = k .stands u (c .0) (c .1) (subst T (old u (c .0) (c .1)) p) in omega (arith, ap (λ (s : CallId). s .at) (c .2 .start), c .2 .last);
     lates = λ j u h. let p = k .lates j u h in let d = is u (p .call) (p .busy) in record {
       call = d .0;
       busy = d .1;
-      on = subst (λ (s : Begin). cellOf (s .op) ≡ j) (d .2 .start) (p .on);
-      begun = omega (arith, p .begun, ap (λ (s : Begin). s .at) (d .2 .start));
+      on = subst (λ (s : CallId). cellOf (s .op) ≡ j) (d .2 .start) (p .on);
+      begun = omega (arith, p .begun, ap (λ (s : CallId). s .at) (d .2 .start));
       stepped = omega (arith, p .stepped, d .2 .last);
       unplaced = subst (λ x. T (not x)) (sym (old u (p .call) (p .busy))) (p .unplaced);
     };
@@ -110,14 +110,14 @@ module _ {values : ℕ → ℕ} {g : Ghost} {b : Calls} {past : ℕ → ℕ → 
           go (inr i) = absurd (T-not (placed u) (new u d h (i .0)) p)
 
       -- a pending call's entry, by its begin
-      At : (ℕ → Bool) → (ℕ → Option Call) → ℕ → Begin → Type 0
+      At : (ℕ → Bool) → (ℕ → Option Call) → ℕ → CallId → Type 0
       At p q u s = Entry p (g .when) q ms (record { moment = g .when u; call = s }) Yes
 
-      to : (e : Point) (a : Answer) → Entry (g .placed) (g .when) (b .pending) ms e a → Entry placed (g .when) (b' .pending) ms e a
+      to : (e : Point) (a : Response) → Entry (g .placed) (g .when) (b .pending) ms e a → Entry placed (g .when) (b' .pending) ms e a
       to e a (of-finished x i) = of-finished x i
       to e a (of-pending u c h p) = let d = is u c h in subst (At placed (b' .pending) u) (sym (d .2 .start)) (of-pending u (d .0) (d .1) (subst T (sym (old u c h)) p))
 
-      from : (e : Point) (a : Answer) → Entry placed (g .when) (b' .pending) ms e a → Entry (g .placed) (g .when) (b .pending) ms e a
+      from : (e : Point) (a : Response) → Entry placed (g .when) (b' .pending) ms e a → Entry (g .placed) (g .when) (b .pending) ms e a
       from e a (of-finished x i) = of-finished x i
       from e a (of-pending u d h p) = let c = was u d h p in subst (At (g .placed) (b .pending) u) (c .2 .start) (of-pending u (c .0) (c .1) (subst T (old u (c .0) (c .1)) p))
 
@@ -158,14 +158,14 @@ module _ {values : ℕ → ℕ} {g : Ghost} {b : Calls} {past : ℕ → ℕ → 
     joins : Joins (Entry (g .placed) (g .when) (b .pending) ms) (Entry placed⁺ when⁺ (b .pending) ms) (point c m) Yes
     joins = record { old = old; new = new; split = split }
       where
-        old : (e : Point) (a : Answer) → Entry (g .placed) (g .when) (b .pending) ms e a → Entry placed⁺ when⁺ (b .pending) ms e a
+        old : (e : Point) (a : Response) → Entry (g .placed) (g .when) (b .pending) ms e a → Entry placed⁺ when⁺ (b .pending) ms e a
         old e a (of-finished x i) = of-finished x i
         old e a (of-pending t d h p) = let n = other t p in subst (λ j. Entry placed⁺ when⁺ (b .pending) ms (point d j) Yes) (upd-off (g .when) u m t n) (of-pending t d h (subst T (sym (upd-off (g .placed) u true t n)) p))
 
         new : Entry placed⁺ when⁺ (b .pending) ms (point c m) Yes
         new = subst (λ j. Entry placed⁺ when⁺ (b .pending) ms (point c j) Yes) (upd-same (g .when) u m) (of-pending u c busy (subst T (sym (upd-same (g .placed) u true)) tt))
 
-        split : (e : Point) (a : Answer) → Entry placed⁺ when⁺ (b .pending) ms e a → ((e ≡ point c m) × (a ≡ Yes)) ⊎ Entry (g .placed) (g .when) (b .pending) ms e a
+        split : (e : Point) (a : Response) → Entry placed⁺ when⁺ (b .pending) ms e a → ((e ≡ point c m) × (a ≡ Yes)) ⊎ Entry (g .placed) (g .when) (b .pending) ms e a
         split e a (of-finished x i) = inr (of-finished x i)
         split e a (of-pending t d h p) = go (either t u)
           where
@@ -190,7 +190,7 @@ module _ {values : ℕ → ℕ} {g : Ghost} {b : Calls} {past : ℕ → ℕ → 
         ends j n h (inl e) = since-after past (cell-of c) m _ j n e (omega (arith, ap firm' e)) ∙ ap (λ i. after (g .cells i) op) (sym e) ∙ sym (apply-at (g .cells) op j e)
         ends j n h (inr e) = since-other past (cell-of c) m _ j n e ∙ k .ends j n (omega (arith, up j .0)) ∙ sym (apply-off (g .cells) op j e)
 
-        firmed : (e : Point) (a : Answer) → ((e ≡ point c m) × (a ≡ Yes)) ⊎ Entry (g .placed) (g .when) (b .pending) ms e a → e .moment < firm' (cell e)
+        firmed : (e : Point) (a : Response) → ((e ≡ point c m) × (a ≡ Yes)) ⊎ Entry (g .placed) (g .when) (b .pending) ms e a → e .moment < firm' (cell e)
         firmed e a (inl q) = subst (λ (e : Point). e .moment < firm' (cell e)) (sym (q .0)) below
         firmed e a (inr i) = omega (arith, k .firmed e a i, up (cell e) .0)
 

@@ -5,7 +5,7 @@ use mathlib.Core.Option.{Option, some}
 use mathlib.Core.List.{List, [], _∷_, _++_}
 use Prim.Native.Nat.{ℕ, suc, _<_}
 use native.Mathlib.Omega.{arith}
-use Rattle.history.specs.History.{cellOf, Action, begin, step, Event, refused, accepted, answered, Answer, Begin, Call, Calls, noCalls, enter}
+use Rattle.history.specs.History.{cellOf, Action, begin, step, Event, refused, accepted, answered, Response, CallId, Call, Calls, noCalls, enter}
 use Rattle.history.specs.Moments.{Spot, Mark, markOf, marked, Names, beside}
 use Rattle.history.proofs.Simulation.{settled, Ghost, fresh, Knowledge, Move, shift, unplaced, Tally, May, Sided, Why, Keeps, Moves, Forward, Simulation}
 use Rattle.history.proofs.Tracks.{some-inj, tallied, tallyOf, call-of, Tracks, Change, refuses, starts, goes, ends}
@@ -46,7 +46,7 @@ module _ {S N : Type 0} {machine : S → Action → S × Event} {note : N → S 
     };
   }
     where
-      nobody : (e : _) (a : Answer) → Entry (fresh values .placed) (fresh values .when) (noCalls .pending) [] e a → ⊥
+      nobody : (e : _) (a : Response) → Entry (fresh values .placed) (fresh values .when) (noCalls .pending) [] e a → ⊥
       nobody e a (of-finished m i) = i
       nobody e a (of-pending t c h p) = p
 
@@ -83,20 +83,20 @@ module _ {S N : Type 0} {machine : S → Action → S × Event} {note : N → S 
             let k = cell-of c in (
               d .0,
               d .1,
-              subst (λ (r : Begin). Seen (o .later) (firm g' (b' .now)) r i v) (same-begin m u c (d .0) j (d .1))
+              subst (λ (r : CallId). Seen (o .later) (firm g' (b' .now)) r i v) (same-begin m u c (d .0) j (d .1))
                   (record { after-begin = p .after-begin; is-firm = omega (arith, p .is-firm, o .up k); at = o .stays k (suc i) (omega (arith, p .is-firm)) ∙ p .at }),
             )
 
         early : (u : ℕ) (n n' : Tally) → doing s u ≡ some n → doing s' u ≡ some n' → known .early u → known' .early u
         early u n n' h h' (c, j, p) =
             let d = call-now u n' h' in
-            (d .0, d .1, subst (λ (r : Begin). r .at < firm g' (b' .now) (cellOf (r .op))) (same-begin m u c (d .0) j (d .1)) (omega (arith, o .up (cell-of c))))
+            (d .0, d .1, subst (λ (r : CallId). r .at < firm g' (b' .now) (cellOf (r .op))) (same-begin m u c (d .0) j (d .1)) (omega (arith, o .up (cell-of c))))
 
         sees : (u : ℕ) (n n' : Tally) → doing s u ≡ some n → doing s' u ≡ some n' → g' .phase (cellOf (n' .op)) ≡ settled → known' .saw u (M .clock s) (g' .cells (cellOf (n' .op)))
         sees u n n' h h' f = rw (G .clock)
             (let c = call-of (b .pending u) n (sym (same u) ∙ h) in
             let d = call-now u n' h' in
-            let q = ap (λ (r : Begin). r .at) (same-begin m u (c .0) (d .0) (c .1) (d .1)) in
+            let q = ap (λ (r : CallId). r .at) (same-begin m u (c .0) (d .0) (c .1) (d .1)) in
             let e = ap (λ (n : Tally). cellOf (n .op)) (d .2) in
             let k = o .kept .bound (cell-of (d .0)) in (
               d .0,

@@ -8,7 +8,7 @@ use Prim.Native.Nat.{ℕ, zero, suc, _<_}
 use native.Mathlib.Omega.{arith}
 use lib.Dec.{T}
 use Rattle.history.specs.Basics.{_∈_, Once}
-use Rattle.history.specs.History.{Action, Event, history, Answer, Yes, Call, Finished, Calls, noCalls, callsOf, pending, finished}
+use Rattle.history.specs.History.{Action, Event, history, Response, Yes, Call, FinishedCall, Calls, noCalls, callsOf, pending, finished}
 use Rattle.history.specs.Linearization.{Point, replies, Placed, Linearizes}
 use Rattle.history.specs.Moments.{before, itself, Spot, Mark, pointOf, replyOf, Names, beside, markOfPending, pendingMarks, sort, linearized}
 use Rattle.history.proofs.Basics.{either}
@@ -60,16 +60,16 @@ point-begins (m ∷ l) = ap (λ n. m .call .at ∷ n) (point-begins l)
 
 -- MARKS OF FINISHED CALLS
 
-mark-of : (k : List Finished) (l : List Mark) → Marked k l → (f : Finished) → f ∈ k → (m : Mark) × (m ∈ l) × MarkOf f m
+mark-of : (k : List FinishedCall) (l : List Mark) → Marked k l → (f : FinishedCall) → f ∈ k → (m : Mark) × (m ∈ l) × MarkOf f m
 mark-of (g ∷ k) (m ∷ l) M f (inl e) = (m, inl refl, rw e (M .0))
 mark-of (g ∷ k) (m ∷ l) M f (inr i) = let r = mark-of k l (M .1) f i in (r .0, inr (r .1), r .2)
 
-of-mark : (k : List Finished) (l : List Mark) → Marked k l → (m : Mark) → m ∈ l → (f : Finished) × (f ∈ k) × MarkOf f m
+of-mark : (k : List FinishedCall) (l : List Mark) → Marked k l → (m : Mark) → m ∈ l → (f : FinishedCall) × (f ∈ k) × MarkOf f m
 of-mark [] (x ∷ l) M m i = absurd M
 of-mark (f ∷ k) (x ∷ l) M m (inl e) = (f, inl refl, rw e (M .0))
 of-mark (f ∷ k) (x ∷ l) M m (inr i) = let r = of-mark k l (M .1) m i in (r .0, inr (r .1), r .2)
 
-same-begins : (k : List Finished) (l : List Mark) → Marked k l → begins l ≡ begun k
+same-begins : (k : List FinishedCall) (l : List Mark) → Marked k l → begins l ≡ begun k
 same-begins [] [] M = refl
 same-begins (f ∷ k) (m ∷ l) M = ap (λ n. n ∷ begins l) (ap (λ s. s .at) (M .0 .call)) ∙ ap (λ n. f .call .start .at ∷ n) (same-begins k l (M .1))
 
@@ -150,7 +150,7 @@ module _ {S N : Type 0} {machine : S → Action → S × Event} {note : N → S 
   abbrev waiting : List Mark
   waiting = pendingMarks (beside machine note) names x b tasks
 
-  abbrev E : Point → Answer → Type 0
+  abbrev E : Point → Response → Type 0
   E = Entry (m .ghost .placed) (m .ghost .when) (b .pending) (r .finished)
 
   doing : (t : ℕ) (c : Call) → b .pending t ≡ some c → M .doing (x .0) t ≡ some (tallied c)
@@ -197,7 +197,7 @@ module _ {S N : Type 0} {machine : S → Action → S × Event} {note : N → S 
           subst (λ (w : Mark). E (pointOf w) (w .answer)) (sym (y .2 .is)) (subst (λ n. E (point (y .2 .call) n) Yes) (sym (f .when)) (of-pending (y .0) (y .2 .call) (y .2 .busy) (f .placed)))
       theirs w (inr i) = of-finished w i
 
-      all : (e : Point) (a : Answer) → E e a → (w : Mark) × (w ∈ (waiting ++ r .finished)) × (e ≡ pointOf w) × (a ≡ w .answer)
+      all : (e : Point) (a : Response) → E e a → (w : Mark) × (w ∈ (waiting ++ r .finished)) × (e ≡ pointOf w) × (a ≡ w .answer)
       all e a (of-finished w i) = (w, mem-right waiting (r .finished) w i, refl, refl)
       all e a (of-pending t c h p) =
           let q = M .listed x (m .ghost) κ (m .inv) t (tallied c) (doing t c h) p in

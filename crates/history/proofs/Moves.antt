@@ -8,7 +8,7 @@ use Prim.Native.Nat.{ℕ, suc, _≤_, _<_}
 use native.Mathlib.Omega.{arith}
 use lib.Dec.{T, T-not}
 use Rattle.history.specs.Basics.{upd}
-use Rattle.history.specs.History.{Op, cellOf, begin, step, refused, accepted, answered, Answer, Yes, Report, Begin, Call, Calls, advance, enter}
+use Rattle.history.specs.History.{Op, cellOf, begin, step, refused, accepted, answered, Response, Yes, Report, CallId, Call, Calls, advance, enter}
 use Rattle.history.specs.Linearization.{reply, after, Point}
 use Rattle.history.specs.Moments.{Spot, Mark, pointOf, Names}
 use Rattle.history.proofs.Basics.{either, upd-at, upd-same, upd-off, upd-cases}
@@ -44,7 +44,7 @@ pub record Onto (values : ℕ → ℕ) (g' : Ghost) (b' : Calls) (past : ℕ →
 -- WHAT THE PENDING CALLS KNOW
 
 -- the call that began so met the value v in its cell, after the action of a firm moment since its begin
-pub record Seen (past : ℕ → ℕ → ℕ) (was : ℕ → ℕ) (s : Begin) (moment v : ℕ) : Type 0 where
+pub record Seen (past : ℕ → ℕ → ℕ) (was : ℕ → ℕ) (s : CallId) (moment v : ℕ) : Type 0 where
   pub after-begin : s .at < moment
   pub is-firm : moment < was (cellOf (s .op))
   pub at : past (cellOf (s .op)) (suc moment) ≡ v
@@ -194,7 +194,7 @@ module _ {values : ℕ → ℕ} (g : Ghost) {b : Calls} {past : ℕ → ℕ → 
     -- THE CALL ENDS with the answer a, marked at the spot
 
     module _ (r : Report) (spot : Spot) (sided : Sided (c .start .op) (r .answer) spot) where
-      abbrev a : Answer
+      abbrev a : Response
       a = r .answer
 
       abbrev pub ended : Calls
@@ -213,17 +213,17 @@ module _ {values : ℕ → ℕ} (g : Ghost) {b : Calls} {past : ℕ → ℕ → 
       was-pending u d j = sym (leaving .others u (off u d j)) ∙ j
 
       module _ (g' : Ghost) (past' : ℕ → ℕ → ℕ) (firm' : ℕ → ℕ) (K : Kept values g' stepped past' firm' ms) where
-        abbrev Before : Point → Answer → Type 0
+        abbrev Before : Point → Response → Type 0
         Before = Entry (g' .placed) (g' .when) (stepped .pending) ms
 
-        abbrev After : Point → Answer → Type 0
+        abbrev After : Point → Response → Type 0
         After = Entry (g' .placed) (g' .when) (ended .pending) (mark ∷ ms)
 
         new : After (pointOf mark) a
         new = of-finished mark (inl refl)
 
         -- who stood there stands there still, if it is not the one that ends
-        old : (T (g' .placed t) → After (point c (g' .when t)) Yes) → (e : Point) (z : Answer) → Before e z → After e z
+        old : (T (g' .placed t) → After (point c (g' .when t)) Yes) → (e : Point) (z : Response) → Before e z → After e z
         old mine e z (of-finished m j) = of-finished m (inr j)
         old mine e z (of-pending u d j p) = go (either u t)
           where
@@ -231,7 +231,7 @@ module _ {values : ℕ → ℕ} (g : Ghost) {b : Calls} {past : ℕ → ℕ → 
             go (inl q) = subst (λ (d : Call). After (point d (g' .when u)) Yes) (some-inj now-busy (rw q at j)) (subst (λ u. After (point c (g' .when u)) Yes) (sym q) (mine (subst (λ u. T (g' .placed u)) q p)))
             go (inr q) = of-pending u d (leaving .others u q ∙ j) p
 
-        split : (e : Point) (z : Answer) → After e z → ((e ≡ pointOf mark) × (z ≡ a)) ⊎ Before e z
+        split : (e : Point) (z : Response) → After e z → ((e ≡ pointOf mark) × (z ≡ a)) ⊎ Before e z
         split e z (of-finished m (inl q)) = inl (ap pointOf q, ap (λ (m : Mark). m .answer) q)
         split e z (of-finished m (inr j)) = inr (of-finished m j)
         split e z (of-pending u d j p) = inr (of-pending u d (was-pending u d j) p)
@@ -248,7 +248,7 @@ module _ {values : ℕ → ℕ} (g : Ghost) {b : Calls} {past : ℕ → ℕ → 
               record { call = p .call; busy = leaving .others u (λ e. unlate j (rw e at q)) ∙ p .busy; on = p .on; begun = p .begun; stepped = p .stepped; unplaced = p .unplaced };
         }
           where
-            firmed : (e : Point) (z : Answer) → ((e ≡ pointOf mark) × (z ≡ a)) ⊎ Before e z → e .moment < firm' (cell e)
+            firmed : (e : Point) (z : Response) → ((e ≡ pointOf mark) × (z ≡ a)) ⊎ Before e z → e .moment < firm' (cell e)
             firmed e z (inl q) = subst (λ (e : Point). e .moment < firm' (cell e)) (sym (q .0)) below
             firmed e z (inr j) = K .firmed e z j
 
@@ -271,7 +271,7 @@ module _ {values : ℕ → ℕ} (g : Ghost) {b : Calls} {past : ℕ → ℕ → 
           same-point : pointOf mark ≡ point c (g' .when t)
           same-point = ap (λ m. point c m) m
 
-          from : (e : Point) (z : Answer) → ((e ≡ pointOf mark) × (z ≡ a)) ⊎ Before g' (o .later) F K e z → Before g' (o .later) F K e z
+          from : (e : Point) (z : Response) → ((e ≡ pointOf mark) × (z ≡ a)) ⊎ Before g' (o .later) F K e z → Before g' (o .later) F K e z
           from e z (inl q) = subst (λ (e : Point). Before g' (o .later) F K e z) (sym (q .0 ∙ same-point)) (subst (Before g' (o .later) F K (point c (g' .when t))) (sym (q .1 ∙ y)) there)
           from e z (inr j) = j
 

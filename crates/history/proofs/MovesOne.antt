@@ -6,7 +6,7 @@ use mathlib.Core.List.{_∷_}
 use Prim.Native.Nat.{ℕ, suc, _+_, _≤_, _<_}
 use native.Mathlib.Omega.{arith}
 use Rattle.history.specs.Basics.{_∈_}
-use Rattle.history.specs.History.{Op, Action, begin, step, taskOf, Event, refused, accepted, answered, Report, Begin, Call, Finished, Calls, called, advance, advanced, closed, enter}
+use Rattle.history.specs.History.{Op, Action, begin, step, taskOf, Event, refused, accepted, answered, Report, CallId, Call, FinishedCall, Calls, called, advance, advanced, closed, enter}
 use Rattle.history.specs.History.{CallOf, finished, pending}
 use Rattle.history.proofs.Basics.{either, upd-same, upd-off}
 use Rattle.history.proofs.Tracks.{clash, some-inj, Change, refuses, starts, goes, ends}
@@ -36,7 +36,7 @@ From b t d = ((c : Call) × (b .pending t ≡ some c) × Onward c d) ⊎ ((b .pe
 pub record MovesOne (slack t : ℕ) (b b' : Calls) : Type 0 where
   pub later : b .now ≤ b' .now
   pub others : (u : ℕ) → u ≢ t → b' .pending u ≡ b .pending u
-  pub kept : (f : Finished) → f ∈ b .finished → f ∈ b' .finished
+  pub kept : (f : FinishedCall) → f ∈ b .finished → f ∈ b' .finished
   pub on : (c : Call) → b .pending t ≡ some c → (d : Call) × (m : ℕ) × CallOf b' d m × Onward c d × (b .now ≤ slack + m)
   pub from : (d : Call) → b' .pending t ≡ some d → (d .start .at < b' .now) × (d .last < b' .now) × From b t d
 
@@ -78,7 +78,7 @@ module _ {slack t : ℕ} {b b' : Calls} (m : MovesOne slack t b b') where
       distinct u w d e h i q = go (from-where u d h) (from-where w e i)
         where
           moment : {c d : Call} → Onward c d → c .start .at ≡ d .start .at
-          moment o = ap (λ (s : Begin). s .at) (o .start)
+          moment o = ap (λ (s : CallId). s .at) (o .start)
 
           only : (w : ℕ) (e : Call) → b' .pending w ≡ some e → b .pending w ≡ none → w ≡ t
           only w e i n = one (either w t)
@@ -114,7 +114,7 @@ module _ (b : Calls) (dated : Dated b) where
     }
 
     module _ (r : Report) where
-      abbrev pub last-one : Finished
+      abbrev pub last-one : FinishedCall
       last-one = record { call = advance b x c; report = r }
 
       pub ended-finished : enter b (step t) (answered x r) .finished ≡ last-one ∷ b .finished
@@ -126,7 +126,7 @@ module _ (b : Calls) (dated : Dated b) where
       pub ended-idle : (d : Call) → enter b (step t) (answered x r) .pending t ≡ some d → ⊥
       ended-idle d i = clash (upd-same (b .pending) t none) i
 
-      ended-kept : (f : Finished) → f ∈ b .finished → f ∈ enter b (step t) (answered x r) .finished
+      ended-kept : (f : FinishedCall) → f ∈ b .finished → f ∈ enter b (step t) (answered x r) .finished
       ended-kept f i = rw ended-finished (inr i)
 
       pub ends-on : MovesOne 0 t b (enter b (step t) (answered x r))

@@ -6,7 +6,7 @@ use mathlib.Core.List.{_∷_}
 use Prim.Native.Nat.{ℕ, suc, _+_, _≤_}
 use native.Mathlib.Omega.{arith}
 use Rattle.history.specs.Basics.{_∈_}
-use Rattle.history.specs.History.{cellOf, Action, begin, step, Event, accepted, answered, Begin, Call, Finished, Calls, called, advance, advanced, enter, CallOf, finished, pending}
+use Rattle.history.specs.History.{cellOf, Action, begin, step, Event, accepted, answered, CallId, Call, FinishedCall, Calls, called, advance, advanced, enter, CallOf, finished, pending}
 use Rattle.history.specs.History.{run}
 use Rattle.history.specs.Demand3.{Unequal, Alone, NoHardware, clearAfter}
 use Rattle.history.proofs.Basics.{upd-same}
@@ -17,14 +17,14 @@ use Rattle.history.proofs.MovesOne.{Onward, Dated, MovesOne, continues,
 -- a call that is alone was so before
 alone-before : {t : ℕ} {b b' : Calls} → MovesOne 0 t b b' → (c d : Call) (n n' : ℕ) → c .start ≡ d .start → n ≤ n' → Alone b' d n' → Alone b c n
 alone-before {b' = b'} m c d n n' s le alone e k h unequal q ne =
-    go (alone (r .0) (r .1) (r .2) (subst (λ (x : Begin). Unequal (x .op)) (r .3 .start) unequal) (cc (r .3 .start)) (λ z. ne (cc (r .3 .start))))
+    go (alone (r .0) (r .1) (r .2) (subst (λ (x : CallId). Unequal (x .op)) (r .3 .start) unequal) (cc (r .3 .start)) (λ z. ne (cc (r .3 .start))))
   where
     r : (f : Call) × (j : ℕ) × CallOf b' f j × Onward e f × (k ≤ 0 + j)
     r = continues m e k h
 
     go : (r .1 ≤ d .start .at) ⊎ (n' ≤ r .0 .start .at) → (k ≤ c .start .at) ⊎ (n ≤ e .start .at)
-    go (inl z) = inl (omega (arith, z, r .4, ap (λ (x : Begin). x .at) s))
-    go (inr z) = inr (omega (arith, z, ap (λ (x : Begin). x .at) (r .3 .start)))
+    go (inl z) = inl (omega (arith, z, r .4, ap (λ (x : CallId). x .at) s))
+    go (inr z) = inr (omega (arith, z, ap (λ (x : CallId). x .at) (r .3 .start)))
 
 module _ {S : Type 0} (machine : S → Action → S × Event) (start : S) (clear : S → ℕ → Type 0) (doing : S → ℕ → Option Tally) (Quiet : S → ℕ → Type 0) where
   -- the call began at a cell that is clear and is alone until n
@@ -33,7 +33,7 @@ module _ {S : Type 0} (machine : S → Action → S × Event) (start : S) (clear
 
   pub record AllQuiet (s : S) (b : Calls) : Type 0 where
     pub quiet : (t : ℕ) (c : Call) → b .pending t ≡ some c → Calm b c (b .now) → Quiet s t × (c .hard ≡ 0)
-    pub past : (f : Finished) → f ∈ b .finished → Calm b (f .call) (f .call .last) → f .call .hard ≡ 0
+    pub past : (f : FinishedCall) → f ∈ b .finished → Calm b (f .call) (f .call .last) → f .call .hard ≡ 0
 
   pub no-hardware : {s : S} {b : Calls} → AllQuiet s b → NoHardware (clearAfter machine start clear) b
   no-hardware G c n (finished f i) a l = G .past f i (a, l)
@@ -44,9 +44,9 @@ module _ {S : Type 0} (machine : S → Action → S × Event) (start : S) (clear
       -- calm after the action, a call was quiet before it
       was-quiet : (u : ℕ) (c d : Call) (n : ℕ) → b .pending u ≡ some c → c .start ≡ d .start → b .now ≤ n → Calm (enter b a e) d n → Quiet s u × (c .hard ≡ 0)
       was-quiet u c d n h q le (r, l) =
-          G .quiet u c h (subst (λ (s : Begin). clearAfter machine start clear (s .before) (cellOf (s .op))) (sym q) r, alone-before (moves-one b dated k) c d (b .now) n q le l)
+          G .quiet u c h (subst (λ (s : CallId). clearAfter machine start clear (s .before) (cellOf (s .op))) (sym q) r, alone-before (moves-one b dated k) c d (b .now) n q le l)
 
-      was-past : (f : Finished) → f ∈ b .finished → Calm (enter b a e) (f .call) (f .call .last) → f .call .hard ≡ 0
+      was-past : (f : FinishedCall) → f ∈ b .finished → Calm (enter b a e) (f .call) (f .call .last) → f .call .hard ≡ 0
       was-past f i (r, l) = G .past f i (r, alone-before (moves-one b dated k) (f .call) (f .call) (f .call .last) (f .call .last) refl (omega arith) l)
 
     -- the stepper's call has made no attempt
@@ -128,6 +128,6 @@ module _ {S : Type 0} (machine : S → Action → S × Event) (start : S) (clear
         quiet u d i l (inl (z, j)) = absurd (clash refl j)
         quiet u d i l (inr (z, j)) = other-quiet t x k p' same' u d i j l
 
-        past : (f : Finished) → Calm b' (f .call) (f .call .last) → f ∈ (last-one b dated t x c busy r ∷ b .finished) → f .call .hard ≡ 0
+        past : (f : FinishedCall) → Calm b' (f .call) (f .call .last) → f ∈ (last-one b dated t x c busy r ∷ b .finished) → f .call .hard ≡ 0
         past f l (inl z) = rw z (untried t x k c (b .now) busy (omega arith) p' (rw z at l) .1)
         past f l (inr i) = was-past k f i l

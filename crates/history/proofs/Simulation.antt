@@ -7,7 +7,7 @@ use mathlib.Core.Option.{Option, none, some}
 use Prim.Native.Nat.{ℕ, suc, _+_, _≤_, _<_}
 use lib.Dec.{T}
 use Rattle.history.specs.Basics.{upd}
-use Rattle.history.specs.History.{Op, cellOf, kindOf, Action, begin, step, Event, refused, accepted, answered, Answer, Yes, Report}
+use Rattle.history.specs.History.{Op, cellOf, kindOf, Action, begin, step, Event, refused, accepted, answered, Response, Yes, Report}
 use Rattle.history.specs.Linearization.{reply, after, apply}
 use Rattle.history.specs.Demand3.{most, mostHard, Unequal}
 use Rattle.history.specs.Moments.{before, itself, Spot, changes, Names, beside}
@@ -147,7 +147,7 @@ module _ {S : Type 0} (doing : S → ℕ → Option Tally) where
     Quietly s (step t) s' (answered x r) = QuietSteps s s' t x
 
 -- never before an action, and who changes its cell at the action itself
-pub record Sided (op : Op) (a : Answer) (p : Spot) : Type 0 where
+pub record Sided (op : Op) (a : Response) (p : Spot) : Type 0 where
   pub never-before : p .side ≢ before
   pub change-itself : T (changes op a) → p .side ≡ itself
 
@@ -162,7 +162,7 @@ module _ {X : Type 0} (doing : X → ℕ → Option Tally) (clock : X → ℕ) (
 
   -- why a call of task t, in the operation op, may answer a and be placed at m: its swap takes effect with this step; it did before; or it
   -- changes nothing and saw a value for which a is the answer
-  pub data Why (x : X) (g : Ghost) (κ : Knowledge) (t : ℕ) (op : Op) (a : Answer) (m : ℕ) : Move → Type 0 where
+  pub data Why (x : X) (g : Ghost) (κ : Knowledge) (t : ℕ) (op : Op) (a : Response) (m : ℕ) : Move → Type 0 where
     acts : a ≡ Yes → m ≡ clock x → Why x g κ t op a m act
     acted : T (g .placed t) → a ≡ Yes → m ≡ g .when t → Why x g κ t op a m still
     observes : (v : ℕ) → κ .saw t m v → reply v op ≡ a → after v op ≡ v → T (not (g .placed t)) → g .phase (cellOf op) ≢ late t → Why x g κ t op a m still
@@ -179,7 +179,7 @@ module _ {X : Type 0} (doing : X → ℕ → Option Tally) (clock : X → ℕ) (
       pub may : May doing x g κ t (now .op) move
       pub keeps : Keeps x x' (shift g (clock x) t (now .op) move) κ
 
-    pub record Answers (x x' : X) (g : Ghost) (κ : Knowledge) (t : ℕ) (a : Answer) : Type 1 where
+    pub record Answers (x x' : X) (g : Ghost) (κ : Knowledge) (t : ℕ) (a : Response) : Type 1 where
       pub moves : Moves x x' g κ t
       pub why : Why x g κ t (moves .now .op) a (names .ending x t a .moment) (moves .move)
       pub sided : Sided (moves .now .op) a (names .ending x t a)

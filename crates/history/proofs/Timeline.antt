@@ -9,7 +9,7 @@ use native.Mathlib.Omega.{arith}
 use lib.Dec.{eqb, leb, T, leb→le, nleb→lt}
 use borrow.Author.Tests.{eqb-true, eq-eqb, ne-eqb}
 use Rattle.history.specs.Basics.{upd, _∈_, Once}
-use Rattle.history.specs.History.{Op, read, swap, cellOf, Answer, Yes, No}
+use Rattle.history.specs.History.{Op, read, swap, cellOf, Response, Yes, No}
 use Rattle.history.specs.Linearization.{reply, after, apply, Point, replies, Sorted}
 use Rattle.history.specs.Moments.{Mark, pointOf, replyOf, changes, changing, sort}
 use Rattle.history.proofs.Basics.{either, upd-at, upd-off}
@@ -56,29 +56,29 @@ cell e = cellOf (e .call .op)
 
 -- `past k n` is the value of cell k before the action n. A call at the moment m that changes its cell finds the value before that action,
 -- any other the value after it.
-abbrev pub found : Point → Answer → ℕ
+abbrev pub found : Point → Response → ℕ
 found e a = cond (changes (e .call .op) a) (e .moment) (suc (e .moment))
 
-pub record Right (past : ℕ → ℕ → ℕ) (e : Point) (a : Answer) : Type 0 where
+pub record Right (past : ℕ → ℕ → ℕ) (e : Point) (a : Response) : Type 0 where
   pub says : reply (past (cell e) (found e a)) (e .call .op) ≡ a
   pub leaves : after (past (cell e) (found e a)) (e .call .op) ≡ past (cell e) (suc (e .moment))
 
 -- the call that changes cell k at the action n
-pub record Cause (E : Point → Answer → Type 0) (k n : ℕ) : Type 0 where
+pub record Cause (E : Point → Response → Type 0) (k n : ℕ) : Type 0 where
   pub point : Point
-  pub answer : Answer
+  pub answer : Response
   pub is : E point answer
   pub change : T (changes (point .call .op) answer)
   pub on : cell point ≡ k
   pub at : point .moment ≡ n
 
 -- calls E, with their answers, that account for every change
-pub record Timeline (values : ℕ → ℕ) (past : ℕ → ℕ → ℕ) (E : Point → Answer → Type 0) : Type 0 where
+pub record Timeline (values : ℕ → ℕ) (past : ℕ → ℕ → ℕ) (E : Point → Response → Type 0) : Type 0 where
   pub first : (k : ℕ) → past k 0 ≡ values k
-  pub right : (e : Point) (a : Answer) → E e a → Right past e a
+  pub right : (e : Point) (a : Response) → E e a → Right past e a
   pub caused : (k n : ℕ) → (past k (suc n) ≡ past k n) ⊎ Cause E k n
   -- at one moment one call at most changes a cell
-  pub single : (e d : Point) (a c : Answer) → E e a → E d c → T (changes (e .call .op) a) → T (changes (d .call .op) c) → cell e ≡ cell d → e .moment ≡ d .moment → e .call .at ≡ d .call .at
+  pub single : (e d : Point) (a c : Response) → E e a → E d c → T (changes (e .call .op) a) → T (changes (d .call .op) c) → cell e ≡ cell d → e .moment ≡ d .moment → e .call .at ≡ d .call .at
 
 -- THE FOLD
 
@@ -129,8 +129,8 @@ module _ (past : ℕ → ℕ → ℕ) where
   in-order : (l : List Mark) (c p : ℕ → ℕ) → ((k : ℕ) → c k ≡ past k (p k)) → Chained l → ((m : Mark) → m ∈ l → (p (cellM m) ≤ foundM m) × Right past (pointOf m) (m .answer)) →
       ((k n : ℕ) → p k ≤ n → Caused l k n) → replies c (map pointOf l) ≡ map replyOf l
   in-order [] c p at chain right caused = refl
-  in-order (x ∷ l) c p at chain right caused = ap (λ (a : Answer). (pointOf x, a) ∷ replies c⁺ (map pointOf l)) says
-      ∙ ap (λ (r : List (Point × Answer)). replyOf x ∷ r) (in-order l c⁺ p⁺ at⁺ (chain .1) (λ m i. (low m i (either (cellM m) k), right m (inr i) .1)) (λ j n h. caused⁺ j n h (either j k)))
+  in-order (x ∷ l) c p at chain right caused = ap (λ (a : Response). (pointOf x, a) ∷ replies c⁺ (map pointOf l)) says
+      ∙ ap (λ (r : List (Point × Response)). replyOf x ∷ r) (in-order l c⁺ p⁺ at⁺ (chain .1) (λ m i. (low m i (either (cellM m) k), right m (inr i) .1)) (λ j n h. caused⁺ j n h (either j k)))
     where
       k : ℕ
       k = cellM x
@@ -185,13 +185,13 @@ in-points (x ∷ l) m (inl h) = inl (ap pointOf h)
 in-points (x ∷ l) m (inr h) = inr (in-points l m h)
 
 -- the marks are those of the calls E, each once
-pub record Marks (E : Point → Answer → Type 0) (ms : List Mark) : Type 0 where
+pub record Marks (E : Point → Response → Type 0) (ms : List Mark) : Type 0 where
   pub theirs : (m : Mark) → m ∈ ms → E (pointOf m) (m .answer)
-  pub all : (e : Point) (a : Answer) → E e a → (m : Mark) × (m ∈ ms) × (e ≡ pointOf m) × (a ≡ m .answer)
+  pub all : (e : Point) (a : Response) → E e a → (m : Mark) × (m ∈ ms) × (e ≡ pointOf m) × (a ≡ m .answer)
   pub once : Once (begins ms)
   pub sided : (m : Mark) → m ∈ ms → Sided (m .call .op) (m .answer) (m .spot)
 
-module _ {values : ℕ → ℕ} {past : ℕ → ℕ → ℕ} {E : Point → Answer → Type 0} (L : Timeline values past E) {ms : List Mark} (M : Marks E ms) where
+module _ {values : ℕ → ℕ} {past : ℕ → ℕ → ℕ} {E : Point → Response → Type 0} (L : Timeline values past E) {ms : List Mark} (M : Marks E ms) where
   chained : (l : List Mark) → Keyed l → Once (begins l) → ((m : Mark) → m ∈ l → m ∈ ms) → Chained l
   chained [] k o h = tt
   chained (x ∷ l) k o h = ((λ y i q. go y i q (le-or-lt (y .spot .moment) (x .spot .moment))), chained l (k .1) (o .1) (λ m i. h m (inr i)))
@@ -221,7 +221,7 @@ module _ {values : ℕ → ℕ} {past : ℕ → ℕ → ℕ} {E : Point → Answ
           inr (
             m .0,
             in-sort ms (m .0) (m .1),
-            subst (λ (a : Answer). T (changes (m .0 .call .op) a)) (m .3) (subst (λ (e : Point). T (changes (e .call .op) (c .answer))) (m .2) (c .change)),
+            subst (λ (a : Response). T (changes (m .0 .call .op) a)) (m .3) (subst (λ (e : Point). T (changes (e .call .op) (c .answer))) (m .2) (c .change)),
             ap cell (sym (m .2)) ∙ c .on,
             ap (λ (e : Point). e .moment) (sym (m .2)) ∙ c .at,
           )

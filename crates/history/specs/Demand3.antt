@@ -6,7 +6,7 @@ use mathlib.Core.List.{List, _++_}
 use Prim.Native.Nat.{ℕ, _≤_, _<_}
 use lib.ListN.{replicate}
 use Rattle.history.specs.Basics.{_∈_}
-use Rattle.history.specs.History.{Op, read, swap, cellOf, kindOf, Report, Action, step, Event, history, run, Call, Finished, Calls, noCalls, callsOf, CallOf, WellFormed}
+use Rattle.history.specs.History.{Op, read, swap, cellOf, kindOf, Report, Action, step, Event, history, run, Call, FinishedCall, Calls, noCalls, callsOf, CallOf, WellFormed}
 use Rattle.history.specs.Linearization.{Point, Linearizes}
 
 -- BOUNDS
@@ -27,8 +27,8 @@ pub record Reports (c : Call) (r : Report) : Type 0 where
   pub hard : r .hard ≡ c .hard
 
 pub record Bounds (b : Calls) : Type 0 where
-  pub ended : (f : Finished) → f ∈ b .finished → (f .call .steps ≤ most (f .call .start .op)) × (f .call .hard ≤ mostHard (f .call .start .op))
-  pub reported : (f : Finished) → f ∈ b .finished → Reports (f .call) (f .report)
+  pub ended : (f : FinishedCall) → f ∈ b .finished → (f .call .steps ≤ most (f .call .start .op)) × (f .call .hard ≤ mostHard (f .call .start .op))
+  pub reported : (f : FinishedCall) → f ∈ b .finished → Reports (f .call) (f .report)
   pub unended : (t : ℕ) (c : Call) → b .pending t ≡ some c → (c .steps < most (c .start .op)) × (c .hard ≤ mostHard (c .start .op))
 
 -- NO HARDWARE CAS WITHOUT CONTENTION
@@ -75,6 +75,6 @@ Meets machine start Clear size values = (l : List Action) → Demand3 Clear size
 pub record Finishes {S : Type 0} (machine : S → Action → S × Event) (start : S) (l : List Action) (t : ℕ) (c : Call) (few : ℕ) : Type 0 where
   pub steps : ℕ
   pub at-most : steps ≤ few
-  pub end : Finished
+  pub end : FinishedCall
   pub done : end ∈ callsOf (history machine start (l ++ replicate steps (step t))) .finished
   pub is : end .call .start ≡ c .start

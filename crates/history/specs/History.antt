@@ -31,15 +31,15 @@ abbrev pub taskOf : Action → ℕ
 taskOf (begin t op) = t
 taskOf (step t) = t
 
-pub data Answer : Type 0 where
-  Value : ℕ → Answer
-  Yes No : Answer
+pub data Response : Type 0 where
+  Value : ℕ → Response
+  Yes No : Response
 
 -- what a call's last step reports
 pub record Report : Type 0 where
   pub kind : Kind
   pub cell : ℕ
-  pub answer : Answer
+  pub answer : Response
   pub steps : ℕ
   pub hard : ℕ
 
@@ -63,7 +63,7 @@ run act s (a ∷ l) = run act (act s a .0) l
 -- CALLS
 
 -- what never changes of a call: the moment of its begin (the action's number), its task, what it is, and the accepted actions before it
-pub record Begin : Type 0 where
+pub record CallId : Type 0 where
   pub at : ℕ
   pub task : ℕ
   pub op : Op
@@ -71,13 +71,13 @@ pub record Begin : Type 0 where
 
 -- a call so far: the moment of its last step (of its begin, if it has none), its accepted steps, their hardware CAS attempts
 pub record Call : Type 0 where
-  pub start : Begin
+  pub start : CallId
   pub last : ℕ
   pub steps : ℕ
   pub hard : ℕ
 
 -- a finished call, and what its last step reported
-pub record Finished : Type 0 where
+pub record FinishedCall : Type 0 where
   pub call : Call
   pub report : Report
 
@@ -87,7 +87,7 @@ pub record Calls : Type 0 where
   pub now : ℕ
   pub accepted : List Action
   pub pending : ℕ → Option Call
-  pub finished : List Finished
+  pub finished : List FinishedCall
 
 abbrev pub noCalls : Calls
 noCalls = record { now = 0; accepted = []; pending = λ t. none; finished = [] }
@@ -102,7 +102,7 @@ abbrev pub advanced : Calls → ℕ → Option Call → Option Call
 advanced b x none = none
 advanced b x (some c) = some (advance b x c)
 
-abbrev pub closed : Option Call → Report → List Finished → List Finished
+abbrev pub closed : Option Call → Report → List FinishedCall → List FinishedCall
 closed none r l = l
 closed (some c) r l = record { call = c; report = r } ∷ l
 
@@ -110,7 +110,7 @@ closed (some c) r l = record { call = c; report = r } ∷ l
 abbrev pub passed : Calls → Calls
 passed b = record { now = suc (b .now); accepted = b .accepted; pending = b .pending; finished = b .finished }
 
-abbrev pub moved : Calls → Action → (ℕ → Option Call) → List Finished → Calls
+abbrev pub moved : Calls → Action → (ℕ → Option Call) → List FinishedCall → Calls
 moved b a pending finished = record { now = suc (b .now); accepted = b .accepted ++ (a ∷ []); pending = pending; finished = finished }
 
 abbrev pub enter : Calls → Action → Event → Calls
@@ -129,7 +129,7 @@ callsOf h = enterAll noCalls h
 
 -- c is a call of the history, with `end` the moment of its end: its last step's if it is finished, else the list's
 pub data CallOf (b : Calls) : Call → ℕ → Type 0 where
-  finished : (f : Finished) → f ∈ b .finished → CallOf b (f .call) (f .call .last)
+  finished : (f : FinishedCall) → f ∈ b .finished → CallOf b (f .call) (f .call .last)
   pending : (t : ℕ) (c : Call) → b .pending t ≡ some c → CallOf b c (b .now)
 
 -- WELL-FORMED HISTORIES

@@ -5,12 +5,12 @@ use mathlib.Core.List.{List, [], _∷_, map}
 use Prim.Native.Nat.{ℕ, _≤_, _<_}
 use lib.Dec.{eqb}
 use Rattle.history.specs.Basics.{_∈_, Once}
-use Rattle.history.specs.History.{Op, read, swap, cellOf, Answer, Value, Yes, No, Begin, Call, Finished, Calls, CallOf}
+use Rattle.history.specs.History.{Op, read, swap, cellOf, Response, Value, Yes, No, CallId, Call, FinishedCall, Calls, CallOf}
 
 -- THE SEQUENTIAL SPECIFICATION
 
 -- of a cell's value: what an operation answers, and the value after it
-abbrev pub reply : ℕ → Op → Answer
+abbrev pub reply : ℕ → Op → Response
 reply v (read k) = Value v
 reply v (swap k e n) = cond (eqb v e) Yes No
 
@@ -27,10 +27,10 @@ apply cells op k = cond (eqb k (cellOf op)) (after (cells k) op) (cells k)
 -- a call at the moment where it takes effect, its linearization point
 pub record Point : Type 0 where
   pub moment : ℕ
-  pub call : Begin
+  pub call : CallId
 
 -- the calls with the sequential specification's answers
-abbrev pub replies : (ℕ → ℕ) → List Point → List (Point × Answer)
+abbrev pub replies : (ℕ → ℕ) → List Point → List (Point × Response)
 replies cells [] = []
 replies cells (e ∷ l) = (e, reply (cells (cellOf (e .call .op))) (e .call .op)) ∷ replies (apply cells (e .call .op)) l
 
@@ -52,5 +52,5 @@ pub record Linearizes (values : ℕ → ℕ) (b : Calls) (l : List Point) : Type
   pub sorted : Sorted l
   pub placed : (e : Point) → e ∈ l → Placed b e
   pub once : Once (map (λ e. e .call .at) l)
-  pub answers : (f : Finished) → f ∈ b .finished →
+  pub answers : (f : FinishedCall) → f ∈ b .finished →
       (e : Point) × (e .call ≡ f .call .start) × (f .call .start .at < e .moment) × (e .moment ≤ f .call .last) × ((e, f .report .answer) ∈ replies values l)

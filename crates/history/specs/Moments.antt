@@ -5,7 +5,7 @@ use mathlib.Core.Option.{Option, none, some}
 use mathlib.Core.List.{List, [], _∷_, _++_}
 use Prim.Native.Nat.{ℕ, zero, suc}
 use lib.Dec.{eqb, leb}
-use Rattle.history.specs.History.{Op, read, swap, Action, begin, step, Event, refused, accepted, answered, Answer, Value, Yes, No, Begin, Call, Calls, noCalls, enter}
+use Rattle.history.specs.History.{Op, read, swap, Action, begin, step, Event, refused, accepted, answered, Response, Value, Yes, No, CallId, Call, Calls, noCalls, enter}
 use Rattle.history.specs.Linearization.{Point}
 
 -- MARKS
@@ -27,20 +27,20 @@ pub record Spot : Type 0 where
 -- a call there. The answer is the call's; of a pending swap that is listed it is yes
 pub record Mark : Type 0 where
   pub spot : Spot
-  pub call : Begin
-  pub answer : Answer
+  pub call : CallId
+  pub answer : Response
 
 abbrev pub pointOf : Mark → Point
 pointOf m = record { moment = m .spot .moment; call = m .call }
 
 -- the point with its answer, as `replies` has it
-abbrev pub replyOf : Mark → Point × Answer
+abbrev pub replyOf : Mark → Point × Response
 replyOf m = (pointOf m, m .answer)
 
 -- THEIR ORDER: by the action; before, itself, after; who changes its cell first; lower tasks first
 
 -- a swap of unequal values that answers yes changes its cell, and nothing else does
-abbrev pub changes : Op → Answer → Bool
+abbrev pub changes : Op → Response → Bool
 changes (read k) a = false
 changes (swap k e n) (Value v) = false
 changes (swap k e n) Yes = not (eqb e n)
@@ -79,11 +79,11 @@ beside machine note x a = let r = machine (x .0) a in ((r .0, note (x .1) (x .0)
 
 -- where a task's call takes effect if its next step ends it with that answer; and where its pending swap took effect, if it did
 pub record Names (S : Type 0) : Type 0 where
-  pub ending : S → ℕ → Answer → Spot
+  pub ending : S → ℕ → Response → Spot
   pub standing : S → ℕ → Option Spot
 
 module _ {S : Type 0} (machine : S → Action → S × Event) (names : Names S) where
-  abbrev pub markOf : Option Call → Answer → Spot → List Mark
+  abbrev pub markOf : Option Call → Response → Spot → List Mark
   markOf none a p = []
   markOf (some c) a p = record { spot = p; call = c .start; answer = a } ∷ []
 

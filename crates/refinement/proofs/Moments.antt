@@ -18,7 +18,7 @@ use Rattle.questions.specs.declared.State.{State}
 use Rattle.questions.specs.Questions.{refusal, openQuestions}
 use Rattle.cells.specs.Pool.{word}
 use Rattle.cells.specs.Step.{current}
-use Rattle.history.specs.History.{Action, begin, step, Answer, Value, Yes, No, Event, refused, accepted, answered, history, run, Calls, noCalls, callsOf}
+use Rattle.history.specs.History.{Action, begin, step, Response, Value, Yes, No, Event, refused, accepted, answered, history, run, Calls, noCalls, callsOf}
 use Rattle.history.specs.Basics.{_∈_}
 use Rattle.history.specs.Linearization.{replies, Linearizes}
 use Rattle.history.specs.Moments.{before, Spot, Mark, pointOf, replyOf, markOf, markOfPending, marked, pendingMarks, marks, sort}
@@ -130,7 +130,7 @@ module _ {n v : ℕ} {x : Pool} {w : World} (g : Together n v x w) where
     alike : {A : Type 0} (f : Notes → Sight → A) (t u : ℕ) → t < n → u < n → f (notesOf u o) (sightOf u (seesPool x t)) ≡ f (notesOf u o′) (sightOf u (sees w t))
     alike f t u l m = ap₂ f (same-notes u m) (same-sight t u l m)
 
-    same-ending : (t : ℕ) (a : Answer) → t < n → ruled o t (seesPool x t) a ≡ ruled o′ t (sees w t) a
+    same-ending : (t : ℕ) (a : Response) → t < n → ruled o t (seesPool x t) a ≡ ruled o′ t (sees w t) a
     same-ending t (Value i) l = alike (λ o x. ruled o t x (Value i)) t t l l
     same-ending t Yes l = alike (λ o x. ruled o t x Yes) t t l l
     same-ending t No l = alike (λ o x. ruled o t x No) t t l l

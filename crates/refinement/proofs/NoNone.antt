@@ -21,7 +21,7 @@ use Rattle.questions.specs.Questions.{refusal, openQuestions, lookQuestions}
 use Rattle.cells.specs.Step.{current}
 use Rattle.cells.specs.Look.{looked, shown, shownValue}
 use Rattle.history.specs.Basics.{_∈_}
-use Rattle.history.specs.History.{Op, Action, begin, step, Answer, Value, Yes, No, Report, Event, refused, accepted, answered, history, run, Call, Calls, Finished, noCalls, advanced, closed, enter, enterAll, callsOf}
+use Rattle.history.specs.History.{Op, Action, begin, step, Response, Value, Yes, No, Report, Event, refused, accepted, answered, history, run, Call, Calls, FinishedCall, noCalls, advanced, closed, enter, enterAll, callsOf}
 use Rattle.figure.specs.Figure.{Cell, World, WorldAfter, accessCell, outcomeOf, figureRan, figure, opening, figureLooked}
 use Rattle.cells.specs.Answers.{answerOf}
 use Rattle.cells.specs.Events.{eventOf, tried}
@@ -41,7 +41,7 @@ use Rattle.refinement.proofs.Demand3.{starting-values}
 
 -- ANSWERS
 
-abbrev Proper : Answer → Type 0
+abbrev Proper : Response → Type 0
 Proper a = a ≢ Value noValue
 
 abbrev ProperEvent : Event → Type 0
@@ -87,7 +87,7 @@ module _ (v : ℕ) (w : World) (i : Reachable v w) where
 
 -- so no finished call of a history does
 abbrev ProperCalls : Calls → Type 0
-ProperCalls b = (f : Finished) → f ∈ b .finished → Proper (f .report .answer)
+ProperCalls b = (f : FinishedCall) → f ∈ b .finished → Proper (f .report .answer)
 
 enter-proper : (b : Calls) (a : Action) (e : Event) → ProperEvent e → ProperCalls b → ProperCalls (enter b a e)
 enter-proper b a (refused n) p h = h
@@ -96,9 +96,9 @@ enter-proper b (begin t op) (answered x r) p h = h
 enter-proper b (step t) (accepted x) p h = h
 enter-proper b (step t) (answered x r) p h = go (advanced b x (b .pending t))
   where
-    go : (o : Option Call) (f : Finished) → f ∈ closed o r (b .finished) → Proper (f .report .answer)
+    go : (o : Option Call) (f : FinishedCall) → f ∈ closed o r (b .finished) → Proper (f .report .answer)
     go none = h
-    go (some c) = with-first (λ (f : Finished). Proper (f .report .answer)) _ (b .finished) p h
+    go (some c) = with-first (λ (f : FinishedCall). Proper (f .report .answer)) _ (b .finished) p h
 
 history-proper : (v : ℕ) (l : List Action) (w : World) → Reachable v w → (b : Calls) → ProperCalls b → ProperCalls (enterAll b (history figure w l))
 history-proper v [] w i b h = h
@@ -133,7 +133,7 @@ module _ (old : State) (words : List ℕ) (tasks cells blocks : ℕ) (values : L
   no-step-answers-none t y r e = subst ProperEvent (sym (same-event (together old words tasks cells blocks values allowed actions) (step t)) ∙ e) (act-proper cells _ reached (step t))
 
   -- No finished call answered none.
-  pub no-call-answers-none : (call : Finished) → call ∈ callsOf (history pool (start old words tasks cells blocks values) actions) .finished → call .report .answer ≢ Value noValue
+  pub no-call-answers-none : (call : FinishedCall) → call ∈ callsOf (history pool (start old words tasks cells blocks values) actions) .finished → call .report .answer ≢ Value noValue
   no-call-answers-none = subst (λ h. ProperCalls (callsOf h)) (sym (same-history old words tasks cells blocks values allowed actions))
       (history-proper cells actions (opening tasks cells values) (opening-reachable tasks cells values (starting-values old words tasks cells blocks values allowed)) noCalls (λ f i. absurd i))
 

@@ -4,7 +4,7 @@ use mathlib.Core.List.{List, [], _∷_, _++_}
 use Prim.Native.Nat.{ℕ, _*_, _/_, _<_}
 use lib.Dec.{eqb}
 use Rattle.text.specs.Bytes.{bytes, decimal}
-use Rattle.history.specs.History.{Kind, aRead, aSwap, Answer, Value, Yes, No, Report, Event, refused, accepted, answered}
+use Rattle.history.specs.History.{Kind, aRead, aSwap, Response, Value, Yes, No, Report, Event, refused, accepted, answered}
 
 -- numbers, each after a space
 unfoldable pub numbers : List ℕ → List ℕ
@@ -28,7 +28,7 @@ abbrev pub kindWord : Kind → List ℕ
 kindWord aRead = bytes " read "
 kindWord aSwap = bytes " swap "
 
-abbrev pub answerWord : Answer → List ℕ
+abbrev pub answerWord : Response → List ℕ
 answerWord (Value v) = decimal v
 answerWord Yes = bytes "yes"
 answerWord No = bytes "no"
