@@ -1,5 +1,6 @@
 // A swap stepped through a record that the caller keeps and lends.
 ghost use mathlib.Core.Path.{_≡_};
+ghost use Rattle.cells.specs.Answers.{said};
 ghost use Rattle.cells.specs.Open.{leaving};
 ghost use Rattle.cells.specs.Lent.{lent, steppedLent};
 use cells::Outcome;
@@ -18,7 +19,7 @@ struct Kept {
 
 // The record is lent from a local here, so that no other function has a reference to one.
 fn lend(s: State, pool: &mut [u32], task: u32, r: Record) -> Kept
-    ensures { λ n. ⌜ lent (leaving (n .reply .state) (now (pool .exit)) (n .reply .outcome)) (n .record) ≡ steppedLent s (now (pool .entry)) task r ⌝ }
+    ensures { λ n. ⌜ lent (leaving (n .reply .state) (now (pool .exit)) (said (n .reply .outcome))) (n .record) ≡ steppedLent s (now (pool .entry)) task r ⌝ }
 {
     let mut rec = r;
     let reply = cells::step_lent(s, pool, task, &mut rec);

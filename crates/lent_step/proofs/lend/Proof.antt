@@ -41,6 +41,7 @@ use denote.Triple.Clauses.{ensured, lasts}
 use denote.Triple.Table.{entered, cited}
 use denote.Triple.Walked.{says, Stays, stay-none, gave-slice, walkOf, AllGo, goes-none, goes-gave-slice, Walks, ends-at, walked, walk-meets}
 use denote.Exit.{yes}
+use Rattle.cells.specs.Answers.{said}
 use Rattle.cells.specs.Open.{leaving}
 use Rattle.cells.specs.Lent.{lent, steppedLent}
 use Rattle.lines.specs.declared.Record.{Record}
@@ -121,7 +122,7 @@ module _ {M : Type 1} (𝓤 : URA M) (H : Heap 𝓤) (A : Atoms 𝓤) (W : Given
   Post = walkOf 𝓤 H A lend.ended stayed (lend.clauses 𝓤 H A at-mem run) .post (((κ, tt), (q, tt), tt, a, vals), tt)
 
   abbrev Fact : Kept → List ℕ → Type 0
-  Fact k zs = lent (leaving (k .reply .state) zs (k .reply .outcome)) (k .record) ≡ steppedLent st ys t h
+  Fact k zs = lent (leaving (k .reply .state) zs (said (k .reply .outcome))) (k .record) ≡ steppedLent st ys t h
 
   exits : (k : Kept) (zs : List ℕ) → Fact k zs → length zs ≡ length ys → Is P.the-row k (machP k ∷ []) → ent 𝓤 (⋆ 𝓤 H A (‵ (flft κ q) ∷ ‵ (finally u32 γ zs) ∷ [])) (Post (machP k))
   exits k zs e l g =
