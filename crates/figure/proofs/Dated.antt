@@ -114,7 +114,7 @@ module _ (w : World) (notes : Notes) (g : Ghost) (κ : Sim.Knowledge) (G : Good 
         go true i = record { spot = at (notes .stored t) C4; is = stood ∙ rw i refl; moment = sym (D .placed t b z ∙ rw i refl); side = refl }
         go false i =
             let e = f .decided .placed-decided st z (f .store .late-placed st (rw i tt) z) in
-            let new : T (see .asNew) = with (holdsBlock q) (eqb (m .d (q .held)) (q .new)) (holds-block q fit (lies-in stored holding tt ℓ st)) (equal _ _ e) in
+            let new : T (see .asNew) = rw e (with (holdsBlock q) (eqb (q .new) (q .new)) (holds-block q fit (lies-in stored holding tt ℓ st)) (equal (q .new) (q .new) refl)) in
             record { spot = at (notes .inactive t) C3; is = stood ∙ rw i (cond-true (see .asNew) _ _ new); moment = sym (D .placed t b z ∙ rw i refl); side = refl }
 
     pub unplaced-unnamed : T (not (g .placed t)) → stands notes t see ≡ none

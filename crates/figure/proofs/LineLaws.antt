@@ -1,4 +1,4 @@
--- Lines can be told apart, and which line may follow which is computed from the thirteen paths; the figure's lines keep to it.
+-- Equality of lines is decided, and which line may follow which is computed from the thirteen paths; the figure's lines keep to it.
 use mathlib.Core.Path.{_≡_, refl, sym, ap, _∙_, subst}
 use mathlib.Core.Logic.{inl, inr}
 use mathlib.Core.Bool.{Bool, true, false, _&&_, _||_, not, cond, false≢true}

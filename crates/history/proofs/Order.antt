@@ -114,7 +114,7 @@ sort-keyed (x ∷ l) = insert-keyed x (sort l) (sort-keyed l)
 
 -- EACH CALL ONCE
 
--- the begins' moments, which tell calls apart
+-- the begins' moments: no two calls share one
 abbrev pub begins : List Mark → List ℕ
 begins l = map (λ m. m .call .at) l
 

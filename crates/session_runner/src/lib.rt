@@ -23,7 +23,7 @@ ghost use Rattle.session_text.specs.Printed.{started, blank as «blankOf», poo
 // Enough for 65,535 lines of 36 bytes, one of each cell and the end.
 const ROOM: usize = 2400000;
 
-// One byte more than a session may have, to tell a longer one.
+// One byte more than a session may have, so that a longer one is noticed.
 pub fn file_space() -> [u8; 65537]
     ensures { λ r. ⌜ r ≡ zeros 65537 ⌝ }
     ensures { λ r. ⌜ 65537 ≡ length r ⌝ }
