@@ -10,8 +10,7 @@ use Rattle.questions.specs.declared.State.{State}
 use Rattle.cells.specs.Answers.{Acted, acts, shows}
 use Rattle.lines.specs.declared.Field.{Field}
 use Rattle.lines.specs.declared.Field.the-variants.{C, D}
-use Rattle.lines.specs.declared.Next.{Next}
-use Rattle.lines.specs.declared.Next.the-variants.{Go, Done}
+use Rattle.lines.specs.Answers.{Next, Go, Done}
 use Rattle.lines.specs.Basics.{ands}
 use Rattle.lines.specs.Record.{recordAt}
 use Rattle.lines.specs.Lines.{accessOf, nextOf}

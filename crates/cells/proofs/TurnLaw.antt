@@ -10,7 +10,7 @@ use borrow.Author.Tests.{ltb-true, leb-true}
 use Rattle.lines.specs.declared.Record.{Record}
 use Rattle.lines.specs.declared.Access.{Access}
 use Rattle.lines.specs.declared.Access.the-variants.{LoadCell, Load, Store, DecideCas, InstallCas, Allocate, Nothing}
-use Rattle.lines.specs.declared.Next.{Next}
+use Rattle.lines.specs.Answers.{Next}
 use Rattle.lines.specs.Lines.{lineOf, accessOf, nextAt, nextOf, counted}
 use Rattle.questions.specs.Questions.{recordFit, holds, installs}
 use Rattle.cells.specs.Turn.{Touched, performed, ending, turn, Reaches, Ready}

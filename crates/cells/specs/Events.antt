@@ -4,7 +4,8 @@ use Prim.Native.Nat.{ℕ}
 use lib.Dec.{eqb}
 use Rattle.lines.specs.declared.Record.{Record}
 use Rattle.lines.specs.Lines.{accessOf, hardware}
-use Rattle.cells.specs.Answers.{Result, Said, Refused, Acted, Ended}
+use Rattle.lines.specs.Answers.{Result}
+use Rattle.cells.specs.Answers.{Said, Refused, Acted, Ended}
 use Rattle.history.specs.History.{Kind, aRead, aSwap, Report, Event, refused, accepted, answered}
 
 abbrev pub kindAt : ℕ → Kind

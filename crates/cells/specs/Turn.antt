@@ -6,12 +6,11 @@ use mathlib.Core.List.{List}
 use Prim.Native.Nat.{ℕ, _+_, _*_, _≤_, _<_}
 use lib.Dec.{eqb}
 use Rattle.lines.specs.declared.Record.{Record}
-use Rattle.cells.specs.Answers.{result, Said, Acted, Ended}
+use Rattle.cells.specs.Answers.{Said, Acted, Ended}
 use Rattle.lines.specs.declared.Field.the-variants.{D}
 use Rattle.lines.specs.declared.Access.{Access}
 use Rattle.lines.specs.declared.Access.the-variants.{LoadCell, Load, Store, DecideCas, InstallCas, Allocate, Nothing}
-use Rattle.lines.specs.declared.Next.{Next}
-use Rattle.lines.specs.declared.Next.the-variants.{Go, Done}
+use Rattle.lines.specs.Answers.{Next, Go, Done}
 use Rattle.lines.specs.Record.{noValue, idle}
 use Rattle.lines.specs.Lines.{accessOf, nextOf}
 use Rattle.cells.specs.Pool.{word, setWord, fill}
@@ -56,7 +55,7 @@ turned r c l p o = record { «record» = r; current = c; last = l; pool = p; out
 
 abbrev pub ending : Touched → Next → Turned
 ending m (Go r) = turned r (m .current) (m .last) (m .pool) Acted
-ending m (Done f) = turned idle (m .current) (m .last) (m .pool) (Ended (result f))
+ending m (Done f) = turned idle (m .current) (m .last) (m .pool) (Ended f)
 
 abbrev pub turn : (pool : List ℕ) (task : ℕ) (r : Record) (current last : ℕ) (free : Option ℕ) → Turned
 turn p t r c l f = let m = performed p c l f (accessOf t r) in ending m (nextOf t r (m .value))

@@ -10,8 +10,7 @@ use native.Mathlib.Omega.{arith}
 use lib.Dec.{eqb, T, T-not, eqb→eq}
 use borrow.Author.Tests.{eqb-true, eq-eqb}
 use Rattle.lines.specs.declared.Record.{Record}
-use Rattle.lines.specs.declared.Answer as Code
-use Rattle.lines.specs.declared.Next.{Next}
+use Rattle.lines.specs.Answers.{Next}
 use Rattle.lines.specs.Basics.{within}
 use Rattle.lines.specs.Lines.{Line, l10, l15, l21, l30, lineAt, lineOf, accessAt, accessOf, counted, nextAt, readAnswer}
 use Rattle.questions.specs.Questions.{lineFit}
@@ -22,7 +21,6 @@ use Rattle.history.proofs.Basics.{either, upd-at, upd-same, upd-off, upd-cases}
 use Rattle.history.proofs.Simulation as Sim
 use Rattle.history.proofs.Simulation.{Phase, settled, frozen, late, Ghost, unplaced, Tally, Why, Sided, Named}
 use Rattle.figure.specs.Figure.{Cell, World, withTask, recordAfter, accessCell, figure}
-use Rattle.cells.specs.Answers.{answerOf}
 use Rattle.figure.specs.Moments.{Notes, nothingNoted, noted, Sight, holdsBlock, sees, names, at, effect, lineC6, rules, ruleAt, ruled, stands}
 use Rattle.figure.proofs.LineLaws.{both, every, every-line, lines, same, same-is, extends, Leads, goes, done, by-test}
 use Rattle.figure.proofs.LineLaws as Laws
@@ -161,29 +159,29 @@ module _ (w : World) (notes : Notes) (g : Ghost) (κ : Sim.Knowledge) (G : Good 
     named : (a : Response) (n : ℕ) → figureLine (line s t) ≡ n → moment a ≡ ruleAt n (rules notes t see a) .moment
     named a n e = ap (λ n. ruleAt n (rules notes t see a) .moment) (figure-line-is q (o .line) ∙ ap (λ (r : Record). figureLine (lineOf r)) (sym here) ∙ e)
 
-    saw-there : (v : ℕ) (a : Code.Answer) (n : ℕ) → Saw κ₀ t v a n → κ .saw t (ruleAt n (rules notes t see (answerOf a)) .moment) v
+    saw-there : (v : ℕ) (a : Response) (n : ℕ) → Saw κ₀ t v a n → κ .saw t (ruleAt n (rules notes t see a) .moment) v
     saw-there v a n (loaded12 z) = z
     saw-there v a n (decided13 z) = z
     saw-there v a n (loaded22 z) = z
     saw-there v a n (decided28 z) = z
     saw-there v a n (replaced30 z e) = rw e z
 
-    saw-named : (v : ℕ) (a : Code.Answer) → Saw κ₀ t v a (figureLine (line s t)) → κ .saw t (moment (answerOf a)) v
-    saw-named v a z = subst (λ n. κ .saw t n v) (sym (named (answerOf a) (figureLine (line s t)) refl)) (saw-there v a (figureLine (line s t)) z)
+    saw-named : (v : ℕ) (a : Response) → Saw κ₀ t v a (figureLine (line s t)) → κ .saw t (moment a) v
+    saw-named v a z = subst (λ n. κ .saw t n v) (sym (named a (figureLine (line s t)) refl)) (saw-there v a (figureLine (line s t)) z)
 
     busy-now : T (busy ℓ)
     busy-now = busy-line q (o .line)
 
-    pub why : (a : Code.Answer) (x : Change) → Reason s κ₀ t a x → Why doingIn clock (names figure sees) (w, notes) g κ t op (answerOf a) (moment (answerOf a)) (Worlds.moveOf w notes g κ G t did o x)
-    why a x (acts e i) = Sim.acts (ap answerOf e) (named (answerOf a) 30 i ∙ ap (λ b. ruleAt 30 (rules notes t see b) .moment) (ap answerOf e))
-    why a x (acted z b e (inl i)) = Sim.acted z (ap answerOf e) (named (answerOf a) 25 i ∙ sym (D .placed t busy-now z))
-    why a x (acted z b e (inr (i, y))) = Sim.acted z (ap answerOf e) (named (answerOf a) 26 i ∙ sym (D .placed t busy-now z ∙ cond-true (notes .storedActive t) _ _ y))
+    pub why : (a : Response) (x : Change) → Reason s κ₀ t a x → Why doingIn clock (names figure sees) (w, notes) g κ t op a (moment a) (Worlds.moveOf w notes g κ G t did o x)
+    why a x (acts e i) = Sim.acts e (named a 30 i ∙ ap (λ b. ruleAt 30 (rules notes t see b) .moment) e)
+    why a x (acted z b e (inl i)) = Sim.acted z e (named a 25 i ∙ sym (D .placed t busy-now z))
+    why a x (acted z b e (inr (i, y))) = Sim.acted z e (named a 26 i ∙ sym (D .placed t busy-now z ∙ cond-true (notes .storedActive t) _ _ y))
     why a x (reads v z n b e u l) =
         let r = reads-right q (o .line) (at-line (λ ℓ. not (swapping ℓ)) b) v in
-        Sim.observes v (saw-named v a z) (r .0 ∙ ap answerOf (sym (e ∙ ap (λ (r : Record). readAnswer r v) here))) (r .1) u (λ y. l (sym (ap (g .phase) (cell-of q)) ∙ y))
+        Sim.observes v (saw-named v a z) (r .0 ∙ sym (e ∙ ap (λ (r : Record). readAnswer r v) here)) (r .1) u (λ y. l (sym (ap (g .phase) (cell-of q)) ∙ y))
     why a x (declines v z n b e u l) =
         let r = swap-no q (o .line) (at-line swapping b) v (λ y. n (y ∙ sym (ap (λ (r : Record). r .expected) here))) in
-        Sim.observes v (saw-named v a z) (r .0 ∙ sym (ap answerOf e)) (r .1) u (λ y. l (sym (ap (g .phase) (cell-of q)) ∙ y))
+        Sim.observes v (saw-named v a z) (r .0 ∙ sym e) (r .1) u (λ y. l (sym (ap (g .phase) (cell-of q)) ∙ y))
 
     -- a lost line 30 has found the expected value decided: after the replacement, never before
     pub sided : (a : Response) → Sided op a (ruled notes t see a)

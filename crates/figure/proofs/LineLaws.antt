@@ -8,18 +8,13 @@ use lib.Dec.{eqb, T, eqb→eq}
 use lib.ListN.{getD}
 use borrow.Author.Tests.{eq-eqb, ne-eqb}
 use Rattle.lines.specs.declared.Record.{Record}
-use Rattle.lines.specs.declared.Answer.{Answer}
-use Rattle.lines.specs.declared.Answer.the-variants.{Value, Yes, No}
 use Rattle.lines.specs.declared.Access.{Access}
-use Rattle.lines.specs.declared.Next.{Next}
-use Rattle.lines.specs.declared.Next.the-variants.{Go}
+use Rattle.lines.specs.Answers.{Next, Go}
 use Rattle.lines.specs.Record.{idle}
 use Rattle.lines.specs.Lines.{Line, for13, for25, for28, l1, l2, l3, l10, l11, l12, l15, l16, l17, l18, l19, l20, l21, l22, l23, l24, l26, l27, l29, l30, nowhere, lineAt, lineOf, accessAt, loads, stores, hardware, at, answer, readAnswer, nextAt}
 use Rattle.questions.specs.Questions.{ofKind, reads, swaps}
 use Rattle.history.specs.Basics.{_∈_}
-use Rattle.history.specs.History as Event
-use Rattle.history.specs.History.{Op, read, swap}
-use Rattle.cells.specs.Answers.{answerOf}
+use Rattle.history.specs.History.{Op, read, swap, Response, Value, Yes, No}
 use Rattle.figure.specs.Paths.{decision, readPaths, yesPaths, noPaths, paths, by25, pathsOf}
 use Rattle.figure.proofs.AsBegun.{opOf, swap-op, Reads, read-op}
 
@@ -156,33 +151,33 @@ abbrev pub MayFollow : Line → Line → (b h : ℕ) → Type 0
 MayFollow l k b h = T (extends l (before k)) × ((read swap : Bool) → ofKind l read swap ≡ ofKind k read swap) × (T (not (same l l10 || same l l15)) → h ≡ b)
 
 -- the paths of an operation with this answer; a swap's with the ninth, which takes an invariant to rule out
-abbrev pub waysOf : Op → Event.Response → List (List Line)
+abbrev pub waysOf : Op → Response → List (List Line)
 waysOf (read k) a = pathsOf (read k) a
 waysOf (swap k e n) a = by25 ∷ pathsOf (swap k e n) a
 
 -- they are among the thirteen, a read's among its two
-pub on-paths : (op : Op) (a : Event.Response) (x : List Line) → x ∈ waysOf op a → x ∈ paths
+pub on-paths : (op : Op) (a : Response) (x : List Line) → x ∈ waysOf op a → x ∈ paths
 on-paths op a x m = among paths x (every-in (has sameLines paths) (waysOf op a) (all op a) x m)
   where
     Passes : List (List Line) → Type 0
     Passes ps = T (every (has sameLines paths) ps)
 
-    all : (op : Op) (a : Event.Response) → T (every (has sameLines paths) (waysOf op a))
-    all (read k) (Event.Value v) = tt
-    all (read k) Event.Yes = tt
-    all (read k) Event.No = tt
-    all (swap k e n) (Event.Value v) = tt
-    all (swap k e n) Event.Yes = by-test Passes (eqb e n) readPaths yesPaths (λ z. tt) (λ z. tt)
-    all (swap k e n) Event.No = by-test Passes (eqb e n) readPaths noPaths (λ z. tt) (λ z. tt)
+    all : (op : Op) (a : Response) → T (every (has sameLines paths) (waysOf op a))
+    all (read k) (Value v) = tt
+    all (read k) Yes = tt
+    all (read k) No = tt
+    all (swap k e n) (Value v) = tt
+    all (swap k e n) Yes = by-test Passes (eqb e n) readPaths yesPaths (λ z. tt) (λ z. tt)
+    all (swap k e n) No = by-test Passes (eqb e n) readPaths noPaths (λ z. tt) (λ z. tt)
 
-pub on-read-paths : (k : ℕ) (a : Event.Response) (x : List Line) → x ∈ waysOf (read k) a → x ∈ readPaths
-on-read-paths k (Event.Value v) x m = m
-on-read-paths k Event.Yes x m = absurd m
-on-read-paths k Event.No x m = absurd m
+pub on-read-paths : (k : ℕ) (a : Response) (x : List Line) → x ∈ waysOf (read k) a → x ∈ readPaths
+on-read-paths k (Value v) x m = m
+on-read-paths k Yes x m = absurd m
+on-read-paths k No x m = absurd m
 
 -- a call of this record may end with the line, and answer so
-abbrev pub MayEnd : Line → Record → Answer → Type 0
-MayEnd l r a = T (extends l (waysOf (opOf r) (answerOf a)))
+abbrev pub MayEnd : Line → Record → Response → Type 0
+MayEnd l r a = T (extends l (waysOf (opOf r) a))
 
 -- the number of the line that wanted the decision; 0 outside the deciding part
 abbrev pub wantedBy : Line → ℕ
@@ -232,7 +227,7 @@ module _ (l : Line) (p : ℕ) (q : Record) where
 -- from line l and record r: on to a line that may follow, with the call's own words as they were; or the call ends where it may
 pub data Leads (l : Line) (r : Record) : Next → Type 0 where
   goes : {n w h t v : ℕ} → MayFollow l (lineAt n w) (r .held) h → Leads l r (Go (at r n w h t v))
-  done : {a : Answer} → MayEnd l r a → Leads l r (answer r a)
+  done : {a : Response} → MayEnd l r a → Leads l r (answer r a)
 
 module _ {l : Line} {r : Record} where
   either : (b : Bool) {x y : Next} → Leads l r x → Leads l r y → Leads l r (cond b x y)
@@ -240,10 +235,10 @@ module _ {l : Line} {r : Record} where
   either false p q = q
 
   -- a swap of unequal values ends
-  swap-ends : swaps r ≡ true → {a : Answer} → T (extends l (waysOf (swap 0 0 1) (answerOf a))) → Leads l r (answer r a)
+  swap-ends : swaps r ≡ true → {a : Response} → T (extends l (waysOf (swap 0 0 1) a)) → Leads l r (answer r a)
   swap-ends s {a} h = done {a = a} (rw (swap-op r s .0) (go a h))
     where
-      go : (a : Answer) → T (extends l (waysOf (swap 0 0 1) (answerOf a))) → T (extends l (waysOf (swap (r .cell) (r .expected) (r .new)) (answerOf a)))
+      go : (a : Response) → T (extends l (waysOf (swap 0 0 1) a)) → T (extends l (waysOf (swap (r .cell) (r .expected) (r .new)) a))
       go (Value v) h = h
       go Yes h = rw (ne-eqb _ _ (swap-op r s .1)) h
       go No h = rw (ne-eqb _ _ (swap-op r s .1)) h
@@ -252,7 +247,7 @@ module _ {l : Line} {r : Record} where
   read-ends : reads r ≡ true → (v : ℕ) → T (extends l readPaths && extends l (by25 ∷ readPaths)) → Leads l r (answer r (readAnswer r v))
   read-ends s v h = done {a = readAnswer r v} (go (read-op r s))
     where
-      test : (b : Bool) → T (extends l (waysOf (swap (r .cell) (r .expected) (r .expected)) (answerOf (cond b Yes No))))
+      test : (b : Bool) → T (extends l (waysOf (swap (r .cell) (r .expected) (r .expected)) (cond b Yes No)))
       test true = rw (eq-eqb (r .expected) (r .expected) refl) (both (extends l readPaths) _ h .1)
       test false = rw (eq-eqb (r .expected) (r .expected) refl) (both (extends l readPaths) _ h .1)
 

@@ -10,13 +10,11 @@ use lib.Dec.{eqb, T, not-T}
 use lib.ListN.{getD, take, drop}
 use borrow.Author.Tests.{eqb-true, eqb-false, eq-eqb}
 use Rattle.lines.specs.declared.Record.{Record}
-use Rattle.lines.specs.declared.Finished.{Finished}
 use Rattle.lines.specs.declared.Field.{Field}
 use Rattle.lines.specs.declared.Field.the-variants.{X, Y, C, D}
 use Rattle.lines.specs.declared.Access.{Access}
 use Rattle.lines.specs.declared.Access.the-variants.{LoadCell, Load, Store, DecideCas, InstallCas, Allocate, Nothing}
-use Rattle.lines.specs.declared.Next.{Next}
-use Rattle.lines.specs.declared.Next.the-variants.{Go, Done}
+use Rattle.lines.specs.Answers.{Result, Next, Go, Done}
 use Rattle.lines.specs.Record.{noValue, idle}
 use Rattle.cells.specs.Pool.{offset}
 use Rattle.lines.specs.Lines.{Line, for25, for28, l1, l2, l3, l29, l30, lineOf, accessAt, accessOf, counted, nextAt, nextOf}
@@ -175,7 +173,7 @@ module _ (v : ℕ) (w : World) (i : Reachable v w) (r : Trace) (s : Sound w r) (
             (λ z. ap (λ (c : Cell). c .d (q .held)) (upd-same (w .cell) (q .cell) m) ∙ came-late e (eqb-false _ _ z)))
 
     -- line 28 finds the expected value, so the call does not end there
-    ends : (f : Finished) → next ≡ Done f → didLine now r t ≢ by25
+    ends : (f : Result) → next ≡ Done f → didLine now r t ≢ by25
     ends f e z = go (one-more (r .did t) (now t) (ap through25 z))
       where
         at-28 : now t ≡ l3 for28

@@ -7,14 +7,12 @@ use Prim.Native.Nat.{ℕ}
 use lib.Dec.{eqb, T}
 use borrow.Author.Tests.{eqb-true, eq-eqb, ne-eqb}
 use Rattle.lines.specs.declared.Record.{Record}
-use Rattle.lines.specs.declared.Answer.the-variants as Code
 use Rattle.lines.specs.Record.{isIdle}
 use Rattle.lines.specs.Lines.{lineAt, lineOf, readAnswer}
 use Rattle.questions.specs.Questions.{ofKind, reads, swaps, lineFit}
 use Rattle.history.specs.History.{Op, cellOf, Yes, No}
 use Rattle.history.specs.Linearization.{reply, after, apply}
 use Rattle.history.specs.Demand3.{Unequal}
-use Rattle.cells.specs.Answers.{answerOf}
 use Rattle.figure.proofs.LineLaws.{every-line, imp}
 use Rattle.figure.proofs.AsBegun.{opOf, swap-op, Reads, read-op}
 use Rattle.figure.proofs.Tallies.{tally, tallyOf}
@@ -46,16 +44,16 @@ module _ (q : Record) (e : lineFit q ≡ true) where
   -- WHAT THE SEQUENTIAL SPECIFICATION ANSWERS
 
   -- a read's answer is right for the value that it returns, and it changes nothing
-  pub reads-right : T (not (swapping (lineOf q))) → (v : ℕ) → (reply v (opOf q) ≡ answerOf (readAnswer q v)) × (after v (opOf q) ≡ v)
+  pub reads-right : T (not (swapping (lineOf q))) → (v : ℕ) → (reply v (opOf q) ≡ readAnswer q v) × (after v (opOf q) ≡ v)
   reads-right b v = go (read-op q (is-read b))
     where
-      go : Reads q → (reply v (opOf q) ≡ answerOf (readAnswer q v)) × (after v (opOf q) ≡ v)
+      go : Reads q → (reply v (opOf q) ≡ readAnswer q v) × (after v (opOf q) ≡ v)
       go (inl (o, k)) = rw (o, k) (refl, refl)
-      go (inr (o, k)) = rw (o, k) (test (eqb v (q .expected)) refl)
+      go (inr (o, k)) = rw (o, k) (refl, test (eqb v (q .expected)) refl)
         where
-          test : (x : Bool) → eqb v (q .expected) ≡ x → (cond x Yes No ≡ answerOf (cond x Code.Yes Code.No)) × (cond x (q .expected) v ≡ v)
-          test true z = (refl, sym (eqb-true _ _ z))
-          test false z = (refl, refl)
+          test : (x : Bool) → eqb v (q .expected) ≡ x → cond x (q .expected) v ≡ v
+          test true z = sym (eqb-true _ _ z)
+          test false z = refl
 
   -- a swap that finds its expected value succeeds and puts the new one there; with another it does nothing
   module _ (b : T (swapping (lineOf q))) where

@@ -6,13 +6,11 @@ use mathlib.Core.List.{List, [], _∷_, _++_}
 use Prim.Native.Nat.{ℕ}
 use lib.Dec.{eqb, eqb→eq}
 use Rattle.lines.specs.declared.Record.{Record}
-use Rattle.lines.specs.declared.Answer.the-variants.{No}
-use Rattle.lines.specs.declared.Next.{Next}
-use Rattle.lines.specs.declared.Next.the-variants.{Go, Done}
+use Rattle.lines.specs.Answers.{Next, Go, Done}
 use Rattle.lines.specs.Lines.{Line, for13, for25, for28, l2, l3, l30, nowhere, lineOf, accessAt, nextOf, hardware}
 use Rattle.lines.specs.Record.{firstSwap}
 use Rattle.history.specs.Basics.{_∈_}
-use Rattle.history.specs.History.{Action}
+use Rattle.history.specs.History.{Action, No}
 use Rattle.figure.specs.Figure.{opening}
 use Rattle.lines.specs.Paths.{table}
 use Rattle.figure.specs.Paths.{paths, by25, counts, countsOf, Traced, noTrace, figureTraces}

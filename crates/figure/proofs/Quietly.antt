@@ -10,8 +10,7 @@ use native.Mathlib.Omega.{arith}
 use lib.Dec.{eqb, T}
 use borrow.Author.Tests.{eqb-false}
 use Rattle.lines.specs.declared.Record.{Record}
-use Rattle.lines.specs.declared.Next.{Next}
-use Rattle.lines.specs.declared.Next.the-variants.{Go, Done}
+use Rattle.lines.specs.Answers.{Next, Go, Done}
 use Rattle.lines.specs.Record.{idle}
 use Rattle.lines.specs.Lines.{Line, l10, l15, lineAt, lineOf, accessOf, accessAt, nextOf, counted, hardware}
 use Rattle.history.specs.Basics.{upd}

@@ -9,9 +9,8 @@ use native.Mathlib.Omega.{arith}
 use lib.Dec.{eqb, leb, ltb, T, leb→le, ltb→lt}
 use borrow.Author.Tests.{ltb-true, lt-ltb, ne-eqb}
 use Rattle.lines.specs.declared.Record.{Record}
-use Rattle.cells.specs.Answers.{answerOf, result, Refused, Acted}
-use Rattle.lines.specs.declared.Next.{Next}
-use Rattle.lines.specs.declared.Next.the-variants.{Go, Done}
+use Rattle.cells.specs.Answers.{Refused, Acted}
+use Rattle.lines.specs.Answers.{Next, Go, Done}
 use Rattle.lines.specs.Record.{idle, isIdle}
 use Rattle.lines.specs.Lines.{Line, lineAt, lineOf, accessAt, accessOf, counted, nextOf, hardware}
 use Rattle.questions.specs.Questions.{Question, refusal, ofKind, reads, swaps, lineFit, valuesFit, beginQuestions, swapQuestions, stepQuestions}
@@ -68,7 +67,7 @@ module _ (v : ℕ) (did : List Line) (q : Record) (o : Pending v did q) where
   -- what its next line makes of it
   abbrev pub Then : Next → Type 0
   Then (Go r) = Pending v (did ++ (lineOf q ∷ [])) r
-  Then (Done f) = Complete (opOf q) (did ++ (lineOf q ∷ [])) (reportOf (result f))
+  Then (Done f) = Complete (opOf q) (did ++ (lineOf q ∷ [])) (reportOf f)
 
   pub one-line : (t x : ℕ) → Then (nextOf t q x)
   one-line t x = go (led t x)
@@ -88,7 +87,7 @@ module _ (v : ℕ) (did : List Line) (q : Record) (o : Pending v did q) where
         hard = hard;
         lines = extends-in (lineOf q) (before (lineAt n w)) (h .0) did (o .lines);
       }
-      go (done {a} h) = record { path = extends-in (lineOf q) (waysOf (opOf q) (answerOf a)) h did (o .lines); all-steps = steps; all-hard = hard }
+      go (done {a} h) = record { path = extends-in (lineOf q) (waysOf (opOf q) a) h did (o .lines); all-steps = steps; all-hard = hard }
 
   -- bounds, found by computing over all that may stand before a line that passes the test
   bounded : (n x : ℕ) (test : Line → Bool) → T (every (λ l. every (few n x) (before l) || not (test l)) lines) → test (lineOf q) ≡ true → (q .steps < n) × (q .hard ≤ x)

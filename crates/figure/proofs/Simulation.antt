@@ -5,8 +5,7 @@ use mathlib.Core.List.{List, map}
 use Prim.Native.Nat.{ℕ, suc, _<_}
 use lib.Dec.{eqb, T}
 use lib.ListN.{getD}
-use Rattle.lines.specs.declared.Next.{Next}
-use Rattle.lines.specs.declared.Next.the-variants.{Go, Done}
+use Rattle.lines.specs.Answers.{Next, Go, Done}
 use Rattle.lines.specs.Record.{noValue, first}
 use Rattle.lines.specs.Lines.{Line, lineOf}
 use Rattle.history.specs.History.{Op, read, swap, Action, begin, step, Event, refused, accepted, answered, history, callsOf}
@@ -20,7 +19,6 @@ use Rattle.history.proofs.Moments.{marks-linearize, marks-answers}
 use Rattle.history.proofs.Simulation.{Phase, Ghost, Knowledge, Keeps, Forward, Quietly, QuietSteps}
 use Rattle.history.proofs.Simulation as Sim
 use Rattle.figure.specs.Figure.{World, withBoth, WorldAfter, recordAfter, outcomeOf, figureRan, opening, figure, clear, attempts}
-use Rattle.cells.specs.Answers.{answerOf}
 use Rattle.cells.specs.Events.{eventOf}
 use Rattle.figure.specs.Moments.{Notes, noNotes, nothingNoted, noted, noteStep, note, names, sees, moments}
 use Rattle.figure.proofs.Records.{Pending, AllOnPath, Begun, starts, firstOf, begin-cases, Stepped, runs, step-cases, act-on-path}
@@ -89,11 +87,11 @@ module _ (n v : ℕ) (w : World) (notes : Notes) (g : Ghost) (κ : Knowledge) (i
         Forwards (step t) (withBoth w (w .records t .cell) (cellAfter w t) t (recordAfter x), noteStep e notes t (sees w t)) e
     line-forward (Go r) e x p = subst (λ (y : Next). Sim.Moves doingIn clock (names figure sees) Inv (w, notes) (withBoth w (w .records t .cell) (cellAfter w t) t (recordAfter y), notes₁) g κ t) e (moves (subst (λ (y : Next). Step s κ₀ later t (cellAfter w t) (recordAfter y)) (sym e) x) p)
     line-forward (Done f) e x p = subst (λ (y : Next). (z : Step s κ₀ later t (cellAfter w t) (recordAfter y)) × Reason s κ₀ t (f .answer) (z .change) →
-        Sim.Answers doingIn clock (names figure sees) Inv (w, notes) (withBoth w (w .records t .cell) (cellAfter w t) t (recordAfter y), notes₁) g κ t (answerOf (f .answer))) e
+        Sim.Answers doingIn clock (names figure sees) Inv (w, notes) (withBoth w (w .records t .cell) (cellAfter w t) t (recordAfter y), notes₁) g κ t (f .answer)) e
         (λ z. record {
           moves = moves (z .0) p;
           why = why w notes g κ (i .good) (i .dated) t did o (f .answer) (z .0 .change) (z .1);
-          sided = sided w notes g κ (i .good) (i .dated) t did o (answerOf (f .answer));
+          sided = sided w notes g κ (i .good) (i .dated) t did o (f .answer);
         }) x
 
   -- a refused action

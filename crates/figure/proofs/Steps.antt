@@ -7,16 +7,14 @@ use native.Mathlib.Omega.{arith}
 use lib.Dec.{eqb, T, T-not, not-T}
 use borrow.Author.Tests.{eqb-true, eqb-false, eq-eqb, ne-eqb}
 use Rattle.lines.specs.declared.Record.{Record}
-use Rattle.lines.specs.declared.Answer.{Answer}
-use Rattle.lines.specs.declared.Answer.the-variants.{Yes, No}
 use Rattle.lines.specs.declared.Field.{Field}
 use Rattle.lines.specs.declared.Field.the-variants.{C, D}
 use Rattle.lines.specs.declared.Access.{Access}
-use Rattle.lines.specs.declared.Next.{Next}
-use Rattle.lines.specs.declared.Next.the-variants.{Go, Done}
+use Rattle.lines.specs.Answers.{Next, Go, Done}
 use Rattle.lines.specs.Record.{noValue, idle}
 use Rattle.lines.specs.Lines.{Wanted, for13, for25, for28, Line, l1, l2, l3, l10, l11, l12, l15, l16, l17, l18, l19, l20, l21, l22, l23, l24, l26, l27, l29, l30, nowhere, lineAt, lineOf, accessAt, at, counted, nextAt, answer, readAnswer}
 use Rattle.history.specs.Basics.{upd}
+use Rattle.history.specs.History.{Response, Yes, No}
 use Rattle.history.proofs.Basics.{either, upd-at, upd-off}
 use Rattle.history.proofs.Simulation.{Phase, settled, frozen, late}
 use Rattle.figure.specs.Figure.{Cell, store, install, Accessed, accessed, accessCell}
@@ -96,7 +94,7 @@ pub record Step (s : View) (κ : Knowledge) (κ⁺ : Phase → ℕ → Knowledge
   pub current : phaseAfter s t change ≢ settled → m .current ≡ s .cell .current
 
 -- the value v that a call has seen which answers a, by the number of the rule that names the moment
-pub data Saw (κ : Knowledge) (t v : ℕ) (a : Answer) : ℕ → Type 0 where
+pub data Saw (κ : Knowledge) (t v : ℕ) (a : Response) : ℕ → Type 0 where
   loaded12 : κ .loaded t v → Saw κ t v a 12
   decided13 : κ .decided t v → Saw κ t v a 13
   loaded22 : κ .loaded t v → Saw κ t v a 22
@@ -105,7 +103,7 @@ pub data Saw (κ : Knowledge) (t v : ℕ) (a : Answer) : ℕ → Type 0 where
 
 -- why a call may answer a: its swap takes effect now; it did before; it is a read of a value seen; it is a swap that saw another value
 -- than it expects
-pub data Reason (s : View) (κ : Knowledge) (t : ℕ) (a : Answer) : Change → Type 0 where
+pub data Reason (s : View) (κ : Knowledge) (t : ℕ) (a : Response) : Change → Type 0 where
   acts : a ≡ Yes → figureLine (line s t) ≡ 30 → Reason s κ t a act
   acted : T (s .placed t) → T (swapping (line s t)) → a ≡ Yes → (figureLine (line s t) ≡ 25) ⊎ ((figureLine (line s t) ≡ 26) × T (κ .storedActive t)) → Reason s κ t a still
   reads : (v : ℕ) → Saw κ t v a (figureLine (line s t)) → v ≢ none → T (not (swapping (line s t))) → a ≡ readAnswer (s .task t) v → T (not (s .placed t)) → s .phase ≢ late t → Reason s κ t a still

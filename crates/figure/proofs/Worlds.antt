@@ -7,7 +7,7 @@ use mathlib.Core.List.{List}
 use Prim.Native.Nat.{ℕ, _<_}
 use lib.Dec.{eqb, T}
 use Rattle.lines.specs.declared.Record.{Record}
-use Rattle.lines.specs.declared.Next.{Next}
+use Rattle.lines.specs.Answers.{Next}
 use Rattle.lines.specs.Record.{idle}
 use Rattle.lines.specs.Lines.{Line, lineOf, accessOf, nextOf}
 use Rattle.history.specs.Basics.{upd}

@@ -7,13 +7,12 @@ use Prim.Native.Nat.{ℕ, suc}
 use lib.Dec.{eqb}
 use lib.ListN.{getD}
 use Rattle.lines.specs.declared.Record.{Record}
-use Rattle.cells.specs.Answers.{result, Said, Refused, Acted, Ended, Seen}
+use Rattle.cells.specs.Answers.{Said, Refused, Acted, Ended, Seen}
 use Rattle.lines.specs.declared.Field.{Field}
 use Rattle.lines.specs.declared.Field.the-variants.{X, Y, C, D}
 use Rattle.lines.specs.declared.Access.{Access}
 use Rattle.lines.specs.declared.Access.the-variants.{LoadCell, Load, Store, DecideCas, InstallCas, Allocate, Nothing}
-use Rattle.lines.specs.declared.Next.{Next}
-use Rattle.lines.specs.declared.Next.the-variants.{Go, Done}
+use Rattle.lines.specs.Answers.{Next, Go, Done}
 use Rattle.lines.specs.Record.{noValue, idle}
 use Rattle.lines.specs.Lines.{accessOf, nextOf}
 use Rattle.cells.specs.Pool.{fresh}
@@ -115,7 +114,7 @@ recordAfter (Done f) = idle
 
 abbrev pub outcomeOf : Next → Said
 outcomeOf (Go q) = Acted
-outcomeOf (Done f) = Ended (result f)
+outcomeOf (Done f) = Ended f
 
 -- a busy task's next line: its access on its own cell, and what follows
 unfoldable pub figureRan : World → ℕ → Record → WorldAfter

@@ -1,4 +1,5 @@
 pub mod Basics
 pub mod Record
+pub mod Answers
 pub mod Lines
 pub mod Paths

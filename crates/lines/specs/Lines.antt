@@ -4,15 +4,13 @@ use mathlib.Core.Bool.{cond}
 use Prim.Native.Nat.{ℕ, _+_}
 use lib.Dec.{eqb}
 use Rattle.lines.specs.declared.Record.{Record}
-use Rattle.lines.specs.declared.Answer.{Answer}
-use Rattle.lines.specs.declared.Answer.the-variants.{Value, Yes, No}
 use Rattle.lines.specs.declared.Field.{Field}
 use Rattle.lines.specs.declared.Field.the-variants.{X, Y, C, D}
 use Rattle.lines.specs.declared.Access.{Access}
 use Rattle.lines.specs.declared.Access.the-variants.{LoadCell, Load, Store, DecideCas, InstallCas, Allocate, Nothing}
-use Rattle.lines.specs.declared.Next.{Next}
-use Rattle.lines.specs.declared.Next.the-variants.{Go, Done}
 use Rattle.lines.specs.Basics.{within}
+use Rattle.lines.specs.Answers.{Next, Go, Done}
+use Rattle.history.specs.History.{Response, Value, Yes, No}
 
 -- THE LINES
 
@@ -118,11 +116,11 @@ load r n v = Go (at r n (r .wanted) (r .held) (r .taken) v)
 abbrev pub take : Record → ℕ → ℕ → Next
 take r n b = Go (at r n (r .wanted) (r .held) b (r .loaded))
 
-abbrev pub answer : Record → Answer → Next
+abbrev pub answer : Record → Response → Next
 answer r a = Done (record { kind = r .kind; cell = r .cell; answer = a; steps = r .steps; hard = r .hard })
 
 -- what a read that found v answers: its value, or for a swap of equal values (line 14) whether it is the expected one
-abbrev pub readAnswer : Record → ℕ → Answer
+abbrev pub readAnswer : Record → ℕ → Response
 readAnswer r v = cond (eqb (r .kind) 2) (cond (eqb v (r .expected)) Yes No) (Value v)
 
 abbrev pub nextAt : Line → ℕ → Record → ℕ → Next

@@ -1,6 +1,7 @@
 // What follows a line, from the value that memory answers.
 ghost use mathlib.Core.Path.{_≡_};
 ghost use Prim.Native.Nat.{ℕ, _≤_};
+ghost use Rattle.lines.specs.Answers.{answerOf, followed};
 ghost use Rattle.lines.specs.Lines.{l3, l21, l30, deciding, lineOf, nextAt, goto, decide, hold, load, take, answer, readAnswer};
 use crate::Answer;
 use crate::Finished;
@@ -9,7 +10,7 @@ use crate::Record;
 use crate::accesses::wants;
 
 fn goto(r: Record, line: u32) -> Next
-    ensures { λ n. ⌜ n ≡ goto r line ⌝ }
+    ensures { λ n. ⌜ followed n ≡ goto r line ⌝ }
 {
     let mut n = r;
     n.line = line;
@@ -18,7 +19,7 @@ fn goto(r: Record, line: u32) -> Next
 
 // To the deciding part, for a line that wants it.
 fn decide(r: Record, wanted: u32) -> Next
-    ensures { λ n. ⌜ n ≡ decide r wanted ⌝ }
+    ensures { λ n. ⌜ followed n ≡ decide r wanted ⌝ }
 {
     let mut n = r;
     n.line = 1;
@@ -27,7 +28,7 @@ fn decide(r: Record, wanted: u32) -> Next
 }
 
 fn hold(r: Record, line: u32, block: u32) -> Next
-    ensures { λ n. ⌜ n ≡ hold r line block ⌝ }
+    ensures { λ n. ⌜ followed n ≡ hold r line block ⌝ }
 {
     let mut n = r;
     n.line = line;
@@ -36,7 +37,7 @@ fn hold(r: Record, line: u32, block: u32) -> Next
 }
 
 fn load(r: Record, line: u32, v: u32) -> Next
-    ensures { λ n. ⌜ n ≡ load r line v ⌝ }
+    ensures { λ n. ⌜ followed n ≡ load r line v ⌝ }
 {
     let mut n = r;
     n.line = line;
@@ -45,7 +46,7 @@ fn load(r: Record, line: u32, v: u32) -> Next
 }
 
 fn take(r: Record, line: u32, block: u32) -> Next
-    ensures { λ n. ⌜ n ≡ take r line block ⌝ }
+    ensures { λ n. ⌜ followed n ≡ take r line block ⌝ }
 {
     let mut n = r;
     n.line = line;
@@ -54,7 +55,7 @@ fn take(r: Record, line: u32, block: u32) -> Next
 }
 
 fn answer(r: Record, a: Answer) -> Next
-    ensures { λ n. ⌜ n ≡ answer r a ⌝ }
+    ensures { λ n. ⌜ followed n ≡ answer r (answerOf a) ⌝ }
 {
     Next::Done(Finished {
         kind: r.kind,
@@ -67,7 +68,7 @@ fn answer(r: Record, a: Answer) -> Next
 
 // Line 14 makes a read of a swap of equal values.
 fn read_answer(r: Record, v: u32) -> Answer
-    ensures { λ a. ⌜ a ≡ readAnswer r v ⌝ }
+    ensures { λ a. ⌜ answerOf a ≡ readAnswer r v ⌝ }
 {
     if r.kind == 2 {
         if v == r.expected {
@@ -82,7 +83,7 @@ fn read_answer(r: Record, v: u32) -> Answer
 
 // The counts of r have this step.
 pub fn next_of(task: u32, r: Record, v: u32) -> Next
-    ensures { λ n. ⌜ n ≡ nextAt (lineOf r) task r v ⌝ }
+    ensures { λ n. ⌜ followed n ≡ nextAt (lineOf r) task r v ⌝ }
 {
     let line = r.line;
     match line {
@@ -96,7 +97,7 @@ pub fn next_of(task: u32, r: Record, v: u32) -> Next
 
 fn next_decide(r: Record, v: u32) -> Next
     requires { ⌜ (1 ≤ r .line) × (r .line ≤ 3) ⌝ }
-    ensures { λ n. ⌜ ((p : ℕ) → n ≡ nextAt (lineOf r) p r v) ⌝ }
+    ensures { λ n. ⌜ ((p : ℕ) → followed n ≡ nextAt (lineOf r) p r v) ⌝ }
 {
     if !wants(r.wanted) {
         return Next::Go(r);
@@ -111,7 +112,7 @@ fn next_decide(r: Record, v: u32) -> Next
 
 // The decision is v.
 fn next_decided(r: Record, v: u32) -> Next
-    ensures { λ n. ⌜ ((p : ℕ) → n ≡ nextAt (deciding l3 (r .wanted)) p r v) ⌝ }
+    ensures { λ n. ⌜ ((p : ℕ) → followed n ≡ nextAt (deciding l3 (r .wanted)) p r v) ⌝ }
 {
     let wanted = r.wanted;
     match wanted {
@@ -136,7 +137,7 @@ fn next_decided(r: Record, v: u32) -> Next
 
 fn next_read(r: Record, v: u32) -> Next
     requires { ⌜ (10 ≤ r .line) × (r .line ≤ 12) ⌝ }
-    ensures { λ n. ⌜ ((p : ℕ) → n ≡ nextAt (lineOf r) p r v) ⌝ }
+    ensures { λ n. ⌜ ((p : ℕ) → followed n ≡ nextAt (lineOf r) p r v) ⌝ }
 {
     let line = r.line;
     match line {
@@ -154,7 +155,7 @@ fn next_read(r: Record, v: u32) -> Next
 
 fn next_swap(task: u32, r: Record, v: u32) -> Next
     requires { ⌜ (15 ≤ r .line) × (r .line ≤ 24) ⌝ }
-    ensures { λ n. ⌜ n ≡ nextAt (lineOf r) task r v ⌝ }
+    ensures { λ n. ⌜ followed n ≡ nextAt (lineOf r) task r v ⌝ }
 {
     let line = r.line;
     match line {
@@ -173,7 +174,7 @@ fn next_swap(task: u32, r: Record, v: u32) -> Next
 
 // Line 21, where C is v.
 fn next_compared(r: Record, v: u32) -> Next
-    ensures { λ n. ⌜ ((p : ℕ) → n ≡ nextAt l21 p r v) ⌝ }
+    ensures { λ n. ⌜ ((p : ℕ) → followed n ≡ nextAt l21 p r v) ⌝ }
 {
     if v != 0 {
         decide(r, 28)
@@ -186,7 +187,7 @@ fn next_compared(r: Record, v: u32) -> Next
 
 fn next_install(r: Record, v: u32) -> Next
     requires { ⌜ (26 ≤ r .line) × (r .line ≤ 30) ⌝ }
-    ensures { λ n. ⌜ ((p : ℕ) → n ≡ nextAt (lineOf r) p r v) ⌝ }
+    ensures { λ n. ⌜ ((p : ℕ) → followed n ≡ nextAt (lineOf r) p r v) ⌝ }
 {
     let line = r.line;
     match line {
@@ -200,7 +201,7 @@ fn next_install(r: Record, v: u32) -> Next
 
 // Line 30, whose hardware CAS answered v.
 fn next_installed(r: Record, v: u32) -> Next
-    ensures { λ n. ⌜ ((p : ℕ) → n ≡ nextAt l30 p r v) ⌝ }
+    ensures { λ n. ⌜ ((p : ℕ) → followed n ≡ nextAt l30 p r v) ⌝ }
 {
     if v == 1 {
         answer(r, Answer::Yes)

@@ -5,9 +5,7 @@ use Prim.Native.Nat.{ℕ}
 use lib.Dec.{eqb, T, T-not}
 use Rattle.lines.specs.declared.Record.{Record}
 use Rattle.questions.specs.declared.State.{State}
-use Rattle.lines.specs.declared.Finished.{Finished}
-use Rattle.lines.specs.declared.Next.{Next}
-use Rattle.lines.specs.declared.Next.the-variants.{Go, Done}
+use Rattle.lines.specs.Answers.{Result, Next, Go, Done}
 use Rattle.lines.specs.Lines.{Line, for13, for25, for28, l1, l2, l3, l10, l11, l12, l15, l16, l17, l18, l19, l20, l21, l22, l23, l24, l26, l27, l29, l30, nowhere, at, goto, decide, accessAt, nextAt}
 use Rattle.lines.specs.Lines
 use Rattle.questions.specs.Questions.{ofKind}
@@ -51,7 +49,7 @@ module _ (R : Links) (s : State) (q : Record) (h k t : ℕ) (read swap : Bool) w
 -- what follows in the pool and in the figure
 pub data Nexts (R : Links) : Next → Next → Type 0 where
   going : {r q : Record} → Task R r q → Nexts R (Go r) (Go q)
-  ended : {f : Finished} → Nexts R (Done f) (Done f)
+  ended : {f : Result} → Nexts R (Done f) (Done f)
 
 which : {R : Links} (c : Bool) {x y x′ y′ : Next} → Nexts R x x′ → Nexts R y y′ → Nexts R (cond c x y) (cond c x′ y′)
 which true p q = p

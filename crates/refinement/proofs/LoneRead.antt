@@ -12,7 +12,7 @@ use Rattle.lines.specs.declared.Record.{Record}
 use Rattle.questions.specs.declared.State.{State}
 use Rattle.cells.specs.Answers.{Shown}
 use Rattle.lines.specs.declared.Field.the-variants.{C, D}
-use Rattle.lines.specs.declared.Next.{Next}
+use Rattle.lines.specs.Answers.{Next}
 use Rattle.lines.specs.Record.{noValue, isIdle, recordAt}
 use Rattle.lines.specs.Lines.{accessOf, nextOf}
 use Rattle.questions.specs.Questions.{refusal, openQuestions}

@@ -9,11 +9,9 @@ use lib.Dec.{eqb}
 use lib.ListN.{length}
 use borrow.Author.Tests.{eqb-false}
 use Rattle.questions.specs.declared.State.{State}
-use Rattle.lines.specs.declared.Answer as Code
 use Rattle.cells.specs.Answers.{Shown}
 use Rattle.lines.specs.declared.Field.{Field}
-use Rattle.lines.specs.declared.Next.{Next}
-use Rattle.lines.specs.declared.Next.the-variants.{Go, Done}
+use Rattle.lines.specs.Answers.{Next, Go, Done}
 use Rattle.lines.specs.Record.{noValue}
 use Rattle.lines.specs.Lines.{Line, accessOf, nextOf}
 use Rattle.cells.specs.Pool.{word}
@@ -23,7 +21,6 @@ use Rattle.cells.specs.Look.{looked, shown, shownValue}
 use Rattle.history.specs.Basics.{_∈_}
 use Rattle.history.specs.History.{Op, Action, begin, step, Response, Value, Yes, No, Report, Event, refused, accepted, answered, history, run, Call, Calls, FinishedCall, noCalls, advanced, closed, enter, enterAll, callsOf}
 use Rattle.figure.specs.Figure.{Cell, World, WorldAfter, accessCell, outcomeOf, figureRan, figure, opening, figureLooked}
-use Rattle.cells.specs.Answers.{answerOf}
 use Rattle.cells.specs.Events.{eventOf, tried}
 use Rattle.figure.proofs.LineLaws.{by-test}
 use Rattle.figure.proofs.Records.{Begun, starts, begin-cases, Stepped, runs, step-cases, with-first}
@@ -59,13 +56,13 @@ value-proper : (v : ℕ) → v ≢ noValue → Proper (Value v)
 value-proper v n e = n (cc)
 
 -- a call answers yes, no, or a value that it saw and that is not none
-reason-proper : (s : View) (κ : Knowledge) (t : ℕ) (a : Code.Answer) {x : Change} → Reason s κ t a x → Proper (answerOf a)
+reason-proper : (s : View) (κ : Knowledge) (t : ℕ) (a : Response) {x : Change} → Reason s κ t a x → Proper a
 unfolding Invariant.none
 reason-proper s κ t a (acts e from) = rw e yes-proper
 reason-proper s κ t a (acted placed swaps e from) = rw e yes-proper
 reason-proper s κ t a (declines v saw other swaps e placed late) = rw e no-proper
-reason-proper s κ t a (reads v saw other swaps e placed late) = let P : Code.Answer → Type 0 = λ a. Proper (answerOf a) in
-    rw e (by-test P (eqb (s .task t .kind) 2) _ _ (λ k. by-test P (eqb v (s .task t .expected)) _ _ (λ y. yes-proper) (λ y. no-proper)) (λ k. value-proper v other))
+reason-proper s κ t a (reads v saw other swaps e placed late) =
+    rw e (by-test Proper (eqb (s .task t .kind) 2) _ _ (λ k. by-test Proper (eqb v (s .task t .expected)) _ _ (λ y. yes-proper) (λ y. no-proper)) (λ k. value-proper v other))
 
 module _ (v : ℕ) (w : World) (i : Reachable v w) where
   begin-proper : (t : ℕ) (op : Op) {f : WorldAfter} → Begun w t op f → ProperEvent (eventOf 0 (f .outcome))

@@ -10,7 +10,7 @@ use borrow.Author.Tests.{ltb-true}
 use Rattle.lines.specs.declared.Record.{Record}
 use Rattle.questions.specs.declared.State.{State}
 use Rattle.cells.specs.Answers.{Said, Refused, Acted}
-use Rattle.lines.specs.declared.Next.{Next}
+use Rattle.lines.specs.Answers.{Next}
 use Rattle.lines.specs.Basics.{ands}
 use Rattle.lines.specs.Record.{noValue, idle, isIdle, recordAt}
 use Rattle.lines.specs.Lines.{lineOf, accessOf, counted, hardware}

@@ -7,7 +7,7 @@ use Prim.Native.Nat.{ℕ, _≤_, _<_}
 use native.Mathlib.Omega.{arith}
 use lib.Dec.{leb, leb→le}
 use Rattle.lines.specs.declared.Record.{Record}
-use Rattle.lines.specs.declared.Next.{Next}
+use Rattle.lines.specs.Answers.{Next}
 use Rattle.lines.specs.Record.{recordAt, firstRead, firstSwap}
 use Rattle.lines.specs.Lines.{Line, lineOf, accessAt, accessOf, nextOf, counted, hardware}
 use Rattle.questions.specs.declared.State.{State}

@@ -12,7 +12,8 @@ use Rattle.io.specs.Counts.{Counts}
 use Rattle.text.specs.Append.{Appended}
 use Rattle.text.proofs.Appending.{nothing, whole}
 use Rattle.questions.specs.declared.State.{State}
-use Rattle.cells.specs.Answers.{Result, Said, Refused, Acted, Ended, acts}
+use Rattle.lines.specs.Answers.{Result}
+use Rattle.cells.specs.Answers.{Said, Refused, Acted, Ended, acts}
 use Rattle.cells.specs.Open.{After, leaving, opened}
 use Rattle.questions.specs.Questions.{refusal, openQuestions}
 use Rattle.cells.proofs.Acts.{acts-iff, open-acts}
