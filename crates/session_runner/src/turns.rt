@@ -13,9 +13,8 @@ ghost use mathlib.Core.Path.{_≡_};
 ghost use mathlib.Core.List.{List};
 ghost use Prim.Native.Nat.{ℕ};
 ghost use lib.ListN.{length};
-ghost use Rattle.cells.specs.declared.Outcome.the-variants.{Refused};
 ghost use Rattle.blocks.specs.Blocks.{foundOf};
-ghost use Rattle.cells.specs.Answers.{said};
+ghost use Rattle.cells.specs.Answers.{said, Refused};
 ghost use Rattle.cells.specs.Turn.{turned};
 ghost use Rattle.history.specs.History.{taskOf};
 ghost use Rattle.session_runner.specs.Actions.{actOf};
@@ -29,7 +28,7 @@ pub fn slot(n: u32, m: u32) -> usize
 }
 
 fn refused(n: u32, r: Record, current: u32, last: u32) -> Turn
-    ensures { λ u. ⌜ u ≡ record { «record» = r; current = current; last = last; outcome = Refused n } ⌝ }
+    ensures { λ u. ⌜ ((p : List ℕ) → turned (u .«record») (u .current) (u .last) p (said (u .outcome)) ≡ turned r current last p (Refused n)) ⌝ }
 {
     Turn {
         record: r,

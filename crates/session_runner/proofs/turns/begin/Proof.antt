@@ -1,4 +1,4 @@
-use mathlib.Core.Path.{refl}
+use mathlib.Core.Path.{refl, _∙_}
 use Rattle.questions.specs.Questions.{swapQuestions}
 use Rattle.questions.proofs.Refusals.{is-refused, is-allowed}
 use borrow.Author.Needs.{needs}
@@ -8,7 +8,7 @@ use Rattle.session_runner.proofs.turns.begin.Tie as tie
 returns : tie.Need-returns
 returns c p =
     let a = c .before .before .before .args in
-    rw (c .refused .ensures, is-refused (swapQuestions a.tasks a.cells a.r a.task (a .q .cell) (a .q .expected) (a .q .new)) _ (c .before .before .begin-refusal .ensures) (c .before .if1 .taken))
+    c .refused .ensures p ∙ rw (is-refused (swapQuestions a.tasks a.cells a.r a.task (a .q .cell) (a .q .expected) (a .q .new)) _ (c .before .before .begin-refusal .ensures) (c .before .if1 .taken))
 
 returns-2 : tie.Need-returns-2
 returns-2 c p =

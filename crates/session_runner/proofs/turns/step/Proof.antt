@@ -8,7 +8,7 @@ use Rattle.session_runner.proofs.turns.step.Tie as tie
 returns : tie.Need-returns
 returns c =
     let a = c .before .before .before .before .args in
-    rw (c .refused .ensures, is-refused (stepQuestions a.tasks a.r a.task) _ (c .before .before .step-refusal .ensures) (c .before .if1 .taken))
+    c .refused .ensures _ ∙ rw (is-refused (stepQuestions a.tasks a.r a.task) _ (c .before .before .step-refusal .ensures) (c .before .if1 .taken))
 
 take-turn-requires : tie.Need-take-turn-requires
 take-turn-requires c κs =
