@@ -7,7 +7,8 @@ use Prim.Native.Nat.{ℕ, suc, _<_}
 use native.Mathlib.Omega.{arith}
 use Rattle.history.specs.Basics.{_∈_, Once}
 use Rattle.history.specs.History.{Action, step, Event, answered, Call, FinishedCall, Calls, called, advanced, enter}
-use Rattle.history.proofs.Tracks.{clash, some-inj, upd-some, Change, refuses, starts, goes, ends}
+use Rattle.history.proofs.Basics.{clash, some-inj}
+use Rattle.history.proofs.Tracks.{upd-some, Change, refuses, starts, goes, ends}
 use Rattle.history.proofs.MovesOne.{Dated, last-one, ended-finished}
 
 abbrev pub begun : List FinishedCall → List ℕ

@@ -12,9 +12,8 @@ use Rattle.history.specs.Basics.{upd, _∈_}
 use Rattle.history.specs.History.{Op, cellOf, Response, Yes, CallId, Call, FinishedCall, Calls}
 use Rattle.history.specs.Linearization.{reply, after, apply, Point}
 use Rattle.history.specs.Moments.{Mark, pointOf}
-use Rattle.history.proofs.Basics.{either, upd-at, upd-same, upd-off}
+use Rattle.history.proofs.Basics.{either, upd-at, upd-same, upd-off, some-inj, point}
 use Rattle.history.proofs.Simulation.{Phase, settled, late, Ghost, Sided}
-use Rattle.history.proofs.Tracks.{some-inj}
 use Rattle.history.proofs.MovesOne.{Onward, From, MovesOne, from-where}
 use Rattle.history.proofs.Timeline.{apply-at, apply-off, cell, Timeline}
 use Rattle.history.proofs.Growing.{Joins, regarded, since, since-other, since-after, changed}
@@ -23,9 +22,6 @@ abbrev pub cell-of : Call → ℕ
 cell-of c = cellOf (c .start .op)
 
 -- THE CALLS THAT TOOK EFFECT
-
-abbrev pub point : Call → ℕ → Point
-point c m = record { moment = m; call = c .start }
 
 -- the finished ones, by their marks, and the pending swaps that are placed
 pub data Entry (placed : ℕ → Bool) (when : ℕ → ℕ) (pending : ℕ → Option Call) (ms : List Mark) : Point → Response → Type 0 where

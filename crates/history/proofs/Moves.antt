@@ -11,13 +11,13 @@ use Rattle.history.specs.Basics.{upd}
 use Rattle.history.specs.History.{Op, cellOf, begin, step, refused, accepted, answered, Response, Yes, Report, CallId, Call, Calls, advance, enter}
 use Rattle.history.specs.Linearization.{reply, after, Point}
 use Rattle.history.specs.Moments.{Spot, Mark, pointOf, Names}
-use Rattle.history.proofs.Basics.{either, upd-at, upd-same, upd-off, upd-cases}
+use Rattle.history.proofs.Basics.{either, upd-at, upd-same, upd-off, upd-cases, clash, some-inj, point}
 use Rattle.history.proofs.Simulation.{Phase, settled, frozen, late, Ghost, Knowledge, Move, still, act, freeze, store, settle, land, freezes, takesEffect, inPhase, shift, unplaced, Tally, May, Sided, Why, acts, acted, observes}
-use Rattle.history.proofs.Tracks.{clash, some-inj, call-of, Tracks}
+use Rattle.history.proofs.Tracks.{call-of, Tracks}
 use Rattle.history.proofs.MovesOne.{Onward, Dated, MovesOne, same-begin, going-pending, steps-on, goes-on, ended-finished, ended-idle, leaves, starts-on, passes-on}
 use Rattle.history.proofs.Timeline.{cell, Timeline}
 use Rattle.history.proofs.Growing.{Joins, regarded, observed, since-other, since-before}
-use Rattle.history.proofs.Kept.{cell-of, point, Entry, of-finished, of-pending, Late, Kept, settled-late, calls-kept, phases-kept, past⁺, effect-kept}
+use Rattle.history.proofs.Kept.{cell-of, Entry, of-finished, of-pending, Late, Kept, settled-late, calls-kept, phases-kept, past⁺, effect-kept}
 
 -- WHAT IS FIRM: in a settled cell all moments so far, else those before the freezing
 
