@@ -126,7 +126,7 @@ module _ (w : World) (notes : Notes) (g : Ghost) (κ : Sim.Knowledge) (G : Good 
             let st = h tt in
             let sw = lies-in stored swapping tt ℓ st in
             cond-false (notes .storedActive t) _ _ (λ y. T-not (g .placed t) z (f .store .active-placed st y))
-            ∙ cond-false (see .asNew) _ none (λ y. let i = eqb→eq (m .d (q .held)) (q .new) (both (holdsBlock q) (eqb (m .d (q .held)) (q .new)) y .1) in
+            ∙ cond-false (see .asNew) _ none (λ y. let i = eqb→eq _ _ (both (holdsBlock q) _ y .1) in
             f .self .differ sw (sym (f .decided .late-decided st z (λ n. f .self .nv-some sw (sym i ∙ n))) ∙ i))
 
   -- A STEP

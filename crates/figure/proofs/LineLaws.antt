@@ -20,7 +20,7 @@ use Rattle.history.specs.Basics.{_∈_}
 use Rattle.history.specs.History as Event
 use Rattle.history.specs.History.{Op, read, swap}
 use Rattle.cells.specs.Answers.{answerOf}
-use Rattle.figure.specs.Paths.{decision, readPaths, yesPaths, noPaths, paths, by25, pathsOf}
+use Rattle.figure.specs.Paths.{decision, readPaths, paths, by25, pathsOf}
 use Rattle.figure.proofs.AsBegun.{opOf, swap-op, Reads, read-op}
 
 -- TESTS OF LISTS
@@ -172,8 +172,8 @@ on-paths op a x m = among paths x (every-in (has sameLines paths) (waysOf op a) 
     all (read k) Event.Yes = tt
     all (read k) Event.No = tt
     all (swap k e n) (Event.Value v) = tt
-    all (swap k e n) Event.Yes = by-test Passes (eqb e n) readPaths yesPaths (λ z. tt) (λ z. tt)
-    all (swap k e n) Event.No = by-test Passes (eqb e n) readPaths noPaths (λ z. tt) (λ z. tt)
+    all (swap k e n) Event.Yes = by-test Passes (eqb e n) _ _ (λ z. tt) (λ z. tt)
+    all (swap k e n) Event.No = by-test Passes (eqb e n) _ _ (λ z. tt) (λ z. tt)
 
 pub on-read-paths : (k : ℕ) (a : Event.Response) (x : List Line) → x ∈ waysOf (read k) a → x ∈ readPaths
 on-read-paths k (Event.Value v) x m = m
