@@ -10,7 +10,7 @@ use native.Mathlib.Omega.{arith}
 use lib.Dec.{T, T-not}
 use Rattle.history.specs.Basics.{upd, _∈_}
 use Rattle.history.specs.History.{Op, cellOf, Response, Yes, CallId, Call, FinishedCall, Calls}
-use Rattle.history.specs.Linearization.{reply, after, apply, Point}
+use Rattle.history.specs.Linearization.{reply, valueLeft, apply, Point}
 use Rattle.history.specs.Moments.{Mark, pointOf}
 use Rattle.history.proofs.Basics.{either, upd-at, upd-same, upd-off, some-inj, point}
 use Rattle.history.proofs.Simulation.{Phase, settled, late, Ghost, Sided}
@@ -146,7 +146,7 @@ module _ {values : ℕ → ℕ} {g : Ghost} {b : Calls} {past : ℕ → ℕ → 
     when⁺ = upd (g .when) u m
 
     abbrev pub past⁺ : ℕ → ℕ → ℕ
-    past⁺ = since past (cell-of c) m (after (g .cells (cell-of c)) op)
+    past⁺ = since past (cell-of c) m (valueLeft (g .cells (cell-of c)) op)
 
     other : (t : ℕ) → T (g .placed t) → t ≢ u
     other t p e = T-not (g .placed u) unplaced (subst (λ n. T (g .placed n)) e p)
@@ -183,7 +183,7 @@ module _ {values : ℕ → ℕ} {g : Ghost} {b : Calls} {past : ℕ → ℕ → 
     }
       where
         ends : (j n : ℕ) → firm' j ≤ n → (j ≡ cell-of c) ⊎ (j ≢ cell-of c) → past⁺ j n ≡ apply (g .cells) op j
-        ends j n h (inl e) = since-after past (cell-of c) m _ j n e (omega (arith, ap firm' e)) ∙ ap (λ i. after (g .cells i) op) (sym e) ∙ sym (apply-at (g .cells) op j e)
+        ends j n h (inl e) = since-after past (cell-of c) m _ j n e (omega (arith, ap firm' e)) ∙ ap (λ i. valueLeft (g .cells i) op) (sym e) ∙ sym (apply-at (g .cells) op j e)
         ends j n h (inr e) = since-other past (cell-of c) m _ j n e ∙ k .ends j n (omega (arith, up j .0)) ∙ sym (apply-off (g .cells) op j e)
 
         firmed : (e : Point) (a : Response) → ((e ≡ point c m) × (a ≡ Yes)) ⊎ Entry (g .placed) (g .when) (b .pending) ms e a → e .moment < firm' (cell e)

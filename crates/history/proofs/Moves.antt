@@ -9,7 +9,7 @@ use native.Mathlib.Omega.{arith}
 use lib.Dec.{T, T-not}
 use Rattle.history.specs.Basics.{upd}
 use Rattle.history.specs.History.{Op, cellOf, begin, step, refused, accepted, answered, Response, Yes, Report, CallId, Call, Calls, advance, enter}
-use Rattle.history.specs.Linearization.{reply, after, Point}
+use Rattle.history.specs.Linearization.{reply, valueLeft, Point}
 use Rattle.history.specs.Moments.{Spot, Mark, pointOf, Names}
 use Rattle.history.proofs.Basics.{either, upd-at, upd-same, upd-off, upd-cases, clash, some-inj, point}
 use Rattle.history.proofs.Simulation.{Phase, settled, frozen, late, Ghost, Knowledge, Move, still, act, freeze, store, settle, land, freezes, takesEffect, inPhase, shift, unplaced, Tally, May, Sided, Why, acts, acted, observes}
@@ -283,7 +283,7 @@ module _ {values : ℕ → ℕ} (g : Ghost) {b : Calls} {past : ℕ → ℕ → 
           unlate j q = T-not (g' .placed t) (K .lates j t q .unplaced) p
 
       -- it changes nothing, and saw at its spot what it answers
-      observe-onto : (v : ℕ) → Seen past was (c .start) (spot .moment) v → reply v (c .start .op) ≡ a → after v (c .start .op) ≡ v → T (not (g .placed t)) → g .phase kk ≢ late t → Onto values g ended past was (mark ∷ ms)
+      observe-onto : (v : ℕ) → Seen past was (c .start) (spot .moment) v → reply v (c .start .op) ≡ a → valueLeft v (c .start .op) ≡ v → T (not (g .placed t)) → g .phase kk ≢ late t → Onto values g ended past was (mark ∷ ms)
       observe-onto v p says calm f unlate = record {
         later = past;
         kept = leave-kept g past F K (observed (K .line) (pointOf mark) a joins v (p .at) says calm) (p .after-begin) (omega (arith, p .is-firm, k .bound kk)) (omega (arith, p .is-firm, later kk .0)) unlates;
