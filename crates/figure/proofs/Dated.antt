@@ -199,7 +199,7 @@ module _ (w : World) (notes : Notes) (g : Ghost) (κ : Sim.Knowledge) (G : Good 
         expected : T (eqb (see .figureLine) 30) → T (see .asExpected)
         expected z =
             let b = lies-in (λ ℓ. eqb (figureLine ℓ) 30) replacing tt ℓ (subst (λ n. T (eqb n 30)) (figure-line-is q (o .line)) z) in
-            with (holdsBlock q) (eqb (m .d (q .held)) (q .expected)) (holds-block q (o .line) (lies-in replacing holding tt ℓ b)) (equal _ _ (f .decided .expected b))
+            with (holdsBlock q) _ (holds-block q (o .line) (lies-in replacing holding tt ℓ b)) (equal _ _ (f .decided .expected b))
 
         last : (a : Response) → T (eqb (see .figureLine) 30) → Sided op a (lineC6 notes t see a)
         last (Value v) z = it (Value v)
