@@ -32,8 +32,8 @@ pub data Entry (placed : ℕ → Bool) (when : ℕ → ℕ) (pending : ℕ → O
 pub record MarkOf (f : FinishedCall) (m : Mark) : Type 0 where
   pub call : m .call ≡ f .call .start
   pub answer : m .answer ≡ f .report .answer
-  pub begun : f .call .start .at < m .spot .moment
-  pub stepped : m .spot .moment ≤ f .call .last
+  pub after-begin : f .call .start .at < m .spot .moment
+  pub by-last-step : m .spot .moment ≤ f .call .last
   pub sided : Sided (m .call .op) (m .answer) (m .spot)
 
 -- the marks are those of the finished calls, one for each
@@ -50,8 +50,8 @@ pub record Late (placed : ℕ → Bool) (froze : ℕ → ℕ) (pending : ℕ →
   pub call : Call
   pub busy : pending u ≡ some call
   pub on : cell-of call ≡ k
-  pub begun : call .start .at < froze k
-  pub stepped : froze k ≤ call .last
+  pub after-begin : call .start .at < froze k
+  pub by-last-step : froze k ≤ call .last
   pub unplaced : T (not (placed u))
 
 pub record Kept (values : ℕ → ℕ) (g : Ghost) (b : Calls) (past : ℕ → ℕ → ℕ) (firm : ℕ → ℕ) (ms : List Mark) : Type 0 where
@@ -85,8 +85,8 @@ module _ {values : ℕ → ℕ} {g : Ghost} {b : Calls} {past : ℕ → ℕ → 
       call = d .0;
       busy = d .1;
       on = subst (λ (s : CallId). cellOf (s .op) ≡ j) (d .2 .start) (p .on);
-      begun = omega (arith, p .begun, ap (λ (s : CallId). s .at) (d .2 .start));
-      stepped = omega (arith, p .stepped, d .2 .last);
+      after-begin = omega (arith, p .after-begin, ap (λ (s : CallId). s .at) (d .2 .start));
+      by-last-step = omega (arith, p .by-last-step, d .2 .last);
       unplaced = subst (λ x. T (not x)) (sym (old u (p .call) (p .busy))) (p .unplaced);
     };
   }
@@ -179,7 +179,7 @@ module _ {values : ℕ → ℕ} {g : Ghost} {b : Calls} {past : ℕ → ℕ → 
       bound = λ j. up j .1;
       marked = k .marked;
       stands = λ t d h p. stands t d h p (either t u);
-      lates = λ j w h. let p = lates j w h in record { call = p .call; busy = p .busy; on = p .on; begun = p .begun; stepped = p .stepped; unplaced = subst (λ x. T (not x)) (sym (upd-off (g .placed) u true w (unlate j w h p))) (p .unplaced) };
+      lates = λ j w h. let p = lates j w h in record { call = p .call; busy = p .busy; on = p .on; after-begin = p .after-begin; by-last-step = p .by-last-step; unplaced = subst (λ x. T (not x)) (sym (upd-off (g .placed) u true w (unlate j w h p))) (p .unplaced) };
     }
       where
         ends : (j n : ℕ) → firm' j ≤ n → (j ≡ cell-of c) ⊎ (j ≢ cell-of c) → past⁺ j n ≡ apply (g .cells) op j
