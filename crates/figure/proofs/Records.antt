@@ -7,7 +7,7 @@ use mathlib.Core.List.{List, [], _∷_, _++_}
 use Prim.Native.Nat.{ℕ, _+_, _≤_, _<_}
 use native.Mathlib.Omega.{arith}
 use lib.Dec.{eqb, leb, ltb, T, leb→le, ltb→lt}
-use borrow.Author.Tests.{ltb-true, lt-ltb, ne-eqb}
+use borrow.Author.Tests.{ltb-true, lt-ltb, eq-eqb, ne-eqb}
 use Rattle.lines.specs.declared.Record.{Record}
 use Rattle.cells.specs.Answers.{answerOf, result, Refused, Acted}
 use Rattle.lines.specs.declared.Next.{Next}
@@ -15,11 +15,10 @@ use Rattle.lines.specs.declared.Next.the-variants.{Go, Done}
 use Rattle.lines.specs.Record.{idle, isIdle}
 use Rattle.lines.specs.Lines.{Line, lineAt, lineOf, accessAt, accessOf, counted, nextOf, hardware}
 use Rattle.questions.specs.Questions.{Question, refusal, ofKind, reads, swaps, lineFit, valuesFit, beginQuestions, swapQuestions, stepQuestions}
-use Rattle.lines.specs.Record.{firstRead, firstSwap}
 use Rattle.history.specs.Basics.{upd, _∈_}
 use Rattle.history.specs.History.{Op, read, swap, cellOf, Action, begin, step, Report, run}
 use Rattle.history.proofs.Basics.{either, upd-at, upd-off, upd-cases}
-use Rattle.figure.specs.Figure.{Cell, World, withTask, withBoth, WorldAfter, worldAfter, unlessRefused, recordAfter, outcomeOf, figureRan, figureStepped, figureBegun, opening, figure, accessCell, attempts}
+use Rattle.figure.specs.Figure.{Cell, World, withTask, withBoth, WorldAfter, worldAfter, unlessRefused, recordAfter, outcomeOf, figureRan, figureStepped, figureBegun, opening, figure, accessCell, attempts, firstOf}
 use Rattle.cells.specs.Events.{reportOf, eventOf}
 use Rattle.figure.specs.Paths.{count, Traced, Trace, didLine, enterLine, figureTraces}
 use Rattle.figure.specs.Paths as Paths
@@ -125,10 +124,6 @@ ask (x ∷ l) = go (x .1) refl (ask l)
     go true e (granted y) = granted (e, y)
     go false e a = denied (x .0) (λ y. false≢true (sym e ∙ y .0))
 
-abbrev pub firstOf : Op → Record
-firstOf (read k) = firstRead k
-firstOf (swap k e n) = firstSwap k e n
-
 -- what an accepted begin was asked
 pub record Accepted (w : World) (t : ℕ) (op : Op) : Type 0 where
   pub task : t < w .tasks
@@ -205,11 +200,12 @@ upd-both P f g t a b here there u = go (either u t)
 
 first-on-path : (w : World) (t : ℕ) (op : Op) → Accepted w t op → Pending (w .cells) [] (firstOf op)
 first-on-path w t (read k) a = record { cell = a .cell; line = refl; values = refl; steps = refl; hard = refl; lines = inl refl }
-first-on-path w t (swap k e n) a = record { cell = a .cell; line = fits (eqb e n) .0; values = a .values; steps = refl; hard = refl; lines = fits (eqb e n) .1 }
+first-on-path w t (swap k e n) a = let l = at-first (either e n) in record { cell = a .cell; line = l .0; values = a .values; steps = refl; hard = refl; lines = l .1 }
   where
-    fits : (b : Bool) → (ofKind (lineAt (cond b 10 15) 0) b (not b) ≡ true) × ([] ∈ before (lineAt (cond b 10 15) 0))
-    fits true = (refl, inl refl)
-    fits false = (refl, inl refl)
+    -- equal values: a read's first line; unequal ones: a swap's
+    at-first : (e ≡ n) ⊎ (e ≢ n) → (lineFit (firstOf (swap k e n)) ≡ true) × ([] ∈ before (lineOf (firstOf (swap k e n))))
+    at-first (inl z) = rw (eq-eqb e n z) (refl, inl refl)
+    at-first (inr z) = rw (ne-eqb e n z) (refl, inl refl)
 
 module _ (w : World) (r : Trace) (s : Sound w r) where
   abbrev now : ℕ → Line
