@@ -17,9 +17,9 @@ use Rattle.history.specs.History.{Op, read, swap, cellOf}
 use Rattle.history.proofs.Basics.{either, upd-same, upd-off}
 use Rattle.history.proofs.Simulation.{late, Ghost, unplaced, Grown}
 use Rattle.history.proofs.Simulation as Sim
-use Rattle.figure.specs.Figure.{World, withTask, opening, figure}
+use Rattle.figure.specs.Figure.{World, withTask, opening, figure, firstOf}
 use Rattle.figure.specs.Moments.{Notes, nothingNoted, names, sees}
-use Rattle.figure.proofs.Records.{AllOnPath, OnPath, Accepted, firstOf, not-idle, opening-on-path}
+use Rattle.figure.proofs.Records.{AllOnPath, OnPath, Accepted, not-idle, opening-on-path}
 use Rattle.figure.proofs.Tallies.{tallyOf}
 use Rattle.figure.proofs.Classes.{busy, stored, lies-in}
 use Rattle.figure.proofs.Invariant.{none, View, Knowledge, line, Inv}

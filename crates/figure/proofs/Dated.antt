@@ -124,7 +124,7 @@ module _ (w : World) (notes : Notes) (g : Ghost) (κ : Sim.Knowledge) (G : Good 
             let st = h tt in
             let sw = lies-in stored swapping tt ℓ st in
             cond-false (notes .storedActive t) _ _ (λ y. T-not (g .placed t) z (f .store .active-placed st y))
-            ∙ cond-false (see .asNew) _ none (λ y. let i = eqb→eq (m .d (q .held)) (q .new) (both (holdsBlock q) (eqb (m .d (q .held)) (q .new)) y .1) in
+            ∙ cond-false (see .asNew) _ none (λ y. let i = eqb→eq _ _ (both (holdsBlock q) _ y .1) in
             f .self .differ sw (sym (f .decided .late-decided st z (λ n. f .self .nv-some sw (sym i ∙ n))) ∙ i))
 
   -- A STEP
@@ -197,7 +197,7 @@ module _ (w : World) (notes : Notes) (g : Ghost) (κ : Sim.Knowledge) (G : Good 
         expected : T (eqb (see .figureLine) 30) → T (see .asExpected)
         expected z =
             let b = lies-in (λ ℓ. eqb (figureLine ℓ) 30) replacing tt ℓ (subst (λ n. T (eqb n 30)) (figure-line-is q (o .line)) z) in
-            with (holdsBlock q) (eqb (m .d (q .held)) (q .expected)) (holds-block q (o .line) (lies-in replacing holding tt ℓ b)) (equal _ _ (f .decided .expected b))
+            with (holdsBlock q) _ (holds-block q (o .line) (lies-in replacing holding tt ℓ b)) (equal _ _ (f .decided .expected b))
 
         last : (a : Response) → T (eqb (see .figureLine) 30) → Sided op a (lineC6 notes t see a)
         last (Value v) z = it (Value v)

@@ -25,4 +25,4 @@ pub mod Simulation
 pub mod Reachable
 pub mod Ninth
 pub mod TracedCalls
-pub mod Examples
+pub mod RunExamples

@@ -15,7 +15,7 @@ use Rattle.lines.specs.Lines.{Line, for13, for25, for28, l1, l2, l3, l10, l11, 
 use Rattle.questions.specs.Questions.{ofKind, reads, swaps}
 use Rattle.history.specs.Basics.{_∈_}
 use Rattle.history.specs.History.{Op, read, swap, Response, Value, Yes, No}
-use Rattle.figure.specs.Paths.{decision, readPaths, yesPaths, noPaths, paths, by25, pathsOf}
+use Rattle.figure.specs.Paths.{decision, readPaths, paths, by25, pathsOf}
 use Rattle.figure.proofs.AsBegun.{opOf, swap-op, Reads, read-op}
 
 -- TESTS OF LISTS
@@ -167,8 +167,8 @@ on-paths op a x m = among paths x (every-in (has sameLines paths) (waysOf op a) 
     all (read k) Yes = tt
     all (read k) No = tt
     all (swap k e n) (Value v) = tt
-    all (swap k e n) Yes = by-test Passes (eqb e n) readPaths yesPaths (λ z. tt) (λ z. tt)
-    all (swap k e n) No = by-test Passes (eqb e n) readPaths noPaths (λ z. tt) (λ z. tt)
+    all (swap k e n) Yes = by-test Passes (eqb e n) _ _ (λ z. tt) (λ z. tt)
+    all (swap k e n) No = by-test Passes (eqb e n) _ _ (λ z. tt) (λ z. tt)
 
 pub on-read-paths : (k : ℕ) (a : Response) (x : List Line) → x ∈ waysOf (read k) a → x ∈ readPaths
 on-read-paths k (Value v) x m = m

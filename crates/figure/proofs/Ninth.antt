@@ -21,17 +21,17 @@ use Rattle.lines.specs.Lines.{Line, for25, for28, l1, l2, l3, l29, l30, lineOf,
 use Rattle.history.specs.Basics.{upd, _∈_}
 use Rattle.history.specs.History.{Op, read, swap, Action, begin, step, Response, run}
 use Rattle.history.proofs.Basics.{upd-same, upd-off, upd-cases}
-use Rattle.figure.specs.Figure.{Cell, World, withBoth, WorldAfter, store, install, accessed, Accessed, accessCell, recordAfter, outcomeOf, figureRan, opening, figure, attempts}
+use Rattle.figure.specs.Figure.{Cell, World, withBoth, WorldAfter, store, install, accessed, Accessed, accessCell, recordAfter, outcomeOf, figureRan, opening, figure, attempts, firstOf}
 use Rattle.cells.specs.Events.{eventOf}
 use Rattle.figure.specs.Paths.{paths, reached, by25, pathsOf, Traced, Trace, noTrace, didLine, enterLine, figureTraces}
+use Rattle.figure.proofs.Reachable.{trivial, Reachable, next-reachable, opening-reachable}
 use Rattle.figure.proofs.LineLaws.{every, every-in, every-line, has, same, same-is, imp, before, waysOf, has-in, by-test}
-use Rattle.figure.proofs.Records.{OnPath, Sound, with-first, upd-both, firstOf, Begun, starts, begin-cases, Stepped, runs, step-cases, act-sound}
+use Rattle.figure.proofs.Records.{OnPath, Sound, with-first, upd-both, Begun, starts, begin-cases, Stepped, runs, step-cases, act-sound}
 use Rattle.figure.proofs.Paths.{start-sound, last-line}
 use Rattle.figure.proofs.Classes.{holding, swapping}
 use Rattle.figure.proofs.Invariant.{none, TaskOf}
 use Rattle.figure.proofs.Views.{view}
 use Rattle.figure.proofs.Worlds.{known, facts}
-use Rattle.figure.proofs.Reachable.{trivial, Reachable, next-reachable, opening-reachable}
 
 -- CALLS THAT LINE 25 DID NOT ANSWER
 

@@ -11,7 +11,7 @@ use Rattle.lines.specs.Record.{isIdle}
 use Rattle.lines.specs.Lines.{lineAt, lineOf, readAnswer}
 use Rattle.questions.specs.Questions.{ofKind, reads, swaps, lineFit}
 use Rattle.history.specs.History.{Op, cellOf, Yes, No}
-use Rattle.history.specs.Linearization.{reply, after, apply}
+use Rattle.history.specs.Linearization.{reply, valueLeft, apply}
 use Rattle.history.specs.Demand3.{Unequal}
 use Rattle.figure.proofs.LineLaws.{every-line, imp}
 use Rattle.figure.proofs.AsBegun.{opOf, swap-op, Reads, read-op}
@@ -44,10 +44,10 @@ module _ (q : Record) (e : lineFit q ≡ true) where
   -- WHAT THE SEQUENTIAL SPECIFICATION ANSWERS
 
   -- a read's answer is right for the value that it returns, and it changes nothing
-  pub reads-right : T (not (swapping (lineOf q))) → (v : ℕ) → (reply v (opOf q) ≡ readAnswer q v) × (after v (opOf q) ≡ v)
+  pub reads-right : T (not (swapping (lineOf q))) → (v : ℕ) → (reply v (opOf q) ≡ readAnswer q v) × (valueLeft v (opOf q) ≡ v)
   reads-right b v = go (read-op q (is-read b))
     where
-      go : Reads q → (reply v (opOf q) ≡ readAnswer q v) × (after v (opOf q) ≡ v)
+      go : Reads q → (reply v (opOf q) ≡ readAnswer q v) × (valueLeft v (opOf q) ≡ v)
       go (inl (o, k)) = rw (o, k) (refl, refl)
       go (inr (o, k)) = rw (o, k) (refl, test (eqb v (q .expected)) refl)
         where
@@ -57,17 +57,17 @@ module _ (q : Record) (e : lineFit q ≡ true) where
 
   -- a swap that finds its expected value succeeds and puts the new one there; with another it does nothing
   module _ (b : T (swapping (lineOf q))) where
-    pub swap-yes : (v : ℕ) → v ≡ q .expected → (reply v (opOf q) ≡ Yes) × (after v (opOf q) ≡ q .new)
+    pub swap-yes : (v : ℕ) → v ≡ q .expected → (reply v (opOf q) ≡ Yes) × (valueLeft v (opOf q) ≡ q .new)
     swap-yes v z = rw (swap-op q (is-swap b) .0, eq-eqb v (q .expected) z) (refl, refl)
 
-    pub swap-no : (v : ℕ) → v ≢ q .expected → (reply v (opOf q) ≡ No) × (after v (opOf q) ≡ v)
+    pub swap-no : (v : ℕ) → v ≢ q .expected → (reply v (opOf q) ≡ No) × (valueLeft v (opOf q) ≡ v)
     swap-no v z = rw (swap-op q (is-swap b) .0, ne-eqb v (q .expected) z) (refl, refl)
 
     pub is-unequal : Unequal (opOf q)
     is-unequal = rw (swap-op q (is-swap b) .0) (swap-op q (is-swap b) .1)
 
 -- the cells after an operation: its own, and the others
-pub apply-here : (cells : ℕ → ℕ) (op : Op) (k : ℕ) → cellOf op ≡ k → apply cells op k ≡ after (cells k) op
+pub apply-here : (cells : ℕ → ℕ) (op : Op) (k : ℕ) → cellOf op ≡ k → apply cells op k ≡ valueLeft (cells k) op
 apply-here cells op k e = rw (eq-eqb k (cellOf op) (sym e))
 
 pub apply-there : (cells : ℕ → ℕ) (op : Op) (k j : ℕ) → cellOf op ≡ k → j ≢ k → apply cells op j ≡ cells j

@@ -3,27 +3,63 @@ use mathlib.Core.Path.{_≡_, refl, sym, ap, _∙_}
 use mathlib.Core.Logic.{inl, inr}
 use mathlib.Core.Bool.{cond}
 use mathlib.Core.List.{List, [], _∷_, _++_}
-use Prim.Native.Nat.{ℕ}
+use Prim.Native.Nat.{ℕ, _<_}
 use lib.Dec.{eqb, eqb→eq}
 use Rattle.lines.specs.declared.Record.{Record}
 use Rattle.lines.specs.Answers.{Next, Go, Done}
-use Rattle.lines.specs.Lines.{Line, for13, for25, for28, l2, l3, l30, nowhere, lineOf, accessAt, nextOf, hardware}
+use Rattle.lines.specs.Lines.{Line, for13, for25, for28, l2, l3, l30, nowhere, lineOf, accessAt, accessOf, counted, nextOf, hardware}
 use Rattle.lines.specs.Record.{firstSwap}
 use Rattle.history.specs.Basics.{_∈_}
-use Rattle.history.specs.History.{Action, No}
-use Rattle.figure.specs.Figure.{opening}
+use Rattle.history.specs.History.{Op, Action, begin, step, No}
+use Rattle.figure.specs.Figure.{World, WorldAfter, outcomeOf, figureRan, opening, figure, accessCell, attempts}
+use Rattle.cells.specs.Events.{eventOf}
 use Rattle.lines.specs.Paths.{table}
-use Rattle.figure.specs.Paths.{paths, by25, counts, countsOf, Traced, noTrace, figureTraces}
-use Rattle.figure.proofs.LineLaws.{every-line, has, same}
-use Rattle.figure.proofs.Records.{CompleteCall, Sound, traces-sound}
+use Rattle.figure.specs.Paths.{paths, by25, counts, countsOf, Traced, Trace, noTrace, enterLine, figureTraces}
+use Rattle.figure.proofs.LineLaws.{every-line, has, same, Leads, goes, done}
+use Rattle.figure.proofs.Records.{Pending, Complete, Then, led, one-line, Begun, starts, begin-cases, Stepped, runs, step-cases, Sound, its-op, with-first, act-sound}
 
 -- FINISHED CALLS
 
+abbrev pub CompleteCall : Traced → Type 0
+CompleteCall x = Complete (x .op) (x .lines) (x .report)
+
+abbrev AllComplete : Trace → Type 0
+AllComplete r = (x : Traced) → x ∈ r .done → CompleteCall x
+
+module _ (w : World) (r : Trace) (s : Sound w r) (h : AllComplete r) where
+  abbrev now : ℕ → Line
+  now t = lineOf (w .records t)
+
+  -- the line that ends a call completes it
+  line-complete : (t : ℕ) (m : t < w .tasks) (o : Pending (w .cells) (r .did t) (w .records t)) {n : Next} → Leads (now t) (counted (w .records t) (accessOf t (w .records t))) n →
+      Then (w .cells) (r .did t) (w .records t) o n → AllComplete (enterLine now r (step t) (eventOf (attempts w t) (outcomeOf n)))
+  line-complete t m o (goes f) k = h
+  line-complete t m o (done f) k = with-first CompleteCall _ (r .done) (rw (its-op w r s t m o) k) h
+
+  step-complete : (t : ℕ) {f : WorldAfter} → Stepped w t (r .did t) f → AllComplete (enterLine now r (step t) (eventOf (attempts w t) (f .outcome)))
+  unfolding figureRan
+  step-complete t (Stepped.refuses n i) = h
+  step-complete t (runs m o) =
+      let c = accessCell (w .cell (w .records t .cell)) (accessOf t (w .records t)) in
+      line-complete t m o (led (w .cells) (r .did t) (w .records t) o t (c .value)) (one-line (w .cells) (r .did t) (w .records t) o t (c .value))
+
+  begin-complete : (t : ℕ) (op : Op) {f : WorldAfter} → Begun w t op f → AllComplete (enterLine now r (begin t op) (eventOf 0 (f .outcome)))
+  begin-complete t op (Begun.refuses n) = h
+  begin-complete t op (starts a) = h
+
+  act-complete : (a : Action) → AllComplete (enterLine now r a (figure w a .1))
+  act-complete (begin t op) = begin-complete t op (begin-cases w t op)
+  act-complete (step t) = step-complete t (step-cases w t (r .did t) (s .pending t))
+
+traces-complete : (w : World) (r : Trace) → Sound w r → AllComplete r → (l : List Action) → AllComplete (figureTraces w r l)
+traces-complete w r s h [] = h
+traces-complete w r s h (a ∷ l) = traces-complete (figure w a .0) (enterLine (λ t. lineOf (w .records t)) r a (figure w a .1)) (act-sound w r s a) (act-complete w r s h a) l
+
 pub start-sound : (n v : ℕ) (vs : List ℕ) → Sound (opening n v vs) noTrace
-start-sound n v vs = record { pending = λ t. inl (refl, refl); begun = λ t. inl refl; complete = λ x i. absurd i }
+start-sound n v vs = record { pending = λ t. inl (refl, refl); begun = λ t. inl refl }
 
 pub calls-on-paths : (n v : ℕ) (vs : List ℕ) (l : List Action) (x : Traced) → x ∈ figureTraces (opening n v vs) noTrace l .done → CompleteCall x
-calls-on-paths n v vs l = traces-sound (opening n v vs) noTrace (start-sound n v vs) l .complete
+calls-on-paths n v vs l = traces-complete (opening n v vs) noTrace (start-sound n v vs) (λ x i. absurd i) l
 
 -- THE TABLE
 

@@ -18,9 +18,9 @@ use Rattle.history.specs.History.{Op, read, swap, cellOf}
 use Rattle.history.specs.Demand3.{Unequal}
 use Rattle.history.proofs.Basics.{either, upd-at, upd-same, upd-off}
 use Rattle.history.proofs.Simulation.{Ghost, Tally, QuietStarts, QuietSteps, Free}
-use Rattle.figure.specs.Figure.{Cell, World, withTask, recordAfter, accessCell, clear, attempts}
+use Rattle.figure.specs.Figure.{Cell, World, withTask, recordAfter, accessCell, clear, attempts, firstOf}
 use Rattle.figure.proofs.LineLaws.{Leads, goes, done}
-use Rattle.figure.proofs.Records.{Pending, OnPath, AllOnPath, Accepted, firstOf, led}
+use Rattle.figure.proofs.Records.{Pending, OnPath, AllOnPath, Accepted, led}
 use Rattle.figure.proofs.AsBegun.{opOf, cell-of}
 use Rattle.figure.proofs.Tallies.{tally, tallyOf, doing}
 use Rattle.figure.proofs.Classes.{busy, swapping, marking, lies-in, holding, uncontended}

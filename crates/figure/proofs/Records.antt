@@ -7,18 +7,17 @@ use mathlib.Core.List.{List, [], _∷_, _++_}
 use Prim.Native.Nat.{ℕ, _+_, _≤_, _<_}
 use native.Mathlib.Omega.{arith}
 use lib.Dec.{eqb, leb, ltb, T, leb→le, ltb→lt}
-use borrow.Author.Tests.{ltb-true, lt-ltb, ne-eqb}
+use borrow.Author.Tests.{ltb-true, lt-ltb, eq-eqb, ne-eqb}
 use Rattle.lines.specs.declared.Record.{Record}
 use Rattle.cells.specs.Answers.{Refused, Acted}
 use Rattle.lines.specs.Answers.{Next, Go, Done}
 use Rattle.lines.specs.Record.{idle, isIdle}
 use Rattle.lines.specs.Lines.{Line, lineAt, lineOf, accessAt, accessOf, counted, nextOf, hardware}
 use Rattle.questions.specs.Questions.{Question, refusal, ofKind, reads, swaps, lineFit, valuesFit, beginQuestions, swapQuestions, stepQuestions}
-use Rattle.lines.specs.Record.{firstRead, firstSwap}
 use Rattle.history.specs.Basics.{upd, _∈_}
 use Rattle.history.specs.History.{Op, read, swap, cellOf, Action, begin, step, Report, run}
 use Rattle.history.proofs.Basics.{either, upd-at, upd-off, upd-cases}
-use Rattle.figure.specs.Figure.{Cell, World, withTask, withBoth, WorldAfter, worldAfter, unlessRefused, recordAfter, outcomeOf, figureRan, figureStepped, figureBegun, opening, figure, accessCell, attempts}
+use Rattle.figure.specs.Figure.{Cell, World, withTask, withBoth, WorldAfter, worldAfter, unlessRefused, recordAfter, outcomeOf, figureRan, figureStepped, figureBegun, opening, figure, accessCell, attempts, firstOf}
 use Rattle.cells.specs.Events.{reportOf, eventOf}
 use Rattle.figure.specs.Paths.{count, Traced, Trace, didLine, enterLine, figureTraces}
 use Rattle.figure.specs.Paths as Paths
@@ -124,10 +123,6 @@ ask (x ∷ l) = go (x .1) refl (ask l)
     go true e (granted y) = granted (e, y)
     go false e a = denied (x .0) (λ y. false≢true (sym e ∙ y .0))
 
-abbrev pub firstOf : Op → Record
-firstOf (read k) = firstRead k
-firstOf (swap k e n) = firstSwap k e n
-
 -- what an accepted begin was asked
 pub record Accepted (w : World) (t : ℕ) (op : Op) : Type 0 where
   pub task : t < w .tasks
@@ -184,15 +179,10 @@ opening-on-path n v vs t = ([], inl (refl, refl))
 abbrev Begins : Op → Record → Type 0
 Begins op q = (q ≡ idle) ⊎ (op ≡ opOf q)
 
-abbrev pub CompleteCall : Traced → Type 0
-CompleteCall x = Complete (x .op) (x .lines) (x .report)
-
--- a trace of the figure, now w, whose calls keep to the paths: each task with the lines that its pending call did, and every finished
--- call complete
+-- a trace of the figure, now w, whose pending calls keep to the paths: each task with the lines that its call did
 pub record Sound (w : World) (r : Trace) : Type 0 where
   pub pending : (t : ℕ) → OnPath (w .tasks) (w .cells) t (r .did t) (w .records t)
   pub begun : (t : ℕ) → Begins (r .op t) (w .records t)
-  pub complete : (x : Traced) → x ∈ r .done → CompleteCall x
 
 -- what holds of the new one and of all before
 pub with-first : {A : Type 0} (P : A → Type 0) (a : A) (l : List A) → P a → ((x : A) → x ∈ l → P x) → (x : A) → x ∈ (a ∷ l) → P x
@@ -209,11 +199,12 @@ upd-both P f g t a b here there u = go (either u t)
 
 first-on-path : (w : World) (t : ℕ) (op : Op) → Accepted w t op → Pending (w .cells) [] (firstOf op)
 first-on-path w t (read k) a = record { cell = a .cell; line = refl; values = refl; steps = refl; hard = refl; lines = inl refl }
-first-on-path w t (swap k e n) a = record { cell = a .cell; line = fits (eqb e n) .0; values = a .values; steps = refl; hard = refl; lines = fits (eqb e n) .1 }
+first-on-path w t (swap k e n) a = let l = at-first (either e n) in record { cell = a .cell; line = l .0; values = a .values; steps = refl; hard = refl; lines = l .1 }
   where
-    fits : (b : Bool) → (ofKind (lineAt (cond b 10 15) 0) b (not b) ≡ true) × ([] ∈ before (lineAt (cond b 10 15) 0))
-    fits true = (refl, inl refl)
-    fits false = (refl, inl refl)
+    -- equal values: a read's first line; unequal ones: a swap's
+    at-first : (e ≡ n) ⊎ (e ≢ n) → (lineFit (firstOf (swap k e n)) ≡ true) × ([] ∈ before (lineOf (firstOf (swap k e n))))
+    at-first (inl z) = rw (eq-eqb e n z) (refl, inl refl)
+    at-first (inr z) = rw (ne-eqb e n z) (refl, inl refl)
 
 module _ (w : World) (r : Trace) (s : Sound w r) where
   abbrev now : ℕ → Line
@@ -231,7 +222,6 @@ module _ (w : World) (r : Trace) (s : Sound w r) where
   begin-sound t op (starts a) = record {
     pending = put t (firstOf op) [] (inr (a .task, first-on-path w t op a));
     begun = upd-both (λ u. Begins) (r .op) (w .records) t op (firstOf op) (kind op) (s .begun);
-    complete = s .complete;
   }
     where
       kind : (op : Op) → Begins op (firstOf op)
@@ -242,7 +232,7 @@ module _ (w : World) (r : Trace) (s : Sound w r) where
     abbrev q : Record
     q = w .records t
 
-    its-op : r .op t ≡ opOf q
+    pub its-op : r .op t ≡ opOf q
     its-op = go (s .begun t)
       where
         go : Begins (r .op t) q → r .op t ≡ opOf q
@@ -251,12 +241,8 @@ module _ (w : World) (r : Trace) (s : Sound w r) where
 
     line-sound : (c : Cell) {n : Next} → Leads (lineOf q) (counted q (accessOf t q)) n → Then (w .cells) (r .did t) q o n
         → Sound (withBoth w (q .cell) c t (recordAfter n)) (enterLine now r (step t) (eventOf (attempts w t) (outcomeOf n)))
-    line-sound c (goes f) k = record { pending = put t _ (didLine now r t) (inr (m, k)); begun = put-begun t _ (inr its-op); complete = s .complete }
-    line-sound c (done f) k = record {
-      pending = put t idle [] (inl (refl, refl));
-      begun = put-begun t idle (inl refl);
-      complete = with-first CompleteCall _ (r .done) (rw its-op k) (s .complete);
-    }
+    line-sound c (goes f) k = record { pending = put t _ (didLine now r t) (inr (m, k)); begun = put-begun t _ (inr its-op) }
+    line-sound c (done f) k = record { pending = put t idle [] (inl (refl, refl)); begun = put-begun t idle (inl refl) }
 
   step-sound : (t : ℕ) {f : WorldAfter} → Stepped w t (r .did t) f → Sound (f .world) (enterLine now r (step t) (eventOf (attempts w t) (f .outcome)))
   unfolding figureRan
@@ -269,14 +255,10 @@ module _ (w : World) (r : Trace) (s : Sound w r) where
   act-sound (begin t op) = begin-sound t op (begin-cases w t op)
   act-sound (step t) = step-sound t (step-cases w t (r .did t) (s .pending t))
 
-pub traces-sound : (w : World) (r : Trace) → Sound w r → (l : List Action) → Sound (run figure w l) (figureTraces w r l)
-traces-sound w r s [] = s
-traces-sound w r s (a ∷ l) = traces-sound (figure w a .0) (enterLine (λ t. lineOf (w .records t)) r a (figure w a .1)) (act-sound w r s a) l
-
 pub act-on-path : (w : World) → AllOnPath w → (a : Action) → AllOnPath (figure w a .0)
 act-on-path w p a =
     let r : Trace = record { op = λ t. opOf (w .records t); did = λ t. p t .0; done = [] } in
-    let s : Sound w r = record { pending = λ t. p t .1; begun = λ t. inr refl; complete = λ x i. absurd i } in
+    let s : Sound w r = record { pending = λ t. p t .1; begun = λ t. inr refl } in
     λ t. (enterLine (λ t. lineOf (w .records t)) r a (figure w a .1) .did t, act-sound w r s a .pending t)
 
 pub run-on-path : (w : World) → AllOnPath w → (l : List Action) → AllOnPath (run figure w l)

@@ -18,10 +18,10 @@ use Rattle.history.proofs.Moments as Placing
 use Rattle.history.proofs.Moments.{marks-linearize, marks-answers}
 use Rattle.history.proofs.Simulation.{Phase, Ghost, Knowledge, Keeps, Forward, Quietly, QuietSteps}
 use Rattle.history.proofs.Simulation as Sim
-use Rattle.figure.specs.Figure.{World, withBoth, WorldAfter, recordAfter, outcomeOf, figureRan, opening, figure, clear, attempts}
+use Rattle.figure.specs.Figure.{World, withBoth, WorldAfter, recordAfter, outcomeOf, figureRan, opening, figure, clear, attempts, firstOf}
 use Rattle.cells.specs.Events.{eventOf}
 use Rattle.figure.specs.Moments.{Notes, noNotes, nothingNoted, noted, noteStep, note, names, sees, moments}
-use Rattle.figure.proofs.Records.{Pending, AllOnPath, Begun, starts, firstOf, begin-cases, Stepped, runs, step-cases, act-on-path}
+use Rattle.figure.proofs.Records.{Pending, AllOnPath, Begun, starts, begin-cases, Stepped, runs, step-cases, act-on-path}
 use Rattle.figure.proofs.Tallies.{tally, doing, follows, within}
 use Rattle.figure.proofs.LineLaws.{by-test}
 use Rattle.figure.proofs.Classes.{storing}

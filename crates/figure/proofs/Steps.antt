@@ -11,13 +11,13 @@ use Rattle.lines.specs.declared.Field.{Field}
 use Rattle.lines.specs.declared.Field.the-variants.{C, D}
 use Rattle.lines.specs.declared.Access.{Access}
 use Rattle.lines.specs.Answers.{Next, Go, Done}
-use Rattle.lines.specs.Record.{noValue, idle}
+use Rattle.lines.specs.Record.{idle}
 use Rattle.lines.specs.Lines.{Wanted, for13, for25, for28, Line, l1, l2, l3, l10, l11, l12, l15, l16, l17, l18, l19, l20, l21, l22, l23, l24, l26, l27, l29, l30, nowhere, lineAt, lineOf, accessAt, at, counted, nextAt, answer, readAnswer}
 use Rattle.history.specs.Basics.{upd}
 use Rattle.history.specs.History.{Response, Yes, No}
 use Rattle.history.proofs.Basics.{either, upd-at, upd-off}
 use Rattle.history.proofs.Simulation.{Phase, settled, frozen, late}
-use Rattle.figure.specs.Figure.{Cell, store, install, Accessed, accessed, accessCell}
+use Rattle.figure.specs.Figure.{Cell, store, install, Accessed, accessCell}
 use Rattle.figure.proofs.Classes.{is, figureLine, busy, holding, swapping, stored, lies-in}
 use Rattle.figure.proofs.LineLaws.{wanted-is, by-test}
 use Rattle.figure.proofs.Invariant.{none, View, Knowledge, PhaseIs, line, held, Inv}
@@ -312,9 +312,11 @@ module _ (s : View) (κ : Knowledge) (κ⁺ : Phase → ℕ → Knowledge) (t : 
   pub each : (ℓ : Line) → line s t ≡ ℓ → T (busy ℓ) → Does ℓ (accessCell m (accessAt ℓ t q))
   unfolding none
   each (l1 x) e b = looks (l2 x) _ (same-wanted q x .0 e) (from1 s κ₁ i⁺ t (accessAt (l1 x) t q) 2 (q .wanted) x e (at-line (l1 x) e))
-  each (l2 x) e b =
-      by-test (Does (l2 x)) (eqb (m .d (q .held)) noValue) (accessed (store m (q .held) D (q .loaded)) 1) (accessed m 0) (λ z. decides x e (eqb-true _ _ z))
-      (λ z. looks (l3 x) _ (same-wanted q x .1 e) (from2 s κ₁ i⁺ t (accessAt (l2 x) t q) 3 (q .wanted) x (at-line (l2 x) e) (eqb-false _ _ z)))
+  each (l2 x) e b = go (either (m .d (q .held)) none)
+    where
+      go : (m .d (q .held) ≡ none) ⊎ (m .d (q .held) ≢ none) → Does (l2 x) (accessCell m (accessAt (l2 x) t q))
+      go (inl d) = rw (eq-eqb (m .d (q .held)) none d) (decides x e d)
+      go (inr d) = rw (ne-eqb (m .d (q .held)) none d) (looks (l3 x) _ (same-wanted q x .1 e) (from2 s κ₁ i⁺ t (accessAt (l2 x) t q) 3 (q .wanted) x (at-line (l2 x) e) d))
   each (l3 for13) e b = let k = known (l3 for13) e .task in let d = k .decided .decided tt in reads-it (l3 for13) e tt tt (λ x. x) (m .d (q .held)) (decided13 (k .seen .decision tt d)) d
   each (l3 for25) e b =
       let k = known (l3 for25) e .task in
@@ -371,9 +373,10 @@ module _ (s : View) (κ : Knowledge) (κ⁺ : Phase → ℕ → Knowledge) (t : 
       )
   each l27 e b = freezes e
   each l29 e b = record { change = still; can = tt; kept = Replacing.kept-grown s κ₁ t i⁺ e (accessAt l29 t q) 30 (q .wanted) refl; current = λ n. refl }
-  each l30 e b =
-      let k = known l30 e .task in
-      by-test (Does l30) (eqb (m .current) (q .held)) (accessed (install m (q .taken)) 1) (accessed m 0) (λ z. (installs e (sym (eqb-true _ _ z)), acts refl (rw e refl)))
-      (λ z. let r = k .seen .replaced tt (λ h. eqb-false _ _ z (sym h)) in
-      (leaves (unawaited l30 e (λ x. x)), declines-it l30 e tt tt (λ x. x) (r .0) (replaced30 (r .1) refl) (λ g. r .2 (g ∙ sym (k .decided .expected tt)))))
+  each l30 e b = go (either (m .current) (q .held))
+    where
+      go : (m .current ≡ q .held) ⊎ (m .current ≢ q .held) → Does l30 (accessCell m (accessAt l30 t q))
+      go (inl h) = rw (eq-eqb (m .current) (q .held) h) (installs e (sym h), acts refl (rw e refl))
+      go (inr h) = rw (ne-eqb (m .current) (q .held) h) (let k = known l30 e .task in let r = k .seen .replaced tt (λ g. h (sym g)) in
+          (leaves (unawaited l30 e (λ x. x)), declines-it l30 e tt tt (λ x. x) (r .0) (replaced30 (r .1) refl) (λ g. r .2 (g ∙ sym (k .decided .expected tt)))))
   each nowhere e b = absurd b

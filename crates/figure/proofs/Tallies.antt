@@ -18,12 +18,12 @@ use Rattle.history.specs.History.{Op, read, swap, Action, begin, step, Response
 use Rattle.history.specs.Demand3.{most, mostHard}
 use Rattle.history.proofs.Basics.{either, upd-at, upd-off}
 use Rattle.history.proofs.Simulation.{Tally, first, Follows}
-use Rattle.figure.specs.Figure.{Cell, World, WorldAfter, withBoth, recordAfter, outcomeOf, figureRan, figure, accessCell, attempts}
+use Rattle.figure.specs.Figure.{Cell, World, WorldAfter, withBoth, recordAfter, outcomeOf, figureRan, figure, accessCell, attempts, firstOf}
 use Rattle.cells.specs.Events.{eventOf}
 use Rattle.figure.specs.Paths.{readPaths, paths, count}
 use Rattle.figure.proofs.AsBegun.{opOf, kind-of, cell-of}
 use Rattle.figure.proofs.LineLaws.{every-in, waysOf, on-paths, on-read-paths, Leads, goes, done, by-test}
-use Rattle.figure.proofs.Records.{Pending, not-idle, led, Then, one-line, pending-bounds, read-bounds, firstOf, Begun, starts, begin-cases, Stepped, runs, step-cases, OnPath, AllOnPath}
+use Rattle.figure.proofs.Records.{Pending, not-idle, led, Then, one-line, pending-bounds, read-bounds, Begun, starts, begin-cases, Stepped, runs, step-cases, OnPath, AllOnPath}
 
 abbrev pub tally : Record → Tally
 tally q = record { op = opOf q; steps = q .steps; hard = q .hard }

@@ -123,9 +123,14 @@ figureRan w t q = let m = accessCell (w .cell (q .cell)) (accessOf t q) in let n
 unfoldable pub figureStepped : World → ℕ → WorldAfter
 figureStepped w t = unlessRefused (refusal (stepQuestions (w .tasks) (w .records t) t)) w (figureRan w t (w .records t))
 
+-- the record of a call as begun
+abbrev pub firstOf : Op → Record
+firstOf (read k) = firstRead k
+firstOf (swap k e n) = firstSwap k e n
+
 unfoldable pub figureBegun : World → ℕ → Op → WorldAfter
-figureBegun w t (read k) = unlessRefused (refusal (beginQuestions (w .tasks) (w .cells) (w .records t) t k)) w (worldAfter (withTask w t (firstRead k)) Acted)
-figureBegun w t (swap k e n) = unlessRefused (refusal (swapQuestions (w .tasks) (w .cells) (w .records t) t k e n)) w (worldAfter (withTask w t (firstSwap k e n)) Acted)
+figureBegun w t (read k) = unlessRefused (refusal (beginQuestions (w .tasks) (w .cells) (w .records t) t k)) w (worldAfter (withTask w t (firstOf (read k))) Acted)
+figureBegun w t (swap k e n) = unlessRefused (refusal (swapQuestions (w .tasks) (w .cells) (w .records t) t k e n)) w (worldAfter (withTask w t (firstOf (swap k e n))) Acted)
 
 -- cell k's first block, number 0, has its starting value
 abbrev pub opening : (tasks cells : ℕ) → List ℕ → World

@@ -10,17 +10,17 @@ use Rattle.figure.specs.Figure.{figureRan, figureStepped, figureBegun}
 use Rattle.figure.specs.Moments.{moments}
 
 -- a mark as it will be printed
-record Shown : Type 0 where
+record Brief : Type 0 where
   moment : ℕ
   side : Side
   task : ℕ
   rule : Rule
 
-abbrev shown : Mark → Shown
-shown m = record { moment = m .spot .moment; side = m .spot .side; task = m .call .task; rule = m .spot .rule }
+abbrev brief : Mark → Brief
+brief m = record { moment = m .spot .moment; side = m .spot .side; task = m .call .task; rule = m .spot .rule }
 
-abbrev at : ℕ → Side → ℕ → Rule → Shown
-at n s t r = record { moment = n; side = s; task = t; rule = r }
+abbrev entry : ℕ → Side → ℕ → Rule → Brief
+entry n s t r = record { moment = n; side = s; task = t; rule = r }
 
 abbrev steps : (count task : ℕ) → List Action
 steps n t = replicate n (step t)
@@ -37,33 +37,33 @@ abbrev lateStore : List Action
 lateStore = meeting ++ steps 2 0 ++ steps 1 1
 
 -- three tasks, one cell that holds 5
-abbrev Holds : List (List Action × List Shown) → Type 0
+abbrev Holds : List (List Action × List Brief) → Type 0
 Holds [] = Unit {0}
-Holds ((l, r) ∷ c) = (map shown (moments 3 1 (5 ∷ []) l) ≡ r) × Holds c
+Holds ((l, r) ∷ c) = (map brief (moments 3 1 (5 ∷ []) l) ≡ r) × Holds c
 
 pub moments-hold :
     Holds (
     -- P1: a swap that is alone, and a read after it
-    (alone 0 (swap 0 5 7) 10 ++ alone 1 (read 0) 3, at 8 itself 0 C4 ∷ at 13 itself 1 R1 ∷ []) ∷
+    (alone 0 (swap 0 5 7) 10 ++ alone 1 (read 0) 3, entry 8 itself 0 C4 ∷ entry 13 itself 1 R1 ∷ []) ∷
     -- P5 and P6: a swap of equal values, at its line 11; one that expects another value, at its line 20. A refused action has its number too.
-    (step 0 ∷ alone 0 (swap 0 5 5) 3 ++ alone 0 (swap 0 4 6) 8, at 3 itself 0 C1 ∷ at 11 itself 0 C2 ∷ []) ∷
+    (step 0 ∷ alone 0 (swap 0 5 5) 3 ++ alone 0 (swap 0 4 6) 8, entry 3 itself 0 C1 ∷ entry 11 itself 0 C2 ∷ []) ∷
     -- P9: task 1's late store counts, at the action that set C; task 0 answers no at the decision. Then task 0 replaces the block, alone.
     (
       lateStore ++ steps 4 1 ++ steps 3 0 ++ alone 0 (swap 0 9 4) 9 ++ alone 0 (swap 0 4 6) 10,
-      at 12 itself 1 C3 ∷ at 16 itself 0 C5 ∷ at 30 itself 0 C6 ∷ at 39 itself 0 C4 ∷ [],
+      entry 12 itself 1 C3 ∷ entry 16 itself 0 C5 ∷ entry 30 itself 0 C6 ∷ entry 39 itself 0 C4 ∷ [],
     ) ∷
     -- P10: task 1 replaces the block; task 0's hardware CAS fails, and it took effect right after
-    (meeting ++ steps 5 0 ++ steps 10 1 ++ steps 2 0, at 25 itself 1 C6 ∷ at 25 after 0 C6 ∷ []) ∷
+    (meeting ++ steps 5 0 ++ steps 10 1 ++ steps 2 0, entry 25 itself 1 C6 ∷ entry 25 after 0 C6 ∷ []) ∷
     -- a swap that stored late and halted is listed as soon as its value is decided, and not before
     (lateStore ++ steps 1 0, []) ∷
-    (lateStore ++ steps 2 0, at 12 itself 1 C3 ∷ []) ∷
+    (lateStore ++ steps 2 0, entry 12 itself 1 C3 ∷ []) ∷
     -- one that stored in an active block and halted is listed at its store, also if C was set since
-    (begin 0 (swap 0 5 7) ∷ steps 2 0 ++ alone 1 (swap 0 5 9) 8 ++ steps 2 0, at 11 itself 1 C4 ∷ []) ∷
+    (begin 0 (swap 0 5 7) ∷ steps 2 0 ++ alone 1 (swap 0 5 9) 8 ++ steps 2 0, entry 11 itself 1 C4 ∷ []) ∷
     -- a read that goes by a decision: made after its first load (task 2's, action 15), and before it
-    (lateStore ++ begin 2 (read 0) ∷ steps 1 2 ++ steps 2 0 ++ steps 5 2, at 12 itself 1 C3 ∷ at 17 itself 2 R2 ∷ []) ∷
-    (lateStore ++ steps 2 0 ++ alone 2 (read 0) 6, at 12 itself 1 C3 ∷ at 17 itself 2 R2 ∷ []) ∷
+    (lateStore ++ begin 2 (read 0) ∷ steps 1 2 ++ steps 2 0 ++ steps 5 2, entry 12 itself 1 C3 ∷ entry 17 itself 2 R2 ∷ []) ∷
+    (lateStore ++ steps 2 0 ++ alone 2 (read 0) 6, entry 12 itself 1 C3 ∷ entry 17 itself 2 R2 ∷ []) ∷
     -- the same as a swap of equal values
-    (lateStore ++ steps 2 0 ++ alone 2 (swap 0 9 9) 6, at 12 itself 1 C3 ∷ at 17 itself 2 C1 ∷ []) ∷
+    (lateStore ++ steps 2 0 ++ alone 2 (swap 0 9 9) 6, entry 12 itself 1 C3 ∷ entry 17 itself 2 C1 ∷ []) ∷
     []
     )
 unfolding upd figureRan figureStepped figureBegun

@@ -1,10 +1,14 @@
--- Laws of a function changed at one number; callers use these and not its text.
+-- Laws of a function changed at one number, which callers use and not its text; of options; a call at a moment.
 use mathlib.Core.Path.{_≡_, refl}
 use mathlib.Core.Logic.{_≢_, _⊎_, inl, inr}
+use mathlib.Core.Option.{Option, none, some}
 use Prim.Native.Nat.{ℕ}
 use native.Mathlib.Decide.{ℕ-discrete}
+use native.Mathlib.Omega.{arith}
 use borrow.Author.Tests.{eq-eqb, ne-eqb}
 use Rattle.history.specs.Basics.{upd}
+use Rattle.history.specs.History.{Call}
+use Rattle.history.specs.Linearization.{Point}
 
 pub either : (m n : ℕ) → (m ≡ n) ⊎ (m ≢ n)
 either m n = go (ℕ-discrete m n)
@@ -31,3 +35,12 @@ upd-cases Q f n a m here there = go (either m n)
     go : (m ≡ n) ⊎ (m ≢ n) → Q (upd f n a m)
     go (inl e) = rw (upd-at f n a m e) (here e)
     go (inr e) = rw (upd-off f n a m e) (there e)
+
+pub clash : {A : Type 0} {o : Option A} {a : A} → o ≡ none → o ≡ some a → ⊥
+clash p q = let z : _≡_ {A = ℕ} 0 1 = cc in omega arith
+
+pub some-inj : {A : Type 0} {o : Option A} {a b : A} → o ≡ some a → o ≡ some b → a ≡ b
+some-inj p q = cc
+
+abbrev pub point : Call → ℕ → Point
+point c m = record { moment = m; call = c .start }

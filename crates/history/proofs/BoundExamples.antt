@@ -11,7 +11,7 @@ use Rattle.history.specs.Basics.{upd, _∈_}
 use Rattle.history.specs.History.{aRead, aSwap, read, swap, Action, begin, step, Event, refused, accepted, Value, Yes, Call, FinishedCall, Calls, noCalls, callsOf}
 use Rattle.history.specs.History.{finished, pending, WellFormed}
 use Rattle.history.specs.Demand3.{most, mostHard, Reports, Bounds, Unequal, Alone, NoHardware}
-use Rattle.history.proofs.Tracks.{clash, some-inj}
+use Rattle.history.proofs.Basics.{clash, some-inj}
 use Rattle.history.proofs.Examples.{answers, TwoCalls, two-calls, ended, both-ended, one-of}
 
 -- WRONG EVENTS: no well-formed history has them

@@ -10,8 +10,7 @@ use Rattle.history.specs.Basics.{_∈_}
 use Rattle.history.specs.History.{Action, step, Event, refused, accepted, answered, history, run, Call, FinishedCall, Calls, noCalls, advance, advanced, closed, enter, enterAll, callsOf}
 use Rattle.history.specs.History.{Allowed, WellFormed}
 use Rattle.history.specs.Demand3.{most, Meets, Finishes}
-use Rattle.history.proofs.Basics.{upd-same}
-use Rattle.history.proofs.Tracks.{clash}
+use Rattle.history.proofs.Basics.{upd-same, clash}
 
 history-snoc : {S : Type 0} (act : S → Action → S × Event) (s : S) (l : List Action) (a : Action) → history act s (l ++ (a ∷ [])) ≡ history act s l ++ ((a, act (run act s l) a .1) ∷ [])
 history-snoc act s [] a = refl

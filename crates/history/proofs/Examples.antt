@@ -1,5 +1,6 @@
 -- What linearizations are accepted and what they rule out, at histories written out. A linearization of two calls has one of five shapes, so
--- each refutation goes through them, and the answers in each are computed.
+-- each refutation goes through them, and the answers in each are computed. (Nothing here uses the proof of demand 3, so that the checker comes
+-- to these examples first, and refuses a wrong definition here.)
 use mathlib.Core.Path.{_≡_, refl, sym, ap, _∙_, subst}
 use mathlib.Core.Logic.{_≢_, _⊎_, inl, inr}
 use mathlib.Core.Bool.{Bool, true, false, cond}
@@ -10,13 +11,45 @@ use native.Mathlib.Omega.{arith}
 use lib.Dec.{eqb, T}
 use borrow.Author.Tests.{eq-eqb, ne-eqb}
 use Rattle.history.specs.Basics.{upd, _∈_, Once}
-use Rattle.history.specs.History.{Op, Kind, aRead, aSwap, kindOf, Report, read, swap, Action, begin, step, Event, accepted, answered, Response, Value, Yes, No, CallId, Call, FinishedCall, Calls, callsOf}
+use Rattle.history.specs.History.{Op, cellOf, Kind, aRead, aSwap, kindOf, Report, read, swap, Action, begin, step, Event, accepted, answered, Response, Value, Yes, No, CallId, Call, FinishedCall, Calls, callsOf}
 use Rattle.history.specs.History.{CallOf, finished, pending}
 use Rattle.history.specs.Linearization.{reply, apply, Point, replies, Placed, Linearizes}
-use Rattle.history.specs.Demand3.{most, mostHard, Reports, Alone, Demand3}
-use Rattle.history.proofs.Basics.{either}
-use Rattle.history.proofs.Tracks.{clash, some-inj}
-use Rattle.history.proofs.Kept.{point}
+use Rattle.history.specs.Demand3.{most, mostHard, Reports, Unequal, Alone, Demand3}
+use Rattle.history.proofs.Basics.{either, clash, some-inj, point}
+
+-- THE SEQUENTIAL CELLS: every cell holds 5 first
+
+abbrev five : ℕ → ℕ
+five k = 5
+
+-- RIGHT: a swap changes its own cell and no other
+pub its-own-cell : apply five (swap 1 5 7) 1 ≡ 7
+its-own-cell = refl
+
+pub no-other-cell : apply five (swap 1 5 7) 0 ≡ 5
+no-other-cell = refl
+
+-- RIGHT: it answers yes if its cell holds the value that it expects, else no, and then leaves the cell as it is
+pub met-swap-says-yes : reply 5 (swap 0 5 7) ≡ Yes
+met-swap-says-yes = refl
+
+pub unmet-swap-says-no : reply 6 (swap 0 5 7) ≡ No
+unmet-swap-says-no = refl
+
+pub unmet-swap-changes-nothing : apply five (swap 0 6 7) 0 ≡ 5
+unmet-swap-changes-nothing = refl
+
+-- RIGHT: a swap of equal values is fed as a swap: it answers yes or no, and changes nothing
+pub equal-swap-says-yes : reply 5 (swap 0 5 5) ≡ Yes
+equal-swap-says-yes = refl
+
+pub equal-swap-says-no : reply 6 (swap 0 5 5) ≡ No
+equal-swap-says-no = refl
+
+pub equal-swap-changes-nothing : apply five (swap 0 5 5) 0 ≡ 5
+equal-swap-changes-nothing = refl
+
+-- WRONG IN EVERY HISTORY: a call twice; a call at its own begin, or earlier
 
 abbrev ats : List Point → List ℕ
 ats l = map (λ e. e .call .at) l
@@ -25,10 +58,17 @@ to-ats : (l : List Point) (x : Point) → x ∈ l → x .call .at ∈ ats l
 to-ats (y ∷ l) x (inl h) = inl (ap (λ (x : Point). x .call .at) h)
 to-ats (y ∷ l) x (inr h) = inr (to-ats l x h)
 
--- TOOLS: every cell holds 5 first; a history of the tasks 0 and 1 with the calls c and d
+not-again : (xs ys : List Point) (x y : Point) → Once (ats (xs ++ (x ∷ ys))) → y ∈ ys → y .call .at ≡ x .call .at → ⊥
+not-again [] ys x y o i q = o .0 (subst (λ n. n ∈ ats ys) q (to-ats ys y i))
+not-again (z ∷ xs) ys x y o i q = not-again xs ys x y (o .1) i q
 
-abbrev five : ℕ → ℕ
-five k = 5
+pub no-call-twice : (values : ℕ → ℕ) (b : Calls) (c : Call) (m n : ℕ) (xs ys : List Point) → point c n ∈ ys → Linearizes values b (xs ++ (point c m ∷ ys)) → ⊥
+no-call-twice values b c m n xs ys i r = not-again xs ys (point c m) (point c n) (r .once) i refl
+
+pub no-effect-at-the-begin : (values : ℕ → ℕ) (b : Calls) (l : List Point) (x : Point) → x ∈ l → x .moment ≤ x .call .at → Linearizes values b l → ⊥
+no-effect-at-the-begin values b l x i q r = let p = r .placed x i in omega (arith, p .after-begin, ap (λ (s : CallId). s .at) (p .is))
+
+-- TOOLS: a history of the tasks 0 and 1 with the calls c and d
 
 -- of calls on cell 0
 abbrev pub report : Kind → Response → (steps hard : ℕ) → Report
@@ -50,6 +90,15 @@ two-calls b c d rest at0 at1 done e n (pending t f h) = go (either t 0) (either 
     go (inr p) (inl q) = absurd (clash at1 (rw q at h))
     go (inr p) (inr q) = absurd (clash (rest t p q) h)
 
+nor : {A B : Type 0} → (A → ⊥) → (B → ⊥) → A ⊎ B → ⊥
+nor f g (inl a) = f a
+nor f g (inr b) = g b
+
+-- a swap of unequal values on c's cell, begun before c's end and itself ended after c's begin, is contention
+pub contends : (b : Calls) (c d : Call) (n end : ℕ) → CallOf b d n → Unequal (d .start .op) → cellOf (d .start .op) ≡ cellOf (c .start .op) → d .start .at ≢ c .start .at →
+    c .start .at < n → d .start .at < end → Alone b c end → ⊥
+contends b c d n end i u q ne low high alone = nor (λ z. omega arith) (λ z. omega arith) (alone d n i u q ne)
+
 data Shape (c d : Call) : List Point → Type 0 where
   neither : Shape c d []
   only-c : (m : ℕ) → Shape c d (point c m ∷ [])
@@ -62,7 +111,7 @@ module _ {values : ℕ → ℕ} {b : Calls} {l : List Point} (c d : Call) (two :
   Of x = (x ≡ point c (x .moment)) ⊎ (x ≡ point d (x .moment))
 
   its : (x : Point) → x ∈ l → Of x
-  its x i = let p = r .placed x i in go p (two (p .call) (p .end) (p .of-history))
+  its x i = let p = r .placed x i in go p (two (p .call) _ (p .of-history))
     where
       go : (p : Placed b x) → (p .call ≡ c) ⊎ (p .call ≡ d) → Of x
       go p (inl q) = let s : x .call ≡ c .start = p .is ∙ ap (λ (c : Call). c .start) q in inl (λ i. record { moment = x .moment; call = s i })
@@ -100,7 +149,7 @@ module _ {values : ℕ → ℕ} {b : Calls} {l : List Point} (c d : Call) (two :
 
   -- c's point lies between its begin and its last step
   within-c : c .start .at ≢ d .start .at → (m : ℕ) → point c m ∈ l → (c .start .at < m) × (m ≤ c .last)
-  within-c ne m i = let p = r .placed (point c m) i in go p (two (p .call) (p .end) (p .of-history))
+  within-c ne m i = let p = r .placed (point c m) i in go p (two (p .call) _ (p .of-history))
     where
       go : (p : Placed b (point c m)) → (p .call ≡ c) ⊎ (p .call ≡ d) → (c .start .at < m) × (m ≤ c .last)
       go p (inl q) = subst (λ (c : Call). (c .start .at < m) × (m ≤ c .last)) q (p .after-begin, p .by-last-step)
@@ -162,6 +211,10 @@ late-two = two-calls (callsOf late-swap) halted decider (λ t p q. rw (ne-eqb t 
     done : (f : FinishedCall) → f ∈ (decided ∷ []) → (f .call ≡ halted) ⊎ (f .call ≡ decider)
     done f (inl q) = inr (ap (λ (f : FinishedCall). f .call) q)
 
+late-halted : CallOf (callsOf late-swap) halted 17
+unfolding upd
+late-halted = pending 0 halted refl
+
 late-done : decided ∈ callsOf late-swap .finished
 unfolding upd
 late-done = inl refl
@@ -169,7 +222,7 @@ late-done = inl refl
 -- the halted swap may take effect at any of its moments that is not past its last step
 late-linearizes : (m : ℕ) → 0 < m → m ≤ 13 → Linearizes five (callsOf late-swap) (point halted m ∷ point decider 15 ∷ [])
 unfolding upd
-late-linearizes m low high = record { sorted = (first, ((λ x i. absurd i), tt)); placed = placed; once = ((λ i. other i), ((λ i. i), tt)); answers = answers }
+late-linearizes m low high = record { sorted = ((λ x i. omega (arith, first x i)), ((λ x i. absurd i), tt)); placed = placed; once = ((λ i. other i), ((λ i. i), tt)); answers = answers }
   where
     first : (x : Point) → x ∈ (point decider 15 ∷ []) → m ≤ x .moment
     first x (inl q) = rw q (omega arith)
@@ -178,7 +231,7 @@ late-linearizes m low high = record { sorted = (first, ((λ x i. absurd i), tt))
     other (inl q) = omega arith
 
     placed : (x : Point) → x ∈ (point halted m ∷ point decider 15 ∷ []) → Placed (callsOf late-swap) x
-    placed x (inl q) = rw q (record { call = halted; end = 17; of-history = pending 0 halted refl; is = refl; after-begin = low; by-last-step = high })
+    placed x (inl q) = rw q (record { call = halted; end = 17; of-history = late-halted; is = refl; after-begin = low; by-last-step = high })
     placed x (inr (inl q)) = rw q (record { call = decider; end = 16; of-history = finished decided (inl refl); is = refl; after-begin = omega arith; by-last-step = omega arith })
 
     answers : (f : FinishedCall) → f ∈ (decided ∷ []) →
@@ -216,11 +269,8 @@ late-swap-meets-demand-3 = record {
     unended c (inr q) = rw q (omega arith)
 
     apart : (c : Call) (n : ℕ) → 0 < n → c ≡ decider → Alone (callsOf late-swap) c n → ⊥
-    apart c n h q l = go (l halted 17 (pending 0 halted refl) (λ e. omega arith) (rw q) (rw q (λ e. omega arith)))
-      where
-        go : (17 ≤ c .start .at) ⊎ (n ≤ 0) → ⊥
-        go (inl z) = let o = ap (λ (c : Call). c .start .at) q in omega arith
-        go (inr z) = omega arith
+    apart c n h q l = contends (callsOf late-swap) decider halted 17 n late-halted (λ e. omega arith) refl (λ e. omega arith) (omega arith) h
+        (subst (λ (c : Call). Alone (callsOf late-swap) c n) q l)
 
     hard : (c : Call) (n : ℕ) → CallOf (callsOf late-swap) c n → Alone (callsOf late-swap) c n → (c ≡ halted) ⊎ (c ≡ decider) → c .hard ≡ 0
     hard c n i l (inl q) = ap (λ (c : Call). c .hard) q
@@ -248,35 +298,6 @@ no-seen-swap-left-out l out r = let p = late-has l r in out (point halted (p .0)
 
 pub no-finished-call-left-out : (l : List Point) → ((x : Point) → x ∈ l → x .call ≢ decider .start) → Linearizes five (callsOf late-swap) l → ⊥
 no-finished-call-left-out l out r = let p = late-has l r in out (point decider (p .1)) (p .3) refl
-
--- WRONG IN EVERY HISTORY: a call twice; a call at its own begin, or earlier
-
-not-again : (xs ys : List Point) (x y : Point) → Once (ats (xs ++ (x ∷ ys))) → y ∈ ys → y .call .at ≡ x .call .at → ⊥
-not-again [] ys x y o i q = o .0 (rw (← q) (to-ats ys y i))
-not-again (z ∷ xs) ys x y o i q = not-again xs ys x y (o .1) i q
-
-pub no-call-twice : (values : ℕ → ℕ) (b : Calls) (c : Call) (m n : ℕ) (xs ys : List Point) → point c n ∈ ys → Linearizes values b (xs ++ (point c m ∷ ys)) → ⊥
-no-call-twice values b c m n xs ys i r = not-again xs ys (point c m) (point c n) (r .once) i refl
-
-pub no-effect-at-the-begin : (values : ℕ → ℕ) (b : Calls) (l : List Point) (x : Point) → x ∈ l → x .moment ≤ x .call .at → Linearizes values b l → ⊥
-no-effect-at-the-begin values b l x i q r = let p = r .placed x i in omega (arith, p .after-begin, ap (λ (s : CallId). s .at) (p .is))
-
--- RIGHT: a swap changes its own cell and no other
-pub its-own-cell : apply five (swap 1 5 7) 1 ≡ 7
-its-own-cell = refl
-
-pub no-other-cell : apply five (swap 1 5 7) 0 ≡ 5
-no-other-cell = refl
-
--- RIGHT: a swap of equal values is fed as a swap: it answers yes or no, and changes nothing
-pub equal-swap-says-yes : reply 5 (swap 0 5 5) ≡ Yes
-equal-swap-says-yes = refl
-
-pub equal-swap-says-no : reply 6 (swap 0 5 5) ≡ No
-equal-swap-says-no = refl
-
-pub equal-swap-changes-nothing : apply five (swap 0 5 5) 0 ≡ 5
-equal-swap-changes-nothing = refl
 
 -- WRONG ANSWERS: no linearization has them
 

@@ -8,7 +8,7 @@ use native.Mathlib.Omega.{arith}
 use lib.Dec.{eqb, ltb, T}
 use borrow.Author.Tests.{eq-eqb, ne-eqb, lt-ltb, le-ltb}
 use Rattle.history.specs.History.{Response}
-use Rattle.history.specs.Linearization.{reply, after, Point}
+use Rattle.history.specs.Linearization.{reply, valueLeft, Point}
 use Rattle.history.specs.Moments.{changes}
 use Rattle.history.proofs.Basics.{either}
 use Rattle.history.proofs.Timeline.{le-or-lt, calm-after, after-calm, cell, found, Right, Cause, Timeline}
@@ -63,7 +63,7 @@ module _ {values : ℕ → ℕ} {past : ℕ → ℕ → ℕ} {E E' : Point → R
 
   -- A CALL THAT CHANGES NOTHING finds v after its moment
 
-  pub observed : (v : ℕ) → past (cell e) (suc (e .moment)) ≡ v → reply v (e .call .op) ≡ a → after v (e .call .op) ≡ v → Timeline values past E'
+  pub observed : (v : ℕ) → past (cell e) (suc (e .moment)) ≡ v → reply v (e .call .op) ≡ a → valueLeft v (e .call .op) ≡ v → Timeline values past E'
   observed v is says calm = record {
     first = L .first;
     right = both-ways past right (L .right);
@@ -78,7 +78,7 @@ module _ {values : ℕ → ℕ} {past : ℕ → ℕ → ℕ} {E E' : Point → R
       here = ap (λ (b : Bool). past (cell e) (cond b (e .moment) (suc (e .moment)))) still ∙ is
 
       right : Right past e a
-      right = record { says = ap (λ v. reply v (e .call .op)) here ∙ says; leaves = ap (λ v. after v (e .call .op)) here ∙ calm ∙ sym is }
+      right = record { says = ap (λ v. reply v (e .call .op)) here ∙ says; leaves = ap (λ v. valueLeft v (e .call .op)) here ∙ calm ∙ sym is }
 
       go : (k n : ℕ) → (past k (suc n) ≡ past k n) ⊎ Cause E k n → (past k (suc n) ≡ past k n) ⊎ Cause E' k n
       go k n (inl z) = inl z
@@ -115,7 +115,7 @@ module _ {values : ℕ → ℕ} {past : ℕ → ℕ → ℕ} {E E' : Point → R
   m = e .moment
 
   abbrev v⁺ : ℕ
-  v⁺ = after v (e .call .op)
+  v⁺ = valueLeft v (e .call .op)
 
   abbrev past⁺ : ℕ → ℕ → ℕ
   past⁺ = since past k m v⁺
@@ -132,7 +132,7 @@ module _ {values : ℕ → ℕ} {past : ℕ → ℕ → ℕ} {E E' : Point → R
   old-right x b i =
       let r = L .right x b i in
       let f = kept x b i (found x b) (most (changes (x .call .op) b)) in
-      record { says = ap (λ v. reply v (x .call .op)) f ∙ r .says; leaves = ap (λ v. after v (x .call .op)) f ∙ r .leaves ∙ sym (kept x b i (suc (x .moment)) (omega arith)) }
+      record { says = ap (λ v. reply v (x .call .op)) f ∙ r .says; leaves = ap (λ v. valueLeft v (x .call .op)) f ∙ r .leaves ∙ sym (kept x b i (suc (x .moment)) (omega arith)) }
     where
       most : (c : Bool) → cond c (x .moment) (suc (x .moment)) ≤ suc (x .moment)
       most true = omega arith
@@ -145,7 +145,7 @@ module _ {values : ℕ → ℕ} {past : ℕ → ℕ → ℕ} {E E' : Point → R
   new-right : Right past⁺ e a
   new-right =
       let f = here (changes (e .call .op) a) refl in
-      record { says = ap (λ v. reply v (e .call .op)) f ∙ says; leaves = ap (λ v. after v (e .call .op)) f ∙ sym (since-after past k m v⁺ k (suc m) refl (omega arith)) }
+      record { says = ap (λ v. reply v (e .call .op)) f ∙ says; leaves = ap (λ v. valueLeft v (e .call .op)) f ∙ sym (since-after past k m v⁺ k (suc m) refl (omega arith)) }
 
   caused⁺ : (j n : ℕ) → (past⁺ j (suc n) ≡ past⁺ j n) ⊎ Cause E' j n
   caused⁺ j n = go (either j k) (le-or-lt m n) (either n m)

@@ -10,11 +10,10 @@ use native.Mathlib.Omega.{arith}
 use lib.Dec.{T, T-not}
 use Rattle.history.specs.Basics.{upd, _∈_}
 use Rattle.history.specs.History.{Op, cellOf, Response, Yes, CallId, Call, FinishedCall, Calls}
-use Rattle.history.specs.Linearization.{reply, after, apply, Point}
+use Rattle.history.specs.Linearization.{reply, valueLeft, apply, Point}
 use Rattle.history.specs.Moments.{Mark, pointOf}
-use Rattle.history.proofs.Basics.{either, upd-at, upd-same, upd-off}
+use Rattle.history.proofs.Basics.{either, upd-at, upd-same, upd-off, some-inj, point}
 use Rattle.history.proofs.Simulation.{Phase, settled, late, Ghost, Sided}
-use Rattle.history.proofs.Tracks.{some-inj}
 use Rattle.history.proofs.MovesOne.{Onward, From, MovesOne, from-where}
 use Rattle.history.proofs.Timeline.{apply-at, apply-off, cell, Timeline}
 use Rattle.history.proofs.Growing.{Joins, regarded, since, since-other, since-after, changed}
@@ -23,9 +22,6 @@ abbrev pub cell-of : Call → ℕ
 cell-of c = cellOf (c .start .op)
 
 -- THE CALLS THAT TOOK EFFECT
-
-abbrev pub point : Call → ℕ → Point
-point c m = record { moment = m; call = c .start }
 
 -- the finished ones, by their marks, and the pending swaps that are placed
 pub data Entry (placed : ℕ → Bool) (when : ℕ → ℕ) (pending : ℕ → Option Call) (ms : List Mark) : Point → Response → Type 0 where
@@ -36,8 +32,8 @@ pub data Entry (placed : ℕ → Bool) (when : ℕ → ℕ) (pending : ℕ → O
 pub record MarkOf (f : FinishedCall) (m : Mark) : Type 0 where
   pub call : m .call ≡ f .call .start
   pub answer : m .answer ≡ f .report .answer
-  pub begun : f .call .start .at < m .spot .moment
-  pub stepped : m .spot .moment ≤ f .call .last
+  pub after-begin : f .call .start .at < m .spot .moment
+  pub by-last-step : m .spot .moment ≤ f .call .last
   pub sided : Sided (m .call .op) (m .answer) (m .spot)
 
 -- the marks are those of the finished calls, one for each
@@ -54,8 +50,8 @@ pub record Late (placed : ℕ → Bool) (froze : ℕ → ℕ) (pending : ℕ →
   pub call : Call
   pub busy : pending u ≡ some call
   pub on : cell-of call ≡ k
-  pub begun : call .start .at < froze k
-  pub stepped : froze k ≤ call .last
+  pub after-begin : call .start .at < froze k
+  pub by-last-step : froze k ≤ call .last
   pub unplaced : T (not (placed u))
 
 pub record Kept (values : ℕ → ℕ) (g : Ghost) (b : Calls) (past : ℕ → ℕ → ℕ) (firm : ℕ → ℕ) (ms : List Mark) : Type 0 where
@@ -89,8 +85,8 @@ module _ {values : ℕ → ℕ} {g : Ghost} {b : Calls} {past : ℕ → ℕ → 
       call = d .0;
       busy = d .1;
       on = subst (λ (s : CallId). cellOf (s .op) ≡ j) (d .2 .start) (p .on);
-      begun = omega (arith, p .begun, ap (λ (s : CallId). s .at) (d .2 .start));
-      stepped = omega (arith, p .stepped, d .2 .last);
+      after-begin = omega (arith, p .after-begin, ap (λ (s : CallId). s .at) (d .2 .start));
+      by-last-step = omega (arith, p .by-last-step, d .2 .last);
       unplaced = subst (λ x. T (not x)) (sym (old u (p .call) (p .busy))) (p .unplaced);
     };
   }
@@ -150,7 +146,7 @@ module _ {values : ℕ → ℕ} {g : Ghost} {b : Calls} {past : ℕ → ℕ → 
     when⁺ = upd (g .when) u m
 
     abbrev pub past⁺ : ℕ → ℕ → ℕ
-    past⁺ = since past (cell-of c) m (after (g .cells (cell-of c)) op)
+    past⁺ = since past (cell-of c) m (valueLeft (g .cells (cell-of c)) op)
 
     other : (t : ℕ) → T (g .placed t) → t ≢ u
     other t p e = T-not (g .placed u) unplaced (subst (λ n. T (g .placed n)) e p)
@@ -183,11 +179,11 @@ module _ {values : ℕ → ℕ} {g : Ghost} {b : Calls} {past : ℕ → ℕ → 
       bound = λ j. up j .1;
       marked = k .marked;
       stands = λ t d h p. stands t d h p (either t u);
-      lates = λ j w h. let p = lates j w h in record { call = p .call; busy = p .busy; on = p .on; begun = p .begun; stepped = p .stepped; unplaced = subst (λ x. T (not x)) (sym (upd-off (g .placed) u true w (unlate j w h p))) (p .unplaced) };
+      lates = λ j w h. let p = lates j w h in record { call = p .call; busy = p .busy; on = p .on; after-begin = p .after-begin; by-last-step = p .by-last-step; unplaced = subst (λ x. T (not x)) (sym (upd-off (g .placed) u true w (unlate j w h p))) (p .unplaced) };
     }
       where
         ends : (j n : ℕ) → firm' j ≤ n → (j ≡ cell-of c) ⊎ (j ≢ cell-of c) → past⁺ j n ≡ apply (g .cells) op j
-        ends j n h (inl e) = since-after past (cell-of c) m _ j n e (omega (arith, ap firm' e)) ∙ ap (λ i. after (g .cells i) op) (sym e) ∙ sym (apply-at (g .cells) op j e)
+        ends j n h (inl e) = since-after past (cell-of c) m _ j n e (omega (arith, ap firm' e)) ∙ ap (λ i. valueLeft (g .cells i) op) (sym e) ∙ sym (apply-at (g .cells) op j e)
         ends j n h (inr e) = since-other past (cell-of c) m _ j n e ∙ k .ends j n (omega (arith, up j .0)) ∙ sym (apply-off (g .cells) op j e)
 
         firmed : (e : Point) (a : Response) → ((e ≡ point c m) × (a ≡ Yes)) ⊎ Entry (g .placed) (g .when) (b .pending) ms e a → e .moment < firm' (cell e)

@@ -11,7 +11,7 @@ pub mod Kept
 pub mod Moves
 pub mod Linearize
 pub mod Distinct
-pub mod AllActions
+pub mod EveryAction
 pub mod Moments
 pub mod Meets
 pub mod EndsWithin

@@ -7,8 +7,9 @@ use Prim.Native.Nat.{ℕ, suc, _<_}
 use native.Mathlib.Omega.{arith}
 use Rattle.history.specs.History.{cellOf, Action, begin, step, Event, refused, accepted, answered, Response, CallId, Call, Calls, noCalls, enter}
 use Rattle.history.specs.Moments.{Spot, Mark, markOf, marked, Names, beside}
+use Rattle.history.proofs.Basics.{some-inj}
 use Rattle.history.proofs.Simulation.{settled, Ghost, fresh, Knowledge, Move, shift, unplaced, Tally, May, Sided, Why, Keeps, Moves, Forward, Simulation}
-use Rattle.history.proofs.Tracks.{some-inj, tallied, tallyOf, call-of, Tracks, Change, refuses, starts, goes, ends}
+use Rattle.history.proofs.Tracks.{tallied, tallyOf, call-of, Tracks, Change, refuses, starts, goes, ends}
 use Rattle.history.proofs.MovesOne.{Dated, MovesOne, same-begin, dated-on, goes-on, ends-on, starts-on, passes-on}
 use Rattle.history.proofs.Kept.{cell-of, Entry, of-finished, of-pending, Kept, settled-late}
 use Rattle.history.proofs.Moves.{firm, Onto, Seen, knows, pass-onto, start-onto, go-onto, end-onto}

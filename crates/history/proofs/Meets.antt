@@ -7,7 +7,7 @@ use Rattle.history.specs.Moments.{Names, pointOf}
 use Rattle.history.proofs.Simulation.{Simulation}
 use Rattle.history.proofs.Counts.{bounds-of}
 use Rattle.history.proofs.NoHardware.{no-hardware}
-use Rattle.history.proofs.AllActions.{within, at-end}
+use Rattle.history.proofs.EveryAction.{within, at-end}
 use Rattle.history.proofs.Moments.{placing, marks-linearize}
 
 -- a machine with a simulation meets demand 3 at every list of actions: its histories are well-formed, its marks are a linearization by the

@@ -11,17 +11,17 @@ use Rattle.history.specs.Basics.{_∈_, Once}
 use Rattle.history.specs.History.{Action, Event, history, Response, Yes, Call, FinishedCall, Calls, noCalls, callsOf, pending, finished}
 use Rattle.history.specs.Linearization.{Point, replies, Placed, Linearizes}
 use Rattle.history.specs.Moments.{before, itself, Spot, Mark, pointOf, replyOf, Names, beside, markOfPending, pendingMarks, sort, linearized}
-use Rattle.history.proofs.Basics.{either}
+use Rattle.history.proofs.Basics.{either, clash, some-inj, point}
 use Rattle.history.proofs.Simulation.{Knowledge, Sided, Simulation}
-use Rattle.history.proofs.Tracks.{clash, some-inj, tallied, tallyOf}
+use Rattle.history.proofs.Tracks.{tallied, tallyOf}
 use Rattle.history.proofs.MovesOne.{Dated}
-use Rattle.history.proofs.Distinct.{begun}
+use Rattle.history.proofs.Distinct.{callBegins}
 use Rattle.history.proofs.Order.{sort-in, in-sort, begins, from-begins, to-begins, sort-once}
 use Rattle.history.proofs.Timeline.{Marks, points-in, sorted-answers, sorted-points}
-use Rattle.history.proofs.Kept.{point, Entry, of-finished, of-pending, MarkOf, Marked}
+use Rattle.history.proofs.Kept.{Entry, of-finished, of-pending, MarkOf, Marked}
 use Rattle.history.proofs.Moves.{firm, knows}
 use Rattle.history.proofs.Linearize.{Simulated}
-use Rattle.history.proofs.AllActions.{Good, AtEnd, at-end}
+use Rattle.history.proofs.EveryAction.{Good, AtEnd, at-end}
 
 -- LISTS
 
@@ -69,7 +69,7 @@ of-mark [] (x ∷ l) M m i = absurd M
 of-mark (f ∷ k) (x ∷ l) M m (inl e) = (f, inl refl, rw e (M .0))
 of-mark (f ∷ k) (x ∷ l) M m (inr i) = let r = of-mark k l (M .1) m i in (r .0, inr (r .1), r .2)
 
-same-begins : (k : List FinishedCall) (l : List Mark) → Marked k l → begins l ≡ begun k
+same-begins : (k : List FinishedCall) (l : List Mark) → Marked k l → begins l ≡ callBegins k
 same-begins [] [] M = refl
 same-begins (f ∷ k) (m ∷ l) M = ap (λ n. n ∷ begins l) (ap (λ s. s .at) (M .0 .call)) ∙ ap (λ n. f .call .start .at ∷ n) (same-begins k l (M .1))
 
@@ -183,11 +183,11 @@ module _ {S N : Type 0} {machine : S → Action → S × Event} {note : N → S 
     theirs = λ w i. theirs w (mem-or waiting (r .finished) w i);
     all = all;
     once = once-both waiting (r .finished) (pending-once (beside machine note) names x b (G .dated) tasks) (subst Once (sym same) (G .distinct .once))
-        (λ w i j. let y = waits w i .2 in G .distinct .apart _ (y .call) (y .busy) (subst (λ n. n ∈ begun (b .finished)) (ap (λ (w : Mark). w .call .at) (y .is)) (subst (λ k. w .call .at ∈ k) same j)));
+        (λ w i j. let y = waits w i .2 in G .distinct .apart _ (y .call) (y .busy) (subst (λ n. n ∈ callBegins (b .finished)) (ap (λ (w : Mark). w .call .at) (y .is)) (subst (λ k. w .call .at ∈ k) same j)));
     sided = λ w i. sided w (mem-or waiting (r .finished) w i);
   }
     where
-      same : begins (r .finished) ≡ begun (b .finished)
+      same : begins (r .finished) ≡ callBegins (b .finished)
       same = same-begins (b .finished) (r .finished) (m .kept .marked)
 
       theirs : (w : Mark) → (w ∈ waiting) ⊎ (w ∈ r .finished) → E (pointOf w) (w .answer)
@@ -228,7 +228,7 @@ module _ {S N : Type 0} {machine : S → Action → S × Event} {note : N → S 
       subst (λ (w : Mark). Placed b (pointOf w)) (sym (y .2 .is)) (record { call = y .2 .call; end = b .now; of-history = pending (y .0) (y .2 .call) (y .2 .busy); is = refl; after-begin = omega (arith, f .when); by-last-step = omega (arith, f .when) })
   placed w (inr i) =
       let f = of-mark (b .finished) (r .finished) (m .kept .marked) w i in
-      record { call = f .0 .call; end = f .0 .call .last; of-history = finished (f .0) (f .1); is = f .2 .call; after-begin = f .2 .begun; by-last-step = f .2 .stepped }
+      record { call = f .0 .call; end = f .0 .call .last; of-history = finished (f .0) (f .1); is = f .2 .call; after-begin = f .2 .after-begin; by-last-step = f .2 .by-last-step }
 
   linearizes : Linearizes values b (map pointOf sorted)
   linearizes = record {
@@ -238,8 +238,8 @@ module _ {S N : Type 0} {machine : S → Action → S × Event} {note : N → S 
     answers = λ f i. let w = mark-of (b .finished) (r .finished) (m .kept .marked) f i in (
       pointOf (w .0),
       w .2 .call,
-      w .2 .begun,
-      w .2 .stepped,
+      w .2 .after-begin,
+      w .2 .by-last-step,
       subst (λ q. (pointOf (w .0), f .report .answer) ∈ q) (sym answers-sorted) (subst (λ a. (pointOf (w .0), a) ∈ map replyOf sorted) (w .2 .answer)
           (in-answers sorted (w .0) (in-sort (waiting ++ r .finished) (w .0) (mem-right waiting (r .finished) (w .0) (w .1))))),
     );

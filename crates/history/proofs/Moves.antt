@@ -9,15 +9,15 @@ use native.Mathlib.Omega.{arith}
 use lib.Dec.{T, T-not}
 use Rattle.history.specs.Basics.{upd}
 use Rattle.history.specs.History.{Op, cellOf, begin, step, refused, accepted, answered, Response, Yes, Report, CallId, Call, Calls, advance, enter}
-use Rattle.history.specs.Linearization.{reply, after, Point}
+use Rattle.history.specs.Linearization.{reply, valueLeft, Point}
 use Rattle.history.specs.Moments.{Spot, Mark, pointOf, Names}
-use Rattle.history.proofs.Basics.{either, upd-at, upd-same, upd-off, upd-cases}
+use Rattle.history.proofs.Basics.{either, upd-at, upd-same, upd-off, upd-cases, clash, some-inj, point}
 use Rattle.history.proofs.Simulation.{Phase, settled, frozen, late, Ghost, Knowledge, Move, still, act, freeze, store, settle, land, freezes, takesEffect, inPhase, shift, unplaced, Tally, May, Sided, Why, acts, acted, observes}
-use Rattle.history.proofs.Tracks.{clash, some-inj, call-of, Tracks}
+use Rattle.history.proofs.Tracks.{call-of, Tracks}
 use Rattle.history.proofs.MovesOne.{Onward, Dated, MovesOne, same-begin, going-pending, steps-on, goes-on, ended-finished, ended-idle, leaves, starts-on, passes-on}
 use Rattle.history.proofs.Timeline.{cell, Timeline}
 use Rattle.history.proofs.Growing.{Joins, regarded, observed, since-other, since-before}
-use Rattle.history.proofs.Kept.{cell-of, point, Entry, of-finished, of-pending, Late, Kept, settled-late, calls-kept, phases-kept, past⁺, effect-kept}
+use Rattle.history.proofs.Kept.{cell-of, Entry, of-finished, of-pending, Late, Kept, settled-late, calls-kept, phases-kept, past⁺, effect-kept}
 
 -- WHAT IS FIRM: in a settled cell all moments so far, else those before the freezing
 
@@ -93,24 +93,24 @@ module _ {values : ℕ → ℕ} (g : Ghost) {b : Calls} {past : ℕ → ℕ → 
   -- A STEP of task t's call c
 
   module _ {S : Type 0} (doing : S → ℕ → Option Tally) (s : S) (same : Tracks doing s b) (t x : ℕ) (c : Call) (busy : b .pending t ≡ some c) where
-    abbrev pub stepped : Calls
-    stepped = enter b (step t) (accepted x)
+    abbrev pub going : Calls
+    going = enter b (step t) (accepted x)
 
     abbrev kk : ℕ
     kk = cell-of c
 
-    now-busy : stepped .pending t ≡ some (advance b x c)
+    now-busy : going .pending t ≡ some (advance b x c)
     now-busy = going-pending b dated t x c busy
 
-    goes : MovesOne 0 t b stepped
+    goes : MovesOne 0 t b going
     goes = goes-on b dated t x c busy
 
-    k₁ : Kept values g stepped past was ms
+    k₁ : Kept values g going past was ms
     k₁ = calls-kept k goes (k .marked) (λ e h. (advance b x c, now-busy, rw (some-inj h busy) (steps-on b dated t x c busy))) (g .placed) (λ u c h. refl)
         (λ u d h i. absurd (clash i (sym (goes .others u (λ q. clash (rw q at i) busy)) ∙ h)))
 
     abbrev LateNow : ℕ → ℕ → Type 0
-    LateNow = Late (g .placed) (g .since) (stepped .pending)
+    LateNow = Late (g .placed) (g .since) (going .pending)
 
     -- its cell gets the phase p
     put-up : (p : Phase) → was kk ≤ firmOf p (suc n) (g .since kk) → firmOf p (suc n) (g .since kk) ≤ suc n → (j : ℕ) → let f = firm (inPhase g kk p) (suc n) j in (was j ≤ f) × (f ≤ suc n)
@@ -120,7 +120,7 @@ module _ {values : ℕ → ℕ} (g : Ghost) {b : Calls} {past : ℕ → ℕ → 
     put-lates p new j w = upd-cases (λ q. q ≡ late w → LateNow j w) (g .phase) kk p j (λ e. rw e (new w)) (λ e. k₁ .lates j w)
 
     put-phase : (p : Phase) → was kk ≤ firmOf p (suc n) (g .since kk) → firmOf p (suc n) (g .since kk) ≤ suc n → ((w : ℕ) → p ≡ late w → LateNow kk w) →
-        Onto values (inPhase g kk p) stepped past was ms
+        Onto values (inPhase g kk p) going past was ms
     put-phase p a z new = record {
       later = past;
       kept = phases-kept k₁ (upd (g .phase) kk p) (g .since) (firm (inPhase g kk p) (suc n)) (put-up p a z) (put-lates p new);
@@ -129,10 +129,10 @@ module _ {values : ℕ → ℕ} (g : Ghost) {b : Calls} {past : ℕ → ℕ → 
     }
 
     -- task u's swap takes effect at the moment m; its cell is settled
-    put-effect : (u : ℕ) (d : Call) (i : stepped .pending u ≡ some d) (f : T (not (g .placed u))) (m : ℕ) (low : d .start .at < m) (high : m ≤ d .last) (behind : was (cell-of d) ≤ m)
+    put-effect : (u : ℕ) (d : Call) (i : going .pending u ≡ some d) (f : T (not (g .placed u))) (m : ℕ) (low : d .start .at < m) (high : m ≤ d .last) (behind : was (cell-of d) ≤ m)
         (says : reply (g .cells (cell-of d)) (d .start .op) ≡ Yes) (phase : ℕ → Phase) → ((j : ℕ) → (was j ≤ firmOf (phase j) (suc n) (g .since j)) × (firmOf (phase j) (suc n) (g .since j) ≤ suc n)) →
         m ≤ n → phase (cell-of d) ≡ settled → ((j w : ℕ) → phase j ≡ late w → LateNow j w) →
-        let g₁ = takesEffect g u (d .start .op) m in Onto values (record { cells = g₁ .cells; placed = g₁ .placed; when = g₁ .when; phase = phase; since = g .since }) stepped past was ms
+        let g₁ = takesEffect g u (d .start .op) m in Onto values (record { cells = g₁ .cells; placed = g₁ .placed; when = g₁ .when; phase = phase; since = g .since }) going past was ms
     put-effect u d i f m low high behind says phase ups lasts calm lates = record {
       later = past⁺ k₁ u d i f m low high behind says;
       kept = effect-kept k₁ u d i f m low high behind says phase (λ j. firmOf (phase j) (suc n) (g .since j)) ups (rw calm (omega arith)) calm lates;
@@ -144,7 +144,7 @@ module _ {values : ℕ → ℕ} (g : Ghost) {b : Calls} {past : ℕ → ℕ → 
         go j q h (inl e) = since-before past (cell-of d) m _ j q (omega (arith, ap was e))
         go j q h (inr e) = since-other past (cell-of d) m _ j q e
 
-    put-freeze : g .phase kk ≡ settled → Onto values (freezes g kk n) stepped past was ms
+    put-freeze : g .phase kk ≡ settled → Onto values (freezes g kk n) going past was ms
     put-freeze f = record { later = past; kept = phases-kept k₁ (upd (g .phase) kk frozen) (upd (g .since) kk n) (firm (freezes g kk n) (suc n)) ups lates; stays = λ j i h. refl; up = λ j. ups j .0 }
       where
         ups : (j : ℕ) → (was j ≤ firm (freezes g kk n) (suc n) j) × (firm (freezes g kk n) (suc n) j ≤ suc n)
@@ -154,17 +154,17 @@ module _ {values : ℕ → ℕ} (g : Ghost) {b : Calls} {past : ℕ → ℕ → 
             go (inl e) = rw (upd-at (g .phase) kk frozen j e, upd-at (g .since) kk n j e, ap (g .phase) e ∙ f) (omega arith)
             go (inr e) = rw (upd-off (g .phase) kk frozen j e, upd-off (g .since) kk n j e) (later j)
 
-        lates : (j w : ℕ) → upd (g .phase) kk frozen j ≡ late w → Late (g .placed) (upd (g .since) kk n) (stepped .pending) j w
+        lates : (j w : ℕ) → upd (g .phase) kk frozen j ≡ late w → Late (g .placed) (upd (g .since) kk n) (going .pending) j w
         lates j w h = go (either j kk)
           where
-            go : (j ≡ kk) ⊎ (j ≢ kk) → Late (g .placed) (upd (g .since) kk n) (stepped .pending) j w
+            go : (j ≡ kk) ⊎ (j ≢ kk) → Late (g .placed) (upd (g .since) kk n) (going .pending) j w
             go (inl e) = absurd (let z : frozen ≡ late w = sym (upd-at (g .phase) kk frozen j e) ∙ h in let y : _≡_ {A = ℕ} 0 1 = cc in omega arith)
             go (inr e) =
                 let p = k₁ .lates j w (sym (upd-off (g .phase) kk frozen j e) ∙ h) in
                 let o = upd-off (g .since) kk n j e in
-                record { call = p .call; busy = p .busy; on = p .on; begun = omega (arith, p .begun); stepped = omega (arith, p .stepped); unplaced = p .unplaced }
+                record { call = p .call; busy = p .busy; on = p .on; after-begin = omega (arith, p .after-begin); by-last-step = omega (arith, p .by-last-step); unplaced = p .unplaced }
 
-    pub go-onto : (mv : Move) → May doing s g (knows b past was) t (c .start .op) mv → Onto values (shift g n t (c .start .op) mv) stepped past was ms
+    pub go-onto : (mv : Move) → May doing s g (knows b past was) t (c .start .op) mv → Onto values (shift g n t (c .start .op) mv) going past was ms
     go-onto still may = record { later = past; kept = phases-kept k₁ (g .phase) (g .since) (firm g (suc n)) later (k₁ .lates); stays = λ j i h. refl; up = λ j. later j .0 }
     go-onto act (f, p, y) = put-effect t (advance b x c) now-busy f n (dated .past t c busy .0) (omega arith) (k .bound kk) y (g .phase) later (omega arith) p (k₁ .lates)
     go-onto freeze p = put-freeze p
@@ -172,11 +172,11 @@ module _ {values : ℕ → ℕ} (g : Ghost) {b : Calls} {past : ℕ → ℕ → 
         let froze : was kk ≡ g .since kk = rw p refl in
         let begun : c .start .at < was kk = subst (λ (c : Call). c .start .at < was (cell-of c)) (some-inj (e .1) busy) (e .2) in
         put-phase (late t) (omega arith) (omega (arith, k .bound kk)) (λ w h. let q : t ≡ w = cc in rw (← q)
-        (record { call = advance b x c; busy = now-busy; on = refl; begun = omega arith; stepped = omega (arith, k .bound kk); unplaced = f }))
+        (record { call = advance b x c; busy = now-busy; on = refl; after-begin = omega arith; by-last-step = omega (arith, k .bound kk); unplaced = f }))
     go-onto settle may = put-phase settled (omega (arith, k .bound kk)) (omega arith) (λ w h. settled-late refl h)
     go-onto (land u o) (p, w, y) =
-        subst (λ o. Onto values (inPhase (takesEffect g u o (g .since kk)) kk settled) stepped past was ms) e
-        (put-effect u (q .call) (q .busy) (q .unplaced) (g .since kk) (q .begun) (q .stepped) (omega (arith, ap was (q .on), froze)) (subst (λ o. reply (g .cells (cellOf o)) o ≡ Yes) (sym e) y)
+        subst (λ o. Onto values (inPhase (takesEffect g u o (g .since kk)) kk settled) going past was ms) e
+        (put-effect u (q .call) (q .busy) (q .unplaced) (g .since kk) (q .after-begin) (q .by-last-step) (omega (arith, ap was (q .on), froze)) (subst (λ o. reply (g .cells (cellOf o)) o ≡ Yes) (sym e) y)
         (upd (g .phase) kk settled) (put-up settled (omega (arith, k .bound kk)) (omega arith)) (omega (arith, k .bound kk, froze)) (rw (q .on) (upd-same (g .phase) kk settled)) (put-lates settled (λ w h. settled-late refl h)))
       where
         froze : was kk ≡ g .since kk
@@ -203,18 +203,18 @@ module _ {values : ℕ → ℕ} (g : Ghost) {b : Calls} {past : ℕ → ℕ → 
       abbrev mark : Mark
       mark = record { spot = spot; call = c .start; answer = a }
 
-      leaving : MovesOne 1 t stepped ended
+      leaving : MovesOne 1 t going ended
       leaving = leaves b dated t x c busy r
 
       off : (u : ℕ) (d : Call) → ended .pending u ≡ some d → u ≢ t
       off u d j q = ended-idle b dated t x c busy r d (rw q at j)
 
-      was-pending : (u : ℕ) (d : Call) → ended .pending u ≡ some d → stepped .pending u ≡ some d
+      was-pending : (u : ℕ) (d : Call) → ended .pending u ≡ some d → going .pending u ≡ some d
       was-pending u d j = sym (leaving .others u (off u d j)) ∙ j
 
-      module _ (g' : Ghost) (past' : ℕ → ℕ → ℕ) (firm' : ℕ → ℕ) (K : Kept values g' stepped past' firm' ms) where
+      module _ (g' : Ghost) (past' : ℕ → ℕ → ℕ) (firm' : ℕ → ℕ) (K : Kept values g' going past' firm' ms) where
         abbrev Before : Point → Response → Type 0
-        Before = Entry (g' .placed) (g' .when) (stepped .pending) ms
+        Before = Entry (g' .placed) (g' .when) (going .pending) ms
 
         abbrev After : Point → Response → Type 0
         After = Entry (g' .placed) (g' .when) (ended .pending) (mark ∷ ms)
@@ -242,10 +242,10 @@ module _ {values : ℕ → ℕ} (g : Ghost) {b : Calls} {past : ℕ → ℕ → 
           ends = K .ends;
           firmed = λ e z j. firmed e z (split e z j);
           bound = K .bound;
-          marked = rw (ended-finished b dated t x c busy r) (record { call = refl; answer = refl; begun = low; stepped = high; sided = sided }, K .marked);
+          marked = rw (ended-finished b dated t x c busy r) (record { call = refl; answer = refl; after-begin = low; by-last-step = high; sided = sided }, K .marked);
           stands = λ u d j p. K .stands u d (was-pending u d j) p;
           lates = λ j u q. let p = K .lates j u q in
-              record { call = p .call; busy = leaving .others u (λ e. unlate j (rw e at q)) ∙ p .busy; on = p .on; begun = p .begun; stepped = p .stepped; unplaced = p .unplaced };
+              record { call = p .call; busy = leaving .others u (λ e. unlate j (rw e at q)) ∙ p .busy; on = p .on; after-begin = p .after-begin; by-last-step = p .by-last-step; unplaced = p .unplaced };
         }
           where
             firmed : (e : Point) (z : Response) → ((e ≡ pointOf mark) × (z ≡ a)) ⊎ Before e z → e .moment < firm' (cell e)
@@ -253,13 +253,13 @@ module _ {values : ℕ → ℕ} (g : Ghost) {b : Calls} {past : ℕ → ℕ → 
             firmed e z (inr j) = K .firmed e z j
 
       -- it took effect before, at its spot
-      leave-onto : (g' : Ghost) → Onto values g' stepped past was ms → T (g' .placed t) → a ≡ Yes → spot .moment ≡ g' .when t → Onto values g' ended past was (mark ∷ ms)
+      leave-onto : (g' : Ghost) → Onto values g' going past was ms → T (g' .placed t) → a ≡ Yes → spot .moment ≡ g' .when t → Onto values g' ended past was (mark ∷ ms)
       leave-onto g' o p y m = record { later = o .later; kept = leave-kept g' (o .later) F K line (omega (arith, stood .0)) (omega (arith, stood .1)) (omega (arith, K .firmed (point c (g' .when t)) Yes there)) unlate; stays = o .stays; up = o .up }
         where
           F : ℕ → ℕ
           F = firm g' (suc n)
 
-          K : Kept values g' stepped (o .later) F ms
+          K : Kept values g' going (o .later) F ms
           K = o .kept
 
           stood : (c .start .at < g' .when t) × (g' .when t ≤ n)
@@ -283,7 +283,7 @@ module _ {values : ℕ → ℕ} (g : Ghost) {b : Calls} {past : ℕ → ℕ → 
           unlate j q = T-not (g' .placed t) (K .lates j t q .unplaced) p
 
       -- it changes nothing, and saw at its spot what it answers
-      observe-onto : (v : ℕ) → Seen past was (c .start) (spot .moment) v → reply v (c .start .op) ≡ a → after v (c .start .op) ≡ v → T (not (g .placed t)) → g .phase kk ≢ late t → Onto values g ended past was (mark ∷ ms)
+      observe-onto : (v : ℕ) → Seen past was (c .start) (spot .moment) v → reply v (c .start .op) ≡ a → valueLeft v (c .start .op) ≡ v → T (not (g .placed t)) → g .phase kk ≢ late t → Onto values g ended past was (mark ∷ ms)
       observe-onto v p says calm f unlate = record {
         later = past;
         kept = leave-kept g past F K (observed (K .line) (pointOf mark) a joins v (p .at) says calm) (p .after-begin) (omega (arith, p .is-firm, k .bound kk)) (omega (arith, p .is-firm, later kk .0)) unlates;
@@ -294,7 +294,7 @@ module _ {values : ℕ → ℕ} (g : Ghost) {b : Calls} {past : ℕ → ℕ → 
           F : ℕ → ℕ
           F = firm g (suc n)
 
-          K : Kept values g stepped past F ms
+          K : Kept values g going past F ms
           K = phases-kept k₁ (g .phase) (g .since) F later (k₁ .lates)
 
           joins : Joins (Before g past F K) (After g past F K) (pointOf mark) a

@@ -8,8 +8,8 @@ use native.Mathlib.Omega.{arith}
 use Rattle.history.specs.Basics.{_∈_}
 use Rattle.history.specs.History.{Op, Action, begin, step, taskOf, Event, refused, accepted, answered, Report, CallId, Call, FinishedCall, Calls, called, advance, advanced, closed, enter}
 use Rattle.history.specs.History.{CallOf, finished, pending}
-use Rattle.history.proofs.Basics.{either, upd-same, upd-off}
-use Rattle.history.proofs.Tracks.{clash, some-inj, Change, refuses, starts, goes, ends}
+use Rattle.history.proofs.Basics.{either, upd-same, upd-off, clash, some-inj}
+use Rattle.history.proofs.Tracks.{Change, refuses, starts, goes, ends}
 
 -- a call and the same call later
 pub record Onward (c d : Call) : Type 0 where

@@ -9,9 +9,9 @@ use Rattle.history.specs.Basics.{_∈_}
 use Rattle.history.specs.History.{cellOf, Action, begin, step, Event, accepted, answered, CallId, Call, FinishedCall, Calls, called, advance, advanced, enter, CallOf, finished, pending}
 use Rattle.history.specs.History.{run}
 use Rattle.history.specs.Demand3.{Unequal, Alone, NoHardware, clearAfter}
-use Rattle.history.proofs.Basics.{upd-same}
+use Rattle.history.proofs.Basics.{upd-same, clash, some-inj}
 use Rattle.history.proofs.Simulation.{Tally, QuietSteps, Quietly}
-use Rattle.history.proofs.Tracks.{clash, some-inj, upd-some, tallied, tallyOf, call-of, Tracks, Change, refuses, starts, goes, ends}
+use Rattle.history.proofs.Tracks.{upd-some, tallied, tallyOf, call-of, Tracks, Change, refuses, starts, goes, ends}
 use Rattle.history.proofs.MovesOne.{Onward, Dated, MovesOne, continues, last-one, ended-finished, moves-one}
 
 -- a call that is alone was so before

@@ -8,7 +8,7 @@ use Prim.Native.Nat.{ℕ, suc, _+_, _≤_, _<_}
 use lib.Dec.{T}
 use Rattle.history.specs.Basics.{upd}
 use Rattle.history.specs.History.{Op, cellOf, kindOf, Action, begin, step, Event, refused, accepted, answered, Response, Yes, Report}
-use Rattle.history.specs.Linearization.{reply, after, apply}
+use Rattle.history.specs.Linearization.{reply, valueLeft, apply}
 use Rattle.history.specs.Demand3.{most, mostHard, Unequal}
 use Rattle.history.specs.Moments.{before, itself, Spot, changes, Names, beside}
 
@@ -165,7 +165,7 @@ module _ {X : Type 0} (doing : X → ℕ → Option Tally) (clock : X → ℕ) (
   pub data Why (x : X) (g : Ghost) (κ : Knowledge) (t : ℕ) (op : Op) (a : Response) (m : ℕ) : Move → Type 0 where
     acts : a ≡ Yes → m ≡ clock x → Why x g κ t op a m act
     acted : T (g .placed t) → a ≡ Yes → m ≡ g .when t → Why x g κ t op a m still
-    observes : (v : ℕ) → κ .saw t m v → reply v op ≡ a → after v op ≡ v → T (not (g .placed t)) → g .phase (cellOf op) ≢ late t → Why x g κ t op a m still
+    observes : (v : ℕ) → κ .saw t m v → reply v op ≡ a → valueLeft v op ≡ v → T (not (g .placed t)) → g .phase (cellOf op) ≢ late t → Why x g κ t op a m still
 
   module _ (Inv : X → Ghost → Knowledge → Type 0) where
     -- the invariant holds again, whatever more is known by then

@@ -10,7 +10,7 @@ use lib.Dec.{eqb, leb, T, leb→le, nleb→lt}
 use borrow.Author.Tests.{eqb-true, eq-eqb, ne-eqb}
 use Rattle.history.specs.Basics.{upd, _∈_, Once}
 use Rattle.history.specs.History.{Op, read, swap, cellOf, Response, Yes, No}
-use Rattle.history.specs.Linearization.{reply, after, apply, Point, replies, Sorted}
+use Rattle.history.specs.Linearization.{reply, valueLeft, apply, Point, replies, Sorted}
 use Rattle.history.specs.Moments.{Mark, pointOf, replyOf, changes, changing, sort}
 use Rattle.history.proofs.Basics.{either, upd-at, upd-off}
 use Rattle.history.proofs.Simulation.{Sided}
@@ -25,14 +25,14 @@ le-or-lt a b = go (leb a b) refl
 
 -- THE SEQUENTIAL CELLS
 
-pub apply-at : (c : ℕ → ℕ) (op : Op) (j : ℕ) → j ≡ cellOf op → apply c op j ≡ after (c j) op
+pub apply-at : (c : ℕ → ℕ) (op : Op) (j : ℕ) → j ≡ cellOf op → apply c op j ≡ valueLeft (c j) op
 apply-at c op j h = rw (eq-eqb j (cellOf op) h)
 
 pub apply-off : (c : ℕ → ℕ) (op : Op) (j : ℕ) → j ≢ cellOf op → apply c op j ≡ c j
 apply-off c op j h = rw (ne-eqb j (cellOf op) h)
 
 -- a call changes its cell exactly if its answer says so
-pub calm-after : (v : ℕ) (op : Op) → changes op (reply v op) ≡ false → after v op ≡ v
+pub calm-after : (v : ℕ) (op : Op) → changes op (reply v op) ≡ false → valueLeft v op ≡ v
 calm-after v (read k) h = refl
 calm-after v (swap k e n) h = go (eqb v e) (eqb e n) refl refl h
   where
@@ -41,7 +41,7 @@ calm-after v (swap k e n) h = go (eqb v e) (eqb e n) refl refl h
     go true false p q h = absurd (let w : not (eqb e n) ≡ false = h in let r = rw q at w in let z : _≡_ {A = ℕ} 0 1 = cc in omega arith)
     go false t p q h = refl
 
-pub after-calm : (v : ℕ) (op : Op) → after v op ≡ v → changes op (reply v op) ≡ false
+pub after-calm : (v : ℕ) (op : Op) → valueLeft v op ≡ v → changes op (reply v op) ≡ false
 after-calm v (read k) h = refl
 after-calm v (swap k e n) h = go (eqb v e) refl h
   where
@@ -61,7 +61,7 @@ found e a = cond (changes (e .call .op) a) (e .moment) (suc (e .moment))
 
 pub record Right (past : ℕ → ℕ → ℕ) (e : Point) (a : Response) : Type 0 where
   pub says : reply (past (cell e) (found e a)) (e .call .op) ≡ a
-  pub leaves : after (past (cell e) (found e a)) (e .call .op) ≡ past (cell e) (suc (e .moment))
+  pub leaves : valueLeft (past (cell e) (found e a)) (e .call .op) ≡ past (cell e) (suc (e .moment))
 
 -- the call that changes cell k at the action n
 pub record Cause (E : Point → Response → Type 0) (k n : ℕ) : Type 0 where
@@ -162,7 +162,7 @@ module _ (past : ℕ → ℕ → ℕ) where
       at⁺ j = go (either j k)
         where
           go : (j ≡ k) ⊎ (j ≢ k) → c⁺ j ≡ past j (p⁺ j)
-          go (inl e) = apply-at c (x .call .op) j e ∙ ap (λ j. after (c j) (x .call .op)) e ∙ ap (λ v. after v (x .call .op)) now ∙ right x (inl refl) .1 .leaves
+          go (inl e) = apply-at c (x .call .op) j e ∙ ap (λ j. valueLeft (c j) (x .call .op)) e ∙ ap (λ v. valueLeft v (x .call .op)) now ∙ right x (inl refl) .1 .leaves
               ∙ ap (λ j. past j n⁺) (sym e) ∙ ap (past j) (sym (upd-at p k n⁺ j e))
           go (inr e) = apply-off c (x .call .op) j e ∙ at j ∙ ap (past j) (sym (upd-off p k n⁺ j e))
 

@@ -7,16 +7,10 @@ use native.Mathlib.Omega.{arith}
 use Rattle.history.specs.Basics.{upd}
 use Rattle.history.specs.History.{Op, cellOf, kindOf, Action, begin, step, Event, refused, accepted, answered, Report, Call, Calls, called, advance, advanced, enter, IsBusy, Allowed}
 use Rattle.history.specs.Demand3.{mostHard, Reports}
-use Rattle.history.proofs.Basics.{either, upd-at, upd-off}
+use Rattle.history.proofs.Basics.{either, upd-at, upd-off, clash, some-inj}
 use Rattle.history.proofs.Simulation.{Tally, first, further, Follows}
 
 -- OPTIONS
-
-pub clash : {A : Type 0} {o : Option A} {a : A} → o ≡ none → o ≡ some a → ⊥
-clash p q = let z : _≡_ {A = ℕ} 0 1 = cc in omega arith
-
-pub some-inj : {A : Type 0} {o : Option A} {a b : A} → o ≡ some a → o ≡ some b → a ≡ b
-some-inj p q = cc
 
 -- where a changed function gives something, it is the new thing or an old one
 pub upd-some : {A : Type 0} (f : ℕ → Option A) (t : ℕ) (o : Option A) (u : ℕ) (a : A) → upd f t o u ≡ some a → ((u ≡ t) × (o ≡ some a)) ⊎ ((u ≢ t) × (f u ≡ some a))

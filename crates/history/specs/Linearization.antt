@@ -14,13 +14,13 @@ abbrev pub reply : ℕ → Op → Response
 reply v (read k) = Value v
 reply v (swap k e n) = cond (eqb v e) Yes No
 
-abbrev pub after : ℕ → Op → ℕ
-after v (read k) = v
-after v (swap k e n) = cond (eqb v e) n v
+abbrev pub valueLeft : ℕ → Op → ℕ
+valueLeft v (read k) = v
+valueLeft v (swap k e n) = cond (eqb v e) n v
 
 -- the cells after an operation
 abbrev pub apply : (ℕ → ℕ) → Op → ℕ → ℕ
-apply cells op k = cond (eqb k (cellOf op)) (after (cells k) op) (cells k)
+apply cells op k = cond (eqb k (cellOf op)) (valueLeft (cells k) op) (cells k)
 
 -- LINEARIZATIONS
 

@@ -7,7 +7,7 @@ use Prim.Native.Nat.{ℕ, zero, suc, _<_}
 use native.Mathlib.Omega.{arith}
 use lib.Dec.{eqb, ltb}
 use lib.ListN.{length, replicate}
-use borrow.Author.Tests.{ltb-true, lt-ltb}
+use borrow.Author.Tests.{ltb-true, lt-ltb, eqb-true, eqb-false, eq-eqb, ne-eqb}
 use Rattle.lines.specs.declared.Record.{Record}
 use Rattle.questions.specs.declared.State.{State}
 use Rattle.cells.specs.Answers.{Shown}
@@ -17,6 +17,8 @@ use Rattle.lines.specs.Record.{noValue, isIdle, recordAt}
 use Rattle.lines.specs.Lines.{accessOf, nextOf}
 use Rattle.questions.specs.Questions.{refusal, openQuestions}
 use Rattle.lines.specs.Record.{firstRead}
+use Rattle.cells.specs.Pool.{word}
+use Rattle.cells.specs.Step.{current}
 use Rattle.cells.specs.Look.{looked, shown, shownValue}
 use Rattle.history.specs.Basics.{upd}
 use Rattle.history.specs.History.{Action, begin, step, read, Event, accepted, answered, history, run}
@@ -126,6 +128,11 @@ shown-by k y w = go (ltb k (w .cells)) refl
 
 -- IN THE POOL
 
+-- C of the current block is false where the cell is active, and nowhere else
+active-is : (x : Pool) (k : ℕ) (c : Bool) → isActive x k ≡ c → eqb (word (x .1) (current (x .0) k) C) 0 ≡ c
+active-is x k true e = eq-eqb (word (x .1) (current (x .0) k) C) 0 (eqb-true _ _ e)
+active-is x k false e = ne-eqb (word (x .1) (current (x .0) k) C) 0 (eqb-false _ _ e)
+
 reads-what-it-shows : {n v : ℕ} {x : Pool} {w : World} → Together n v x w → (t k y : ℕ) → t < n → isIdle (recordAt (x .0 .records) t) ≡ true → looked (x .0) (x .1) k ≡ Shown y
     → (c : Bool) → isActive x k ≡ c → lastEvent (history pool x (loneRead t k (cond c 3 6))) ≡ some (answered 0 (readReport k y (cond c 3 6) (cond c 0 1)))
 reads-what-it-shows {n} {v} {x} {w} g t k y l idle look c e =
@@ -134,7 +141,7 @@ reads-what-it-shows {n} {v} {x} {w} g t k y l idle look c e =
     let same = same-words g k (rw (sizes .cells-too) at (by .0)) C in
     let free : isIdle (w .records t) ≡ true = sym (ap isIdle (g .agree .records t l .same)) ∙ idle in
     ap lastEvent (histories (loneRead t k (cond c 3 6)) g)
-    ∙ lone-read t k w (rw (sizes .tasks-too) l) (by .0) free c (ap (λ (x : ℕ). eqb x 0) (sym same) ∙ e)
+    ∙ lone-read t k w (rw (sizes .tasks-too) l) (by .0) free c (ap (λ (x : ℕ). eqb x 0) (sym same) ∙ active-is x k c e)
     ∙ ap (λ (y : ℕ). some (answered 0 (readReport k y (cond c 3 6) (cond c 0 1)))) (by .1)
 
 -- What look shows, a read returns that an idle task begins now and runs alone: with its third step, no hardware CAS attempted, where C of the

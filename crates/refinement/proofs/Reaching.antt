@@ -8,7 +8,7 @@ use lib.ListN.{length}
 use Rattle.questions.specs.declared.State.{State}
 use Rattle.questions.specs.Questions.{refusal, fit, openQuestions}
 use Rattle.history.specs.History.{Action}
-use Rattle.history.proofs.AllActions.{run-snoc}
+use Rattle.history.proofs.EveryAction.{run-snoc}
 use Rattle.cells.specs.Machine.{Pool, pool}
 use Rattle.refinement.specs.Terms.{start}
 use Rattle.refinement.specs.Reached.{Reached}

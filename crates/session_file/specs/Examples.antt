@@ -9,7 +9,7 @@ use Rattle.text.specs.Bytes.{bytes}
 use Rattle.text.specs.Readers.{word, digitsAfter, number}
 use Rattle.history.specs.History.{read, swap, Action, begin, step}
 use Rattle.session_shape.specs.Shape.{fits, deeper, shapedAfter}
-use Rattle.session_file.specs.Session.{Verdict, bad, session, short, numbers, manyWithin, values, opening, keyword, head, body, form, line, count, times, actions, formed, asked15, asked14, verdict}
+use Rattle.session_file.specs.Session.{Form, act, again, empty, with, Verdict, bad, session, short, numbers, manyWithin, values, opening, keyword, head, body, form, line, count, times, actions, formed, asked15, asked14, verdict}
 
 -- P1: its opening and 15 actions
 p1 :
@@ -18,6 +18,14 @@ p1 :
     ((begin 0 (swap 0 5 7) ∷ replicate 10 (step 0)) ++ (begin 1 (read 0) ∷ replicate 3 (step 1)))
 unfolding word digitsAfter number fits deeper shapedAfter numbers manyWithin values opening keyword head body form line count times actions formed asked15 asked14 verdict
 p1 = refl
+
+-- three times a step, and twice another: nine actions, as question 15 counts them and as they are made
+abbrev nine : Form
+nine = again 3 (with (with empty (act (step 0))) (again 2 (with empty (act (step 1)))))
+
+counted : (count nine ≡ 9) × (actions nine ≡ step 0 ∷ step 1 ∷ step 1 ∷ step 0 ∷ step 1 ∷ step 1 ∷ step 0 ∷ step 1 ∷ step 1 ∷ [])
+unfolding count times actions
+counted = (refl, refl)
 
 -- each file after a first line that opens 1 task, 1 cell and 3 blocks, with its verdict
 abbrev Judged : List (String × Verdict) → Type 0

@@ -13,7 +13,7 @@ use Rattle.questions.specs.declared.State.{State}
 use Rattle.lines.specs.Record.{isIdle, recordAt}
 use Rattle.cells.specs.Look.{looked}
 use Rattle.session_text.specs.Lines.{numbers}
-use Rattle.session_text.specs.Printed.{lookLine, cellLines, pending}
+use Rattle.session_text.specs.Printed.{lookLine, cellLines, pendingTasks}
 
 -- NUMBERS
 
@@ -39,16 +39,16 @@ module _ (s : State) where
   unfolding cellLines
   cell-end p k n h = let e : n - k ≡ 0 = omega arith in rw e
 
-  pub task-at : (k n : ℕ) → k < n → pending s k (n - k) ≡ cond (isIdle (recordAt (s .records) k)) 0 1 + pending s (k + 1) (n - (k + 1))
-  unfolding pending
+  pub task-at : (k n : ℕ) → k < n → pendingTasks s k (n - k) ≡ cond (isIdle (recordAt (s .records) k)) 0 1 + pendingTasks s (k + 1) (n - (k + 1))
+  unfolding pendingTasks
   task-at k n h = let e : n - k ≡ suc (n - (k + 1)) = omega arith in rw e
 
-  pub task-end : (k n : ℕ) → n ≤ k → pending s k (n - k) ≡ 0
-  unfolding pending
+  pub task-end : (k n : ℕ) → n ≤ k → pendingTasks s k (n - k) ≡ 0
+  unfolding pendingTasks
   task-end k n h = let e : n - k ≡ 0 = omega arith in rw e
 
-  pub task-busy : (k n : ℕ) → k < n → (recordAt (s .records) k .line ≡ 0 → ⊥) → pending s k (n - k) ≡ 1 + pending s (k + 1) (n - (k + 1))
+  pub task-busy : (k n : ℕ) → k < n → (recordAt (s .records) k .line ≡ 0 → ⊥) → pendingTasks s k (n - k) ≡ 1 + pendingTasks s (k + 1) (n - (k + 1))
   task-busy k n h f = rw (task-at k n h, ne-eqb (recordAt (s .records) k .line) 0 f)
 
-  pub task-idle : (k n : ℕ) → k < n → recordAt (s .records) k .line ≡ 0 → pending s k (n - k) ≡ 0 + pending s (k + 1) (n - (k + 1))
+  pub task-idle : (k n : ℕ) → k < n → recordAt (s .records) k .line ≡ 0 → pendingTasks s k (n - k) ≡ 0 + pendingTasks s (k + 1) (n - (k + 1))
   task-idle k n h e = rw (task-at k n h, e)

@@ -27,7 +27,7 @@ use Rattle.session_reader.specs.Reading.{judged}
 use Rattle.session_reader.proofs.Verdicts.{right-sizes}
 use Rattle.session_text.specs.Lines.{noLine, eventLine}
 use Rattle.session_runner.specs.Loop.{playedOn}
-use Rattle.session_text.specs.Printed.{Totals, eventLines, counted, countedAll, closed, played, started, blank, poolWords, shown, printed, printedWithin}
+use Rattle.session_text.specs.Printed.{Totals, eventLines, addEvent, addEvents, endText, played, afterOpen, blank, poolWords, verdictText, printed, printedWithin}
 
 -- THE LOOP
 
@@ -43,33 +43,33 @@ same-line i t x (Refused n) = refl
 same-line i t x Acted = refl
 same-line i t x (Ended f) = refl
 
-same-count : (z : Totals) (x : ℕ) (o : Said) → counted z (eventOf x o) ≡ counted z (eventOf 0 o)
+same-count : (z : Totals) (x : ℕ) (o : Said) → addEvent z (eventOf x o) ≡ addEvent z (eventOf 0 o)
 same-count z x (Refused n) = refl
 same-count z x Acted = refl
 same-count z x (Ended f) = refl
 
 module _ (n v : ℕ) (f : ℕ → Action) (l : List ℕ) (i : ℕ) (z : Totals) (s : State) (p : List ℕ) where
   first : (a : Action) (r : List Action) → let x = does s p a in
-      playedOn n v i z (s, p) (a ∷ r) ≡ eventLine i (taskOf a) (eventOf 0 (x .outcome)) ++ playedOn n v (i + 1) (counted z (eventOf 0 (x .outcome))) (x .state, x .pool) r
+      playedOn n v i z (s, p) (a ∷ r) ≡ eventLine i (taskOf a) (eventOf 0 (x .outcome)) ++ playedOn n v (i + 1) (addEvent z (eventOf 0 (x .outcome))) (x .state, x .pool) r
   unfolding playedOn eventLines
   first a r =
       let x = does s p a in
       let e = eventOf (triedBy s a) (x .outcome) in
       let h = history pool (x .state, x .pool) r in
       let y = run pool (x .state, x .pool) r in
-      let rest : Totals → List ℕ = λ z. eventLines (i + 1) h ++ closed n v (countedAll z h) (y .0) (y .1) in
-      append-assoc (eventLine i (taskOf a) e) (eventLines (i + 1) h) (closed n v (countedAll (counted z e) h) (y .0) (y .1))
-      ∙ ap (λ (t : List ℕ). t ++ rest (counted z e)) (same-line i (taskOf a) (triedBy s a) (x .outcome))
+      let rest : Totals → List ℕ = λ z. eventLines (i + 1) h ++ endText n v (addEvents z h) (y .0) (y .1) in
+      append-assoc (eventLine i (taskOf a) e) (eventLines (i + 1) h) (endText n v (addEvents (addEvent z e) h) (y .0) (y .1))
+      ∙ ap (λ (t : List ℕ). t ++ rest (addEvent z e)) (same-line i (taskOf a) (triedBy s a) (x .outcome))
       ∙ ap (λ (z : Totals). eventLine i (taskOf a) (eventOf 0 (x .outcome)) ++ rest z) (same-count z (triedBy s a) (x .outcome))
 
-  pub one-action : {z′ : Totals} {s′ : State} {p′ : List ℕ} {o : Said} {a : Action} {t : ℕ} → i < length l → a ≡ f (getD l i 0) → leaving s′ p′ o ≡ does s p a → t ≡ taskOf a → z′ ≡ counted z (eventOf 0 o) →
+  pub one-action : {z′ : Totals} {s′ : State} {p′ : List ℕ} {o : Said} {a : Action} {t : ℕ} → i < length l → a ≡ f (getD l i 0) → leaving s′ p′ o ≡ does s p a → t ≡ taskOf a → z′ ≡ addEvent z (eventOf 0 o) →
       playedOn n v i z (s, p) (drop i (map f l)) ≡ eventLine i t (eventOf 0 o) ++ playedOn n v (i + 1) z′ (s′, p′) (drop (i + 1) (map f l))
   one-action {a = a} h ea ed et ez =
       let rest = drop (i + 1) (map f l) in
-      let after : After → List ℕ = λ x. eventLine i (taskOf a) (eventOf 0 (x .outcome)) ++ playedOn n v (i + 1) (counted z (eventOf 0 (x .outcome))) (x .state, x .pool) rest in
+      let after : After → List ℕ = λ x. eventLine i (taskOf a) (eventOf 0 (x .outcome)) ++ playedOn n v (i + 1) (addEvent z (eventOf 0 (x .outcome))) (x .state, x .pool) rest in
       rw (map-at f l i h, ← (add-one i), ← ea, et, ez) (first a rest ∙ ap after (sym ed))
 
-  pub no-action : length l ≤ i → playedOn n v i z (s, p) (drop i (map f l)) ≡ closed n v z s p
+  pub no-action : length l ≤ i → playedOn n v i z (s, p) (drop i (map f l)) ≡ endText n v z s p
   unfolding playedOn eventLines
   no-action h = let e : length (map f l) ≤ i = omega (arith, length-map l f) in rw (drop-of-length-le (map f l) e)
 
@@ -81,21 +81,21 @@ allowed s p n v b vs e = acts-iff (openQuestions (length p) n v b vs) .1 (sym (o
 -- what follows from an opening's answer
 module _ (n v b : ℕ) (vs p : List ℕ) (l : List Action) {s₀ s : State} {p′ : List ℕ} {o : Said} (eb : s₀ ≡ blank) (e : leaving s p′ o ≡ opened s₀ p n v b vs) where
   abbrev of : Said → List ℕ
-  of x = started n v l (leaving s p′ x)
+  of x = afterOpen n v l (leaving s p′ x)
 
-  same : of o ≡ started n v l (opened blank p n v b vs)
-  same = ap (λ (r : After). started n v l r) e ∙ ap (λ (t : State). started n v l (opened t p n v b vs)) eb
+  same : of o ≡ afterOpen n v l (opened blank p n v b vs)
+  same = ap (λ (r : After). afterOpen n v l r) e ∙ ap (λ (t : State). afterOpen n v l (opened t p n v b vs)) eb
 
-  pub on-refused : {k : ℕ} → o ≡ Refused k → noLine 0 k ≡ started n v l (opened blank p n v b vs)
-  unfolding started
+  pub on-refused : {k : ℕ} → o ≡ Refused k → noLine 0 k ≡ afterOpen n v l (opened blank p n v b vs)
+  unfolding afterOpen
   on-refused q = ap of (sym q) ∙ same
 
-  pub on-acted : o ≡ Acted → played n v (s, p′) l ≡ started n v l (opened blank p n v b vs)
-  unfolding started
+  pub on-acted : o ≡ Acted → played n v (s, p′) l ≡ afterOpen n v l (opened blank p n v b vs)
+  unfolding afterOpen
   on-acted q = ap of (sym q) ∙ same
 
-  pub on-ended : {f : Result} → o ≡ Ended f → [] ≡ started n v l (opened blank p n v b vs)
-  unfolding started
+  pub on-ended : {f : Result} → o ≡ Ended f → [] ≡ afterOpen n v l (opened blank p n v b vs)
+  unfolding afterOpen
   on-ended q = ap of (sym q) ∙ same
 
   pub opens-reached : o ≡ Acted → Reached n v s p′
@@ -121,13 +121,13 @@ no-room : (s : List ℕ) (n : ℕ) → n < 2400000 → [] ≡ printedWithin n s
 unfolding printedWithin
 no-room s n h = rw (lt-leb 2400000 n h)
 
-with-room : (s : List ℕ) (n : ℕ) → 2400000 ≤ n → shown (verdict s) ≡ printedWithin n s
+with-room : (s : List ℕ) (n : ℕ) → 2400000 ≤ n → verdictText (verdict s) ≡ printedWithin n s
 unfolding printedWithin printed
 with-room s n h = rw (le-leb 2400000 n h)
 
 -- the reader's answer, printed
-answer : (s : List ℕ) (n : ℕ) {a b c : ℕ} {v : Verdict} → v ≡ judged a b c s → a ≡ 32768 → b ≡ 40960 → c ≡ 65535 → 2400000 ≤ n → shown v ≡ printedWithin n s
-answer s n {a} {b} {c} e p q r h = ap shown (e ∙ right-sizes a b c s p q r) ∙ with-room s n h
+answer : (s : List ℕ) (n : ℕ) {a b c : ℕ} {v : Verdict} → v ≡ judged a b c s → a ≡ 32768 → b ≡ 40960 → c ≡ 65535 → 2400000 ≤ n → verdictText v ≡ printedWithin n s
+answer s n {a} {b} {c} e p q r h = ap verdictText (e ∙ right-sizes a b c s p q r) ∙ with-room s n h
 
 -- what is appended from the start lies within the buffer
 counts : {old new : List ℕ} {r : ℕ} {t : List ℕ} → Appended old new 0 r t → Counts r new
@@ -146,7 +146,7 @@ module _ (s old new : List ℕ) (r : ℕ) where
   entire : {t : List ℕ} → Appended old new 0 r t → t ≡ text → Entire
   entire x e = (whole x ∙ ap (λ (l : List ℕ). l ++ drop r old) e, (omega (arith, x .stored .next, ap length e), counts x))
 
-  pub all-printed : {a b c : ℕ} {v : Verdict} → Appended old new 0 r (shown v) → v ≡ judged a b c s → a ≡ 32768 → b ≡ 40960 → c ≡ 65535 → 2400000 ≤ length old → Entire
+  pub all-printed : {a b c : ℕ} {v : Verdict} → Appended old new 0 r (verdictText v) → v ≡ judged a b c s → a ≡ 32768 → b ≡ 40960 → c ≡ 65535 → 2400000 ≤ length old → Entire
   all-printed x e p q u h = entire x (answer s (length old) e p q u h)
 
 pub none-printed : (s old : List ℕ) → length old < 2400000 → Entire s old old 0

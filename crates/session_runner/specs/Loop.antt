@@ -3,10 +3,10 @@ use mathlib.Core.List.{List, _++_}
 use Prim.Native.Nat.{ℕ}
 use Rattle.history.specs.History.{Action, history, run}
 use Rattle.cells.specs.Machine.{Pool, pool}
-use Rattle.session_text.specs.Printed.{Totals, eventLines, countedAll, closed}
+use Rattle.session_text.specs.Printed.{Totals, eventLines, addEvents, endText}
 
 unfoldable pub playedOn : (tasks cells i : ℕ) → Totals → Pool → List Action → List ℕ
 playedOn n v i z x l =
     let h = history pool x l in
     let y = run pool x l in
-    eventLines i h ++ closed n v (countedAll z h) (y .0) (y .1)
+    eventLines i h ++ endText n v (addEvents z h) (y .0) (y .1)

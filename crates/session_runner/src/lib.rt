@@ -18,7 +18,7 @@ ghost use Rattle.cells.specs.Open.{opened};
 ghost use Rattle.session_reader.specs.Reading.{actAt, verdictOf};
 ghost use Rattle.session_reader.specs.Kept.{Named, Within};
 ghost use Rattle.session_runner.specs.Space.{zeros};
-ghost use Rattle.session_text.specs.Printed.{started, blank as «blankOf», poolWords, playedFrom, shown, printedWithin};
+ghost use Rattle.session_text.specs.Printed.{afterOpen, blank as «blankOf», poolWords, playedFrom, verdictText, printedWithin};
 
 // Enough for 65,535 lines of 36 bytes, one of each cell and the end.
 const ROOM: usize = 2400000;
@@ -66,7 +66,7 @@ fn start(
     requires { ⌜ length (now kept) ≤ 65535 ⌝ }
     requires { ⌜ Named (length (now forms)) (now kept) ⌝ }
     requires { ⌜ 2400000 ≤ length (now out) ⌝ }
-    ensures { λ r. ⌜ Appended (now (out .entry)) (now (out .exit)) 0 r (started tasks cells (map (actAt (now (forms .entry))) (now (kept .entry))) (opened «blankOf» (now (pool .entry)) tasks cells blocks (now (values .entry)))) ⌝ }
+    ensures { λ r. ⌜ Appended (now (out .entry)) (now (out .exit)) 0 r (afterOpen tasks cells (map (actAt (now (forms .entry))) (now (kept .entry))) (opened «blankOf» (now (pool .entry)) tasks cells blocks (now (values .entry)))) ⌝ }
 {
     let first = cells::open(blank(), pool, tasks, cells, blocks, values);
     let outcome = first.outcome;
@@ -130,7 +130,7 @@ fn print(out: &mut [u8], found: Reading, values: &[u32], forms: &[u32], actions:
     requires { ⌜ Within found (now values) (now forms) (now actions) ⌝ }
     requires { ⌜ length (now actions) ≤ 65535 ⌝ }
     requires { ⌜ 2400000 ≤ length (now out) ⌝ }
-    ensures { λ r. ⌜ Appended (now (out .entry)) (now (out .exit)) 0 r (shown (verdictOf found (now (values .entry)) (now (forms .entry)) (now (actions .entry)))) ⌝ }
+    ensures { λ r. ⌜ Appended (now (out .entry)) (now (out .exit)) 0 r (verdictText (verdictOf found (now (values .entry)) (now (forms .entry)) (now (actions .entry)))) ⌝ }
 {
     match found {
         Reading::Bad(n) => printing::put_bad(out, 0, n),

@@ -20,7 +20,7 @@ ghost use Rattle.session_reader.specs.Kept.{Named};
 ghost use Rattle.cells.specs.Answers.{said, seen as «seenOf»};
 ghost use Rattle.cells.specs.Events.{eventOf};
 ghost use Rattle.session_text.specs.Lines.{eventLine, Small};
-ghost use Rattle.session_text.specs.Printed.{counted, lookLine, cellLines, pending as «pendingOf», closed, played};
+ghost use Rattle.session_text.specs.Printed.{addEvent, lookLine, cellLines, pendingTasks, endText, played};
 ghost use Rattle.session_runner.specs.Actions.{totalsOf};
 
 // Finished calls, and their hardware CAS attempts.
@@ -45,7 +45,7 @@ fn report(out: &mut [u8], at: usize, i: u32, task: u32, outcome: Outcome) -> usi
 // At most 65,535 calls, each of a 32-bit count: no sum wraps.
 fn count(z: Tally, outcome: Outcome) -> Tally
     requires { ⌜ (z .finished ≤ 65535) × (z .hard ≤ 65535 * 4294967295) ⌝ }
-    ensures { λ r. ⌜ totalsOf r ≡ counted (totalsOf z) (eventOf 0 (said outcome)) ⌝ }
+    ensures { λ r. ⌜ totalsOf r ≡ addEvent (totalsOf z) (eventOf 0 (said outcome)) ⌝ }
     ensures { λ r. ⌜ (r .finished ≤ z .finished + 1) × (r .hard ≤ z .hard + 4294967295) ⌝ }
 {
     match outcome {
@@ -87,7 +87,7 @@ fn put_cells(out: &mut [u8], at: usize, s: State, pool: &[u32], cells: u32) -> u
 // How many of the first n tasks have a pending call.
 fn pending(s: State, n: usize) -> u64
     requires { ⌜ n ≤ 32 ⌝ }
-    ensures { λ r. ⌜ r ≡ «pendingOf» s 0 n ⌝ }
+    ensures { λ r. ⌜ r ≡ pendingTasks s 0 n ⌝ }
 {
     let mut t = 0;
     let mut busy: u64 = 0;
@@ -113,7 +113,7 @@ fn finish(
     requires { ⌜ (tasks ≤ 32) × (cells ≤ 16) ⌝ }
     requires { ⌜ at + 2000 ≤ length (now out) ⌝ }
     requires { ⌜ z .hard ≤ 65535 * 4294967295 ⌝ }
-    ensures { λ r. ⌜ Appended (now (out .entry)) (now (out .exit)) at r (closed tasks cells (totalsOf z) s (now (pool .entry))) ⌝ }
+    ensures { λ r. ⌜ Appended (now (out .entry)) (now (out .exit)) at r (endText tasks cells (totalsOf z) s (now (pool .entry))) ⌝ }
 {
     let a = put_cells(out, at, s, pool, cells);
     let unfinished = pending(s, tasks as usize);

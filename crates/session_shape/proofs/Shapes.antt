@@ -25,6 +25,6 @@ unfolding fits deeper
 still-8 d p b h e = go (eqb b 40) (eqb b 41) refl refl
   where
     go : (x y : Bool) → eqb b 40 ≡ x → eqb b 41 ≡ y → deeper d b ≤ 8
-    go true y f g = rw f (omega (arith, ltb-true d 8 (and-eq-true-iff (ltb d 8) _ .0 (rw f at e) .0)))
+    go true y f g = rw f (omega (arith, ltb-true d _ (and-eq-true-iff _ _ .0 (rw f at e) .0)))
     go false true f g = rw (f, g) (omega arith)
     go false false f g = rw (f, g) h

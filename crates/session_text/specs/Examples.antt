@@ -13,7 +13,7 @@ use Rattle.cells.specs.Look.{looked}
 use Rattle.session_shape.specs.Shape.{fits, deeper, shapedAfter}
 use Rattle.session_file.specs.Session as reader
 use Rattle.session_text.specs.Lines.{numbers, doneStart, eventLine}
-use Rattle.session_text.specs.Printed.{eventLines, cellLines, pending, closed, played, started, printed}
+use Rattle.session_text.specs.Printed.{eventLines, cellLines, pendingTasks, endText, played, afterOpen, printed}
 
 abbrev Prints : List (String × String) → Type 0
 Prints [] = Unit {0}
@@ -49,5 +49,5 @@ prints :
     ("(open 2 1 5 (5))\n(read 1 0)\n(step 0)\n(step 1)\n", "(no 1 11)\n(cell 0 5)\n(end 0 1 0 0)\n") ∷
     []
     )
-unfolding digits word digitsAfter number fit recordFit cellsFit recordsFit hasNone openQuestions isCurrent usedByTask used unused opened readBegun swapBegun ran stepped looked fits deeper shapedAfter reader.numbers reader.manyWithin reader.values reader.opening reader.keyword reader.head reader.body reader.form reader.line reader.count reader.times reader.actions reader.asked14 reader.formed reader.verdict numbers doneStart eventLine eventLines cellLines pending closed played started printed reader.asked15
+unfolding digits word digitsAfter number fit recordFit cellsFit recordsFit hasNone openQuestions isCurrent usedByTask used unused opened readBegun swapBegun ran stepped looked fits deeper shapedAfter reader.numbers reader.manyWithin reader.values reader.opening reader.keyword reader.head reader.body reader.form reader.line reader.count reader.times reader.actions reader.asked14 reader.formed reader.verdict numbers doneStart eventLine eventLines cellLines pendingTasks endText played afterOpen printed reader.asked15
 prints = (refl, (refl, (refl, (refl, (refl, (refl, (refl, (refl, (refl, (refl, (refl, (refl, (refl, (refl, (refl, tt)))))))))))))))

@@ -28,14 +28,14 @@ pub record Totals : Type 0 where
 abbrev pub totals : (finished hard : ℕ) → Totals
 totals f h = record { finished = f; hard = h }
 
-abbrev pub counted : Totals → Event → Totals
-counted z (refused n) = z
-counted z (accepted x) = z
-counted z (answered x r) = totals (z .finished + 1) (z .hard + r .hard)
+abbrev pub addEvent : Totals → Event → Totals
+addEvent z (refused n) = z
+addEvent z (accepted x) = z
+addEvent z (answered x r) = totals (z .finished + 1) (z .hard + r .hard)
 
-abbrev pub countedAll : Totals → List (Action × Event) → Totals
-countedAll z [] = z
-countedAll z ((a, e) ∷ h) = countedAll (counted z e) h
+abbrev pub addEvents : Totals → List (Action × Event) → Totals
+addEvents z [] = z
+addEvents z ((a, e) ∷ h) = addEvents (addEvent z e) h
 
 -- AFTER THE LAST ACTION
 
@@ -49,12 +49,12 @@ cellLines s p i zero = []
 cellLines s p i (suc k) = lookLine i (looked s p i) ++ cellLines s p (i + 1) k
 
 -- how many of the k tasks from i on have a pending call
-unfoldable pub pending : State → (i k : ℕ) → ℕ
-pending s i zero = 0
-pending s i (suc k) = cond (isIdle (recordAt (s .records) i)) 0 1 + pending s (i + 1) k
+unfoldable pub pendingTasks : State → (i k : ℕ) → ℕ
+pendingTasks s i zero = 0
+pendingTasks s i (suc k) = cond (isIdle (recordAt (s .records) i)) 0 1 + pendingTasks s (i + 1) k
 
-unfoldable pub closed : (tasks cells : ℕ) → Totals → State → List ℕ → List ℕ
-closed n v z s p = cellLines s p 0 v ++ endLine (z .finished) (pending s 0 n) (z .hard)
+unfoldable pub endText : (tasks cells : ℕ) → Totals → State → List ℕ → List ℕ
+endText n v z s p = cellLines s p 0 v ++ endLine (z .finished) (pendingTasks s 0 n) (z .hard)
 
 -- WHAT IS PRINTED: the lines of the history that demand 3 speaks of, and of the state that it leaves
 
@@ -62,11 +62,11 @@ unfoldable pub played : (tasks cells : ℕ) → Pool → List Action → List �
 played n v x l =
     let h = history pool x l in
     let y = run pool x l in
-    eventLines 0 h ++ closed n v (countedAll (totals 0 0) h) (y .0) (y .1)
+    eventLines 0 h ++ endText n v (addEvents (totals 0 0) h) (y .0) (y .1)
 
 -- a refused open ends the session
-unfoldable pub started : (tasks cells : ℕ) → List Action → After → List ℕ
-started n v l r = elim (r .outcome) [ Refused n ↦ noLine 0 n | Acted ↦ played n v (r .state, r .pool) l | Ended f ↦ [] ]
+unfoldable pub afterOpen : (tasks cells : ℕ) → List Action → After → List ℕ
+afterOpen n v l r = elim (r .outcome) [ Refused n ↦ noLine 0 n | Acted ↦ played n v (r .state, r .pool) l | Ended f ↦ [] ]
 
 -- before open
 abbrev pub blank : State
@@ -77,14 +77,14 @@ abbrev pub poolWords : ℕ → ℕ
 poolWords b = 5 * cond (leb b 128) b 128
 
 abbrev pub playedFrom : Opening → List Action → List ℕ
-playedFrom o l = started (o .tasks) (o .cells) l (opened blank (replicate (poolWords (o .blocks)) 0) (o .tasks) (o .cells) (o .blocks) (o .values))
+playedFrom o l = afterOpen (o .tasks) (o .cells) l (opened blank (replicate (poolWords (o .blocks)) 0) (o .tasks) (o .cells) (o .blocks) (o .values))
 
-abbrev pub shown : Verdict → List ℕ
-shown (bad n) = badLine n
-shown (session o l) = playedFrom o l
+abbrev pub verdictText : Verdict → List ℕ
+verdictText (bad n) = badLine n
+verdictText (session o l) = playedFrom o l
 
 unfoldable pub printed : List ℕ → List ℕ
-printed s = shown (verdict s)
+printed s = verdictText (verdict s)
 
 -- nothing is printed where there is no room for the longest text
 unfoldable pub printedWithin : (room : ℕ) → List ℕ → List ℕ

@@ -1,11 +1,11 @@
 use Rattle.text.proofs.Appending.{then}
-use Rattle.session_text.specs.Printed.{closed}
+use Rattle.session_text.specs.Printed.{endText}
 use borrow.Author.Needs.{needs}
 use Rattle.session_runner.proofs.play.finish.Statement.{statement}
 use Rattle.session_runner.proofs.play.finish.Tie as tie
 
 returns : tie.Need-returns
-unfolding closed
+unfolding endText
 returns c = rw (← (c .before .before .before .before .pending .ensures)) (then (c .before .before .before .before .before .before .before .put-cells .ensures .0) (c .before .before .put-end .ensures))
 
 pub finish-spec : {M : Type 1} → statement M

@@ -5,12 +5,12 @@ use Rattle.session_runner.proofs.Loops.{task-end, task-busy, task-idle}
 use native.Mathlib.Nat.{zero-add, sub-zero}
 use borrow.Author.Needs.{needs}
 use mathlib.Core.Path.{_≡_}
-use Rattle.session_text.specs.Printed.{pending}
+use Rattle.session_text.specs.Printed.{pendingTasks}
 use Rattle.session_runner.proofs.play.pending.Statement.{statement}
 use Rattle.session_runner.proofs.play.pending.Tie as tie
 
 abbrev Inv-loop : tie.InvT-loop
-Inv-loop n s t₀ busy₀ t busy = (busy + pending s t (n - t) ≡ pending s 0 n) × (t ≤ n) × (busy ≤ t)
+Inv-loop n s t₀ busy₀ t busy = (busy + pendingTasks s t (n - t) ≡ pendingTasks s 0 n) × (t ≤ n) × (busy ≤ t)
 
 abbrev μ-loop : tie.MeasureT-loop
 μ-loop n s t₀ busy₀ t busy = n - t

@@ -4,8 +4,9 @@ use mathlib.Core.List.{List, [], _∷_, _++_}
 use Prim.Native.Nat.{ℕ}
 use Rattle.history.specs.History.{Action, Event, history, run, Calls, noCalls, enter, enterAll, WellFormed}
 use Rattle.history.specs.Moments.{Mark, Names, beside, marked, pendingMarks, marks}
+use Rattle.history.proofs.Basics.{clash}
 use Rattle.history.proofs.Simulation.{Simulation}
-use Rattle.history.proofs.Tracks.{clash, tallied, tallyOf, Tracks, Change, refuses, starts, goes, ends, Tracked, tracked}
+use Rattle.history.proofs.Tracks.{tallied, tallyOf, Tracks, Change, refuses, starts, goes, ends, Tracked, tracked}
 use Rattle.history.proofs.MovesOne.{Dated, dated-on, moves-one}
 use Rattle.history.proofs.Counts.{Within, AllEnded, ended-next}
 use Rattle.history.proofs.Distinct.{Distinct, distinct-next}
