@@ -1,4 +1,5 @@
 pub mod Basics
+pub mod ListTests
 pub mod Simulation
 pub mod Tracks
 pub mod MovesOne
