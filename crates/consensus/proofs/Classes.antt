@@ -1,5 +1,5 @@
 -- Classes of steps, as tests of their numbers.
-use mathlib.Core.Path.{_≡_, refl, subst}
+use mathlib.Core.Path.{_≡_, refl, sym, ap, _∙_, subst}
 use mathlib.Core.Bool.{Bool, not, _||_}
 use mathlib.Core.List.{List, [], _∷_}
 use Prim.Native.Nat.{ℕ}
@@ -61,7 +61,7 @@ lonely ℓ = within (number ℓ) 1 7
 
 -- INCLUSIONS: each is one test computed over all steps
 
-abbrev stages : List Stage
+abbrev pub stages : List Stage
 stages = nowhere ∷ writeX ∷ readY ∷ writeY ∷ readX ∷ storeV ∷ readC ∷ storeD ∷ setC ∷ testV ∷ loadV ∷ lookD ∷ casD ∷ readD ∷ []
 
 placed : (ℓ : Stage) → getD stages (number ℓ) nowhere ≡ ℓ
@@ -79,6 +79,9 @@ placed loadV = refl
 placed lookD = refl
 placed casD = refl
 placed readD = refl
+
+pub same-number : (a b : Stage) → number a ≡ number b → a ≡ b
+same-number a b e = sym (placed a) ∙ (ap (λ n. getD stages n nowhere) e ∙ placed b)
 
 -- a test that every step passes
 pub every-stage : (f : Stage → Bool) → T (every f stages) → (ℓ : Stage) → T (f ℓ)

@@ -1,3 +1,5 @@
 pub mod Classes
 pub mod Invariant
 pub mod Keeping
+pub mod Lone
+pub mod Ways
