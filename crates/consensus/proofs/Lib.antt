@@ -3,3 +3,6 @@ pub mod Invariant
 pub mod Keeping
 pub mod Lone
 pub mod Ways
+pub mod Sound
+pub mod Begins
+pub mod Moving

@@ -13,7 +13,7 @@ use Rattle.consensus.specs.declared.OnceCell.{OnceCell}
 use Rattle.consensus.specs.declared.Offer.{Offer}
 use Rattle.consensus.specs.Figure.{Stage, writeX, readY, writeY, readX, storeV, readC, storeD, setC, testV, loadV, lookD, casD, readD, nowhere, stageAt, stageOf, Given, Refuses, GoesOn, Ends, Leaves, putX, putY, putC, putV, putD, goOn, agree, does, withStep}
 use Rattle.consensus.specs.Entries.{firstOffer, noted}
-use Rattle.consensus.proofs.Classes.{number, is, busy, tries, lonely, same-number}
+use Rattle.consensus.proofs.Classes.{number, is, busy, tries, lonely, same-number, lies-in}
 use Rattle.consensus.proofs.Invariant.{none}
 use Rattle.consensus.proofs.Keeping.{is-none}
 use Rattle.consensus.proofs.Ways.{Leads, goes, ends, leads, never-next}
@@ -87,12 +87,12 @@ module _ (m : OnceCell) (task : ℕ → Offer) (p : ℕ) where
       go false z = tt
 
   -- where D is there, nobody comes to the hardware CAS: the look before it ends the call
-  none-tries : m .d ≢ none → (ℓ : Stage) → T (not (tries ℓ)) → Leads ℓ r (does ℓ p r m) → T (not (tries (stageOf (does ℓ p r m .offer))))
+  none-tries : m .d ≢ none → (ℓ : Stage) → T (not (tries ℓ)) → Leads ℓ r m (does ℓ p r m) → T (not (tries (stageOf (does ℓ p r m .offer))))
   none-tries s ℓ n l = go (is 11 ℓ) refl
     where
-      by-lead : (x : Leaves) → Leads ℓ r x → T (not (is 11 ℓ)) → T (not (tries (stageOf (x .offer))))
-      by-lead x (goes m k w f) other = never-next ℓ (stageAt k) f n other
-      by-lead x (ends m w e) other = tt
+      by-lead : (x : Leaves) → Leads ℓ r m x → T (not (is 11 ℓ)) → T (not (tries (stageOf (x .offer))))
+      by-lead x (goes m′ k w o f) other = never-next ℓ (stageAt k) f n other
+      by-lead x (ends m′ w o e) other = tt
 
       go : (b : Bool) → is 11 ℓ ≡ b → T (not (tries (stageOf (does ℓ p r m .offer))))
       go true z = subst (λ ℓ. T (not (tries (stageOf (does ℓ p r m .offer))))) (sym (same-number ℓ lookD (eqb-true (number ℓ) 11 z))) (at-look s)
@@ -110,6 +110,14 @@ module _ (m : OnceCell) (task : ℕ → Offer) (p : ℕ) where
       (subst (λ n. n ≢ none) (sym (d (h .0))) (h .0),
       λ u. upd-cases (λ q. T (not (tries (stageOf q)))) task p (does ℓ p r m .offer) u (λ z. none-tries (h .0) ℓ (subst (λ ℓ. T (not (tries ℓ))) e (h .1 p)) (leads ℓ p r m b)) (λ ne. h .1 u))
   company-step crowded ℓ e b s d h = tt
+
+-- of a call that ends while the cell was not crowded: it has not tried
+pub lone-calm : (m : OnceCell) (task : ℕ → Offer) (p : ℕ) (q : ℕ) → T (busy (stageOf (task p))) → Company-is (first q) m task → T (not (tries (stageOf (task p))))
+lone-calm m task p q b h = go (either p q)
+  where
+    go : (p ≡ q) ⊎ (p ≢ q) → T (not (tries (stageOf (task p))))
+    go (inl z) = lies-in lonely (λ ℓ. not (tries ℓ)) tt (stageOf (task p)) (subst (λ n. T (lonely (stageOf (task n)))) (sym z) (h .1 .alone))
+    go (inr ne) = rw (h .0 p ne) tt
 
 -- A BEGIN
 

@@ -13,7 +13,7 @@ use Rattle.history.specs.Basics.{_∈_}
 use Rattle.history.proofs.ListTests.{every, every-in, has, has-in, both, implies}
 use Rattle.consensus.specs.declared.OnceCell.{OnceCell}
 use Rattle.consensus.specs.declared.Offer.{Offer}
-use Rattle.consensus.specs.Figure.{Stage, writeX, readY, writeY, readX, storeV, readC, storeD, setC, testV, loadV, lookD, casD, readD, nowhere, stageAt, stageOf, Leaves, goOn, agree, does}
+use Rattle.consensus.specs.Figure.{Stage, writeX, readY, writeY, readX, storeV, readC, storeD, setC, testV, loadV, lookD, casD, readD, nowhere, isCas, stageAt, Leaves, goOn, agree, does}
 use Rattle.consensus.specs.History.{attempts}
 use Rattle.consensus.specs.Paths.{oncePaths, onceTable, table-is}
 use Rattle.consensus.proofs.Classes.{number, is, busy, tries, stages, same-number, every-stage}
@@ -39,32 +39,33 @@ successors nowhere = []
 abbrev pub ending : Stage → Bool
 ending ℓ = is 7 ℓ || (is 11 ℓ || is 13 ℓ)
 
-pub data Leads (ℓ : Stage) (r : Offer) : Leaves → Type 0 where
-  goes : (m : OnceCell) (n w : ℕ) → stageAt n ∈ successors ℓ → Leads ℓ r (goOn m r n w)
-  ends : (m : OnceCell) (w : ℕ) → T (ending ℓ) → Leads ℓ r (agree m r w)
+-- of the cell, a step may change the five words
+pub data Leads (ℓ : Stage) (r : Offer) (m : OnceCell) : Leaves → Type 0 where
+  goes : (m′ : OnceCell) (n w : ℕ) → m′ .offered ≡ m .offered → stageAt n ∈ successors ℓ → Leads ℓ r m (goOn m′ r n w)
+  ends : (m′ : OnceCell) (w : ℕ) → m′ .offered ≡ m .offered → T (ending ℓ) → Leads ℓ r m (agree m′ r w)
 
-either-way : (ℓ : Stage) (r : Offer) (m : OnceCell) (b : Bool) (n n′ w : ℕ) → stageAt n ∈ successors ℓ → stageAt n′ ∈ successors ℓ → Leads ℓ r (goOn m r (cond b n n′) w)
-either-way ℓ r m true n n′ w a c = goes m n w a
-either-way ℓ r m false n n′ w a c = goes m n′ w c
+either-way : (ℓ : Stage) (r : Offer) (m : OnceCell) (b : Bool) (n n′ w : ℕ) → stageAt n ∈ successors ℓ → stageAt n′ ∈ successors ℓ → Leads ℓ r m (goOn m r (cond b n n′) w)
+either-way ℓ r m true n n′ w a c = goes m n w refl a
+either-way ℓ r m false n n′ w a c = goes m n′ w refl c
 
-pub leads : (ℓ : Stage) (p : ℕ) (r : Offer) (m : OnceCell) → T (busy ℓ) → Leads ℓ r (does ℓ p r m)
-leads writeX p r m b = goes _ 2 _ (inl refl)
+pub leads : (ℓ : Stage) (p : ℕ) (r : Offer) (m : OnceCell) → T (busy ℓ) → Leads ℓ r m (does ℓ p r m)
+leads writeX p r m b = goes _ 2 _ refl (inl refl)
 leads readY p r m b = either-way readY r m (eqb (m .y) 0) 3 8 (r .value) (inl refl) (inr (inl refl))
-leads writeY p r m b = goes _ 4 _ (inl refl)
+leads writeY p r m b = goes _ 4 _ refl (inl refl)
 leads readX p r m b = either-way readX r m (eqb (m .x) p) 5 8 (r .value) (inl refl) (inr (inl refl))
-leads storeV p r m b = goes _ 6 _ (inl refl)
+leads storeV p r m b = goes _ 6 _ refl (inl refl)
 leads readC p r m b = either-way readC r m (eqb (m .c) 0) 7 11 (r .value) (inl refl) (inr (inl refl))
-leads storeD p r m b = ends _ _ tt
-leads setC p r m b = goes _ 9 _ (inl refl)
+leads storeD p r m b = ends _ _ refl tt
+leads setC p r m b = goes _ 9 _ refl (inl refl)
 leads testV p r m b = either-way testV r m (eqb (m .v) noValue) 11 10 (r .value) (inr (inl refl)) (inl refl)
-leads loadV p r m b = goes _ 11 _ (inl refl)
+leads loadV p r m b = goes _ 11 _ refl (inl refl)
 leads lookD p r m b = go (eqb (m .d) noValue)
   where
-    go : (t : Bool) → Leads lookD r (cond t (goOn m r 12 (r .value)) (agree m r (m .d)))
-    go true = goes m 12 (r .value) (inl refl)
-    go false = ends m (m .d) tt
-leads casD p r m b = goes _ 13 _ (inl refl)
-leads readD p r m b = ends _ _ tt
+    go : (t : Bool) → Leads lookD r m (cond t (goOn m r 12 (r .value)) (agree m r (m .d)))
+    go true = goes m 12 (r .value) refl (inl refl)
+    go false = ends m (m .d) refl tt
+leads casD p r m b = goes _ 13 _ refl (inl refl)
+leads readD p r m b = ends _ _ refl tt
 leads nowhere p r m b = absurd b
 
 -- but for the look at D, no step leads to the hardware CAS
@@ -144,6 +145,18 @@ way-few = way-fact (λ ℓ d. leb (attempts d) 1) tt
 -- only after the hardware CAS is it counted
 pub way-quiet : (ℓ : Stage) (d : List Stage) → d ∈ ways ℓ → T (not (is 13 ℓ)) → T (eqb (attempts d) 0)
 way-quiet ℓ d i n = implies (not (is 13 ℓ)) _ (way-fact (λ ℓ d. not (not (is 13 ℓ)) || eqb (attempts d) 0) tt ℓ d i) n
+
+pub way-busy : (ℓ : Stage) (d : List Stage) → d ∈ ways ℓ → T (busy ℓ)
+way-busy = way-fact (λ ℓ d. busy ℓ) tt
+
+-- who neither tries nor has tried ends without
+pub way-calm : (ℓ : Stage) (d : List Stage) → d ∈ ways ℓ → T (not (tries ℓ)) → attempts (d ++ (ℓ ∷ [])) ≡ 0
+way-calm ℓ d i n = eqb→eq _ _ (implies (not (tries ℓ)) _ (way-fact (λ ℓ d. not (not (tries ℓ)) || eqb (attempts (d ++ (ℓ ∷ []))) 0) tt ℓ d i) n)
+
+-- the flag is the count, since the hardware CAS comes once on a way
+pub flag-counts : (a : Bool) (ℓ : Stage) (d : List Stage) → d ∈ ways ℓ → cond a 1 0 ≡ attempts d → cond (a || isCas ℓ) 1 0 ≡ attempts (d ++ (ℓ ∷ []))
+flag-counts true ℓ d i e = sym (eqb→eq _ _ (implies (eqb (attempts d) 1) _ (way-fact (λ ℓ d. not (eqb (attempts d) 1) || eqb (attempts (d ++ (ℓ ∷ []))) 1) tt ℓ d i) (rw (← e) tt)))
+flag-counts false ℓ d i e = sym (eqb→eq _ _ (implies (eqb (attempts d) 0) _ (way-fact (λ ℓ d. not (eqb (attempts d) 0) || eqb (attempts (d ++ (ℓ ∷ []))) (cond (isCas ℓ) 1 0)) tt ℓ d i) (rw (← e) tt)))
 
 path-fact : (f : List Stage → Bool) → T (every f oncePaths) → (d : List Stage) → d ∈ oncePaths → T (f d)
 path-fact f h d i = every-in f oncePaths h d i
