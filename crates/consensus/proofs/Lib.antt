@@ -6,3 +6,6 @@ pub mod Ways
 pub mod Sound
 pub mod Begins
 pub mod Moving
+pub mod Opening
+pub mod Acts
+pub mod Agrees

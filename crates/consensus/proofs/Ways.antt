@@ -4,10 +4,8 @@ use mathlib.Core.Logic.{inl, inr}
 use mathlib.Core.Bool.{Bool, true, false, _&&_, _||_, not, cond}
 use mathlib.Core.List.{List, [], _∷_, _++_}
 use Prim.Native.Nat.{ℕ, _≤_, _<_}
-use native.Mathlib.Omega.{arith}
-use lib.Dec.{eqb, leb, ltb, T, eqb→eq}
+use lib.Dec.{eqb, leb, ltb, T, eqb→eq, leb→le, ltb→lt}
 use lib.ListN.{length}
-use borrow.Author.Tests.{leb-true}
 use Rattle.lines.specs.Record.{noValue}
 use Rattle.history.specs.Basics.{_∈_}
 use Rattle.history.proofs.ListTests.{every, every-in, has, has-in, both, implies}
@@ -136,15 +134,15 @@ ends-path ℓ e = longer ℓ oncePaths (implies (ending ℓ) _ (every-stage (λ 
 way-fact : (f : Stage → List Stage → Bool) → T (every (λ ℓ. every (f ℓ) (ways ℓ)) stages) → (ℓ : Stage) (d : List Stage) → d ∈ ways ℓ → T (f ℓ d)
 way-fact f h ℓ d i = every-in (f ℓ) (ways ℓ) (every-stage (λ ℓ. every (f ℓ) (ways ℓ)) h ℓ) d i
 
-pub way-short : (ℓ : Stage) (d : List Stage) → d ∈ ways ℓ → T (ltb (length d) 10)
-way-short = way-fact (λ ℓ d. ltb (length d) 10) tt
+pub way-short : (ℓ : Stage) (d : List Stage) → d ∈ ways ℓ → length d < 10
+way-short ℓ d i = ltb→lt _ _ (way-fact (λ ℓ d. ltb (length d) 10) tt ℓ d i)
 
-pub way-few : (ℓ : Stage) (d : List Stage) → d ∈ ways ℓ → T (leb (attempts d) 1)
-way-few = way-fact (λ ℓ d. leb (attempts d) 1) tt
+pub way-few : (ℓ : Stage) (d : List Stage) → d ∈ ways ℓ → attempts d ≤ 1
+way-few ℓ d i = leb→le _ _ (way-fact (λ ℓ d. leb (attempts d) 1) tt ℓ d i)
 
--- only after the hardware CAS is it counted
-pub way-quiet : (ℓ : Stage) (d : List Stage) → d ∈ ways ℓ → T (not (is 13 ℓ)) → T (eqb (attempts d) 0)
-way-quiet ℓ d i n = implies (not (is 13 ℓ)) _ (way-fact (λ ℓ d. not (not (is 13 ℓ)) || eqb (attempts d) 0) tt ℓ d i) n
+-- who does not try has not tried
+pub way-quiet : (ℓ : Stage) (d : List Stage) → d ∈ ways ℓ → T (not (tries ℓ)) → attempts d ≡ 0
+way-quiet ℓ d i n = eqb→eq _ _ (implies (not (tries ℓ)) _ (way-fact (λ ℓ d. not (not (tries ℓ)) || eqb (attempts d) 0) tt ℓ d i) n)
 
 pub way-busy : (ℓ : Stage) (d : List Stage) → d ∈ ways ℓ → T (busy ℓ)
 way-busy = way-fact (λ ℓ d. busy ℓ) tt
@@ -161,11 +159,11 @@ flag-counts false ℓ d i e = sym (eqb→eq _ _ (implies (eqb (attempts d) 0) _ 
 path-fact : (f : List Stage → Bool) → T (every f oncePaths) → (d : List Stage) → d ∈ oncePaths → T (f d)
 path-fact f h d i = every-in f oncePaths h d i
 
-pub path-short : (d : List Stage) → d ∈ oncePaths → T (leb (length d) 10)
-path-short = path-fact (λ d. leb (length d) 10) tt
+pub path-short : (d : List Stage) → d ∈ oncePaths → length d ≤ 10
+path-short d i = leb→le _ _ (path-fact (λ d. leb (length d) 10) tt d i)
 
-pub path-few : (d : List Stage) → d ∈ oncePaths → T (leb (attempts d) 1)
-path-few = path-fact (λ d. leb (attempts d) 1) tt
+pub path-few : (d : List Stage) → d ∈ oncePaths → attempts d ≤ 1
+path-few d i = leb→le _ _ (path-fact (λ d. leb (attempts d) 1) tt d i)
 
 abbrev samePair : ℕ × ℕ → ℕ × ℕ → Bool
 samePair x y = eqb (x .0) (y .0) && eqb (x .1) (y .1)
