@@ -12,8 +12,8 @@ use lib.Seq.{getD-set-same, getD-set-other}
 use borrow.Author.Tests.{eqb-true, eqb-false, ltb-true, lt-ltb, le-leb}
 use Rattle.lines.specs.Basics.{ands}
 use Rattle.lines.specs.Record.{noValue}
-use Rattle.questions.specs.Questions.{Question, refusal, answers, tasksOk, cellsOk}
-use Rattle.questions.proofs.Tests.{nth, all-yes, all-from, within-true}
+use Rattle.questions.specs.Questions.{Question, refusal, tasksOk, cellsOk}
+use Rattle.questions.proofs.Tests.{yes-to, all-from, within-true}
 use Rattle.history.specs.Basics.{upd, _∈_}
 use Rattle.history.proofs.Basics.{either, upd-at, upd-off}
 use Rattle.history.proofs.OnCell.{on-in}
@@ -144,23 +144,20 @@ module _ (s : OnceState) (b : OnceCalls) (S : Stands s b) where
     begins none e = subst (λ (y : OnceAfter). Acts (offer t k w) (y .state, offerEvent (y .gives))) (sym (begun-is none e))
         (record { may = (was-idle (s .tasks) (s .cells) (onceAt s) (offerAt s) b (S .sound) t k w lt few-tasks lk is-idle new some-w .0, lk); after = replaces k (noted (onceAt s k) t) t (firstOffer k w) (tally b (offer t k w) begun) lk lt (begins-sound (s .tasks) (s .cells) (onceAt s) (offerAt s) b (S .sound) t k w lt few-tasks lk is-idle new some-w); same-size = refl })
       where
-        yes-at : (j : ℕ) → getD (answers qs) j true ≡ true
-        yes-at = nth (answers qs) (all-yes qs e)
-
         lt : t < s .tasks
-        lt = ltb-true t (s .tasks) (yes-at 0)
+        lt = ltb-true t (s .tasks) (yes-to qs e 7)
 
         lk : k < s .cells
-        lk = ltb-true k (s .cells) (yes-at 1)
+        lk = ltb-true k (s .cells) (yes-to qs e 8)
 
         is-idle : isIdleOffer (offerAt s t) ≡ true
-        is-idle = yes-at 2
+        is-idle = yes-to qs e 9
 
         new : hasOffered (onceAt s k) t ≡ false
-        new = not-true (hasOffered (onceAt s k) t) (yes-at 3)
+        new = not-true (hasOffered (onceAt s k) t) (yes-to qs e 16)
 
         some-w : w ≢ I.none
-        some-w = not-none w (not-true (eqb w noValue) (yes-at 4))
+        some-w = not-none w (not-true (eqb w noValue) (yes-to qs e 10))
 
   -- A STEP
 
@@ -196,7 +193,7 @@ module _ (s : OnceState) (b : OnceCalls) (S : Stands s b) where
     steps : (o : Option ℕ) → refusal ts ≡ o → Acts (step t) (once s (step t))
     steps (some n) e = subst (λ (y : OnceAfter). Acts (step t) (y .state, stepEvent (stageOf r) (y .gives))) (sym (stepped-is (some n) e)) (record { may = no-call n e; after = stays; same-size = refl })
     steps none e = subst (λ (y : OnceAfter). Acts (step t) (y .state, stepEvent (stageOf r) (y .gives))) (sym (stepped-is none e))
-        (let p = busy-offer (s .tasks) (s .cells) (b .begun) t (b .pending t) r (S .sound .each-task t) (not-true (isIdleOffer r) (nth (answers ts) (all-yes ts e) 1)) in
+        (let p = busy-offer (s .tasks) (s .cells) (b .begun) t (b .pending t) r (S .sound .each-task t) (not-true (isIdleOffer r) (yes-to ts e 11)) in
         acted (p .0) (p .1) (p .2))
       where
         may-go : (c : OnceCall) → b .pending t ≡ some c → (y : Leaves) → Leads (stageOf r) (withStep r) (onceAt s (r .cell)) y → May (s .cells) b (step t) (stepEvent (stageOf r) (y .gives))

@@ -8,8 +8,8 @@ use Prim.Native.Nat.{ℕ, zero, suc, _+_, _≤_, _<_}
 use native.Mathlib.Omega.{arith}
 use lib.Dec.{T}
 use lib.ListN.{length, length-append, replicate}
-use Rattle.questions.specs.Questions.{refusal, answers}
-use Rattle.questions.proofs.Tests.{nth, all-yes}
+use Rattle.questions.specs.Questions.{refusal}
+use Rattle.questions.proofs.Tests.{yes-to}
 use Rattle.history.specs.Basics.{_∈_}
 use Rattle.history.specs.History.{history, run}
 use Rattle.history.proofs.Basics.{either, upd-same}
@@ -123,10 +123,7 @@ module _ (old : OnceState) (tasks cells : ℕ) (allowed : refusal (openOnce task
   opened-is = rw allowed refl
 
   starts : Stands (onceStart tasks cells) noOffers
-  starts = record { sound = opening-sound tasks cells; tasks-ok = yes-at 0; cells-ok = yes-at 1; words-16 = refl; offers-32 = refl }
-    where
-      yes-at : (j : ℕ) → lib.ListN.getD (answers (openOnce tasks cells)) j true ≡ true
-      yes-at = nth (answers (openOnce tasks cells)) (all-yes (openOnce tasks cells) allowed)
+  starts = record { sound = opening-sound tasks cells; tasks-ok = yes-to (openOnce tasks cells) allowed 1; cells-ok = yes-to (openOnce tasks cells) allowed 2; words-16 = refl; offers-32 = refl }
 
   opening : Stands (onceOpened old tasks cells .state) noOffers
   opening = rw opened-is starts

@@ -4,3 +4,4 @@ pub mod Entries
 pub mod History
 pub mod Paths
 pub mod Consensus
+pub mod Examples
