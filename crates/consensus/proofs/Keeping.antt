@@ -78,6 +78,10 @@ module _ (O : ℕ → Type 0) (m : OnceCell) (task : ℕ → Offer) (winner : Op
   tests : (b : Bool) (n n′ w : ℕ) → (b ≡ true → Kept O m task p (goOn m r n w)) → (b ≡ false → Kept O m task p (goOn m r n′ w)) → Kept O m task p (goOn m r (cond b n n′) w)
   tests b n n′ w = by-test (λ n. Kept O m task p (goOn m r n w)) b n n′
 
+  -- of a whole step, and of the value that it stores in D
+  picks : {A : Type 0} (P : A → Type 0) (x : A) (b : Bool) (y z : A) → x ≡ cond b y z → (b ≡ true → P y) → (b ≡ false → P z) → P x
+  picks P x b y z e f g = subst P (sym e) (by-test P b y z f g)
+
   -- the call ends with the decision
   answers-d : (w : ℕ) → w ≡ m .d → m .d ≢ none → Kept O m task p (agree m r w)
   answers-d w e x = record { winner = winner; fast = fast; inv = finish O m task winner fast p nowhere idleOffer refl (i .words) (λ u ne. i .tasks u) (search off); same-d = λ z. refl; answers = (e, x) }
@@ -204,14 +208,14 @@ module _ (O : ℕ → Type 0) (m : OnceCell) (task : ℕ → Offer) (winner : Op
   from-loadV e = goes-on _ _ (let k = was loadV e in let o = i .words .v-offered (k .values .finds tt) in let s : T fast → m .v ≡ m .v = λ f. refl in search off)
 
   from-lookD : stageOf (task p) ≡ lookD → Kept O m task p (does lookD p r m)
-  from-lookD e = by-test (Kept O m task p) (eqb (m .d) noValue) _ _
+  from-lookD e = picks (Kept O m task p) (does lookD p r m) _ _ _ refl
       (λ z. goes-on _ _ (let k = was lookD e in search off))
       (λ z. answers-d _ refl (not-none (m .d) z))
 
   from-casD : stageOf (task p) ≡ casD → Kept O m task p (does casD p r m)
-  from-casD e = by-test (λ n. Kept O m task p (goOn (putD m n) r 13 (r .value))) (eqb (m .d) noValue) _ _
-      (λ z. tries (r .value) (λ x. absurd (x (is-none (m .d) z))) (k .values .was-offered tt) (k .decides .follows tt) (k .values .some-value tt))
-      (λ z. let x = not-none (m .d) z in tries (m .d) (λ x. refl) (i .words .d-offered x) (λ f. i .words .fast-decided f x) x)
+  from-casD e = picks (λ n. Kept O m task p (goOn (putD m n) r 13 (r .value))) (does casD p r m .cell .d) _ _ _ refl
+      (λ z. tries _ (λ x. absurd (x (is-none (m .d) z))) (k .values .was-offered tt) (k .decides .follows tt) (k .values .some-value tt))
+      (λ z. let x = not-none (m .d) z in tries _ (λ x. refl) (i .words .d-offered x) (λ f. i .words .fast-decided f x) x)
     where
       k : Task O m winner fast p casD (task p .value)
       k = was casD e

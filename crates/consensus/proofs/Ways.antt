@@ -47,22 +47,22 @@ either-way ℓ r m true n n′ w a c = goes m n w refl a
 either-way ℓ r m false n n′ w a c = goes m n′ w refl c
 
 pub leads : (ℓ : Stage) (p : ℕ) (r : Offer) (m : OnceCell) → T (busy ℓ) → Leads ℓ r m (does ℓ p r m)
-leads writeX p r m b = goes _ 2 _ refl (inl refl)
-leads readY p r m b = either-way readY r m (eqb (m .y) 0) 3 8 (r .value) (inl refl) (inr (inl refl))
-leads writeY p r m b = goes _ 4 _ refl (inl refl)
-leads readX p r m b = either-way readX r m (eqb (m .x) p) 5 8 (r .value) (inl refl) (inr (inl refl))
-leads storeV p r m b = goes _ 6 _ refl (inl refl)
-leads readC p r m b = either-way readC r m (eqb (m .c) 0) 7 11 (r .value) (inl refl) (inr (inl refl))
+leads writeX p r m b = goes _ _ _ refl (inl refl)
+leads readY p r m b = either-way readY r m (eqb (m .y) 0) _ _ _ (inl refl) (inr (inl refl))
+leads writeY p r m b = goes _ _ _ refl (inl refl)
+leads readX p r m b = either-way readX r m (eqb (m .x) p) _ _ _ (inl refl) (inr (inl refl))
+leads storeV p r m b = goes _ _ _ refl (inl refl)
+leads readC p r m b = either-way readC r m (eqb (m .c) 0) _ _ _ (inl refl) (inr (inl refl))
 leads storeD p r m b = ends _ _ refl tt
-leads setC p r m b = goes _ 9 _ refl (inl refl)
-leads testV p r m b = either-way testV r m (eqb (m .v) noValue) 11 10 (r .value) (inr (inl refl)) (inl refl)
-leads loadV p r m b = goes _ 11 _ refl (inl refl)
+leads setC p r m b = goes _ _ _ refl (inl refl)
+leads testV p r m b = either-way testV r m (eqb (m .v) noValue) _ _ _ (inr (inl refl)) (inl refl)
+leads loadV p r m b = goes _ _ _ refl (inl refl)
 leads lookD p r m b = go (eqb (m .d) noValue)
   where
     go : (t : Bool) → Leads lookD r m (cond t (goOn m r 12 (r .value)) (agree m r (m .d)))
     go true = goes m 12 (r .value) refl (inl refl)
     go false = ends m (m .d) refl tt
-leads casD p r m b = goes _ 13 _ refl (inl refl)
+leads casD p r m b = goes _ _ _ refl (inl refl)
 leads readD p r m b = ends _ _ refl tt
 leads nowhere p r m b = absurd b
 
