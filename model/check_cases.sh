@@ -1,41 +1,50 @@
 #!/bin/sh
-# Makes the session cases anew from the model and compares them with the ones
-# kept in crates/session_cases, and likewise what crates/cells_cases prints.
+# Makes the cases of sessions and of the once-only cells anew from the model and
+# compares them with the ones kept in crates/session_cases and crates/once_cases,
+# and likewise what crates/cells_cases prints.
 # Ends with 1, naming the first difference, if data, args or a stdout differ.
 set -u
 here=$(cd "$(dirname "$0")" && pwd) || exit 1
-kept=$here/../crates/session_cases
-made=$(mktemp -d) || exit 1
-trap 'rm -rf "$made"' EXIT
+all=$(mktemp -d) || exit 1
+trap 'rm -rf "$all"' EXIT
 
-python3 -B "$here/make_cases.py" "$made" || exit 1
+# compare MAKER CRATE: what MAKER writes, and what CRATE keeps
+compare() {
+    made=$all/$2
+    kept=$here/../crates/$2
+    python3 -B "$here/$1" "$made" || exit 1
 
-if ! first=$(diff -rq "$made/data" "$kept/data"); then
-    echo "check_cases: data differ: $(printf '%s\n' "$first" | head -n 1)"
-    exit 1
-fi
-if ! first=$(cmp "$made/args" "$kept/args" 2>&1); then
-    echo "check_cases: args differ: $first"
-    exit 1
-fi
-if ! cmp -s "$made/stdout" "$kept/stdout"; then
-    if [ ! -f "$kept/stdout" ]; then
-        echo "check_cases: there is no stdout"
+    if ! first=$(diff -rq "$made/data" "$kept/data"); then
+        echo "check_cases: data of $2 differ: $(printf '%s\n' "$first" | head -n 1)"
         exit 1
     fi
-    # the line, and the case it belongs to
-    line=$(cmp "$made/stdout" "$kept/stdout" 2>&1 | sed 's/.*line //;s/[^0-9].*//')
-    name=$(head -n "${line:-1}" "$made/stdout" | grep '^# ' | tail -n 1)
-    echo "check_cases: stdout differs at line ${line:-1}, case ${name#\# }"
-    echo "  model: $(sed -n "${line:-1}p" "$made/stdout")"
-    echo "  kept:  $(sed -n "${line:-1}p" "$kept/stdout")"
-    exit 1
-fi
+    if ! first=$(cmp "$made/args" "$kept/args" 2>&1); then
+        echo "check_cases: args of $2 differ: $first"
+        exit 1
+    fi
+    if ! cmp -s "$made/stdout" "$kept/stdout"; then
+        if [ ! -f "$kept/stdout" ]; then
+            echo "check_cases: there is no stdout of $2"
+            exit 1
+        fi
+        # the line, and the case it belongs to
+        line=$(cmp "$made/stdout" "$kept/stdout" 2>&1 | sed 's/.*line //;s/[^0-9].*//')
+        name=$(head -n "${line:-1}" "$made/stdout" | grep '^# ' | tail -n 1)
+        echo "check_cases: stdout of $2 differs at line ${line:-1}, case ${name#\# }"
+        echo "  model: $(sed -n "${line:-1}p" "$made/stdout")"
+        echo "  kept:  $(sed -n "${line:-1}p" "$kept/stdout")"
+        exit 1
+    fi
+}
+
+compare make_cases.py session_cases
+compare make_once_cases.py once_cases
 
 # what the entries answer to wrong numbers and unfit states
+made=$all/cells
 kept=$here/../crates/cells_cases
-python3 -B "$here/cells_cases.py" <"$kept/stdin" >"$made/cells" || exit 1
-if ! cmp -s "$made/cells" "$kept/stdout"; then
+python3 -B "$here/cells_cases.py" <"$kept/stdin" >"$made" || exit 1
+if ! cmp -s "$made" "$kept/stdout"; then
     if [ ! -f "$kept/stdout" ]; then
         echo "check_cases: there is no stdout of cells_cases"
         exit 1
@@ -44,10 +53,10 @@ if ! cmp -s "$made/cells" "$kept/stdout"; then
     line=$(awk 'NR == FNR { made[++n] = $0; next }
                 same == n || made[same + 1] != $0 { exit }
                 { same++ }
-                END { print same + 1 }' "$made/cells" "$kept/stdout")
+                END { print same + 1 }' "$made" "$kept/stdout")
     echo "check_cases: stdout of cells_cases differs at line $line"
-    echo "  model: $(sed -n "${line}p" "$made/cells")"
+    echo "  model: $(sed -n "${line}p" "$made")"
     echo "  kept:  $(sed -n "${line}p" "$kept/stdout")"
     exit 1
 fi
-echo "check_cases: data, args and both stdout are the model's"
+echo "check_cases: data, args and every stdout are the model's"

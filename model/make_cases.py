@@ -25,9 +25,10 @@ HERE = os.path.dirname(os.path.abspath(__file__))
 
 
 class Cases:
-    """The cases in order, by name."""
+    """The cases in order, by name, of a program that the model has."""
 
-    def __init__(self):
+    def __init__(self, program=session):
+        self.program = program
         self.files = {}
         self.prints = {}
 
@@ -37,9 +38,9 @@ class Cases:
             data = draw.text(data)
         assert re.fullmatch("[a-z0-9_]+", name), name
         assert name not in self.files, name
-        trace = session.Trace()
+        trace = self.program.Trace()
         self.files[name] = data
-        self.prints[name] = session.run(data, trace)
+        self.prints[name] = self.program.run(data, trace)
         return trace
 
     def refused(self, name, data, *numbers):
@@ -87,10 +88,9 @@ def write(cases, folder):
             file.write(b"# %s\n%s" % (name.encode(), cases.prints[name]))
 
 
-def main():
+def main(cases, crate):
     folder = (sys.argv[1] if len(sys.argv) > 1
-              else os.path.join(HERE, "..", "crates", "session_cases"))
-    cases = make()
+              else os.path.join(HERE, "..", "crates", crate))
     write(cases, folder)
     print("%d cases, %d bytes of sessions, %d bytes printed" % (
         len(cases.files), sum(map(len, cases.files.values())),
@@ -98,4 +98,4 @@ def main():
 
 
 if __name__ == "__main__":
-    main()
+    main(make(), "session_cases")

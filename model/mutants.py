@@ -349,10 +349,10 @@ FIT_MISREADINGS = [
 ]
 
 
-def misread(where, old, new):
-    """A session's and cells_cases' runs in a model with this one edit."""
+def edited(names, where, old, new):
+    """The model's modules of these names with this one edit."""
     modules = {}
-    for name in ("cells", "reader", "session", "cells_cases"):
+    for name in names:
         with open(os.path.join(HERE, name + ".py")) as file:
             source = file.read()
         if name == where:
@@ -364,6 +364,13 @@ def misread(where, old, new):
         exec(compile(source, name, "exec"), module.__dict__)
         sys.modules.update(kept)
         modules[name] = module
+    return modules
+
+
+def misread(where, old, new):
+    """A session's and cells_cases' runs in a model with this one edit."""
+    modules = edited(("cells", "reader", "session", "cells_cases"),
+                     where, old, new)
     return modules["session"].run, modules["cells_cases"].run
 
 
@@ -378,19 +385,13 @@ def tellers(run, files, prints):
             yield name
 
 
-def main():
-    # A misread count may ask for more memory than there is.
-    resource.setrlimit(resource.RLIMIT_AS, (1 << 30, 1 << 30))
-    cases = make_cases.make()
-    sessions = dict(sorted(cases.files.items(), key=lambda item: len(item[1])))
-    with open(os.path.join(HERE, "../crates/cells_cases/stdin")) as file:
-        lines = {line: line for line in file.read().splitlines()}
-    answers = {line: cells_cases.run(line) for line in lines}
+def by_size(files):
+    """The files, the smallest first."""
+    return dict(sorted(files.items(), key=lambda item: len(item[1])))
 
-    found = [(what, tellers(misread(*edit)[0], sessions, cases.prints))
-             for what, *edit in MISREADINGS]
-    found += [(what, tellers(misread("cells", *edit)[1], lines, answers))
-              for what, *edit in FIT_MISREADINGS]
+
+def report(found):
+    """Prints who tells each reading; 1 if one is told by none, else 0."""
     untold = 0
     for what, names in found:
         first = next(names, None)
@@ -401,6 +402,22 @@ def main():
                                               if more else "")))
     print("%d wrong readings, %d told by none" % (len(found), untold))
     return 1 if untold else 0
+
+
+def main():
+    # A misread count may ask for more memory than there is.
+    resource.setrlimit(resource.RLIMIT_AS, (1 << 30, 1 << 30))
+    cases = make_cases.make()
+    sessions = by_size(cases.files)
+    with open(os.path.join(HERE, "../crates/cells_cases/stdin")) as file:
+        lines = {line: line for line in file.read().splitlines()}
+    answers = {line: cells_cases.run(line) for line in lines}
+
+    found = [(what, tellers(misread(*edit)[0], sessions, cases.prints))
+             for what, *edit in MISREADINGS]
+    found += [(what, tellers(misread("cells", *edit)[1], lines, answers))
+              for what, *edit in FIT_MISREADINGS]
+    return report(found)
 
 
 if __name__ == "__main__":

@@ -1,4 +1,6 @@
 pub mod Basics
+pub mod ListTests
+pub mod OnCell
 pub mod Simulation
 pub mod Tracks
 pub mod MovesOne

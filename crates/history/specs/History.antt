@@ -50,13 +50,13 @@ pub data Event : Type 0 where
   accepted : (tried : ℕ) → Event
   answered : (tried : ℕ) → Report → Event
 
--- each action gets the state as the one before left it
-abbrev pub history : {S : Type 0} → (S → Action → S × Event) → S → List Action → List (Action × Event)
+-- of any machine, whatever its actions and events: each action gets the state as the one before left it
+abbrev pub history : {S A E : Type 0} → (S → A → S × E) → S → List A → List (A × E)
 history act s [] = []
 history act s (a ∷ l) = (a, act s a .1) ∷ history act (act s a .0) l
 
 -- the state after a list of actions
-abbrev pub run : {S : Type 0} → (S → Action → S × Event) → S → List Action → S
+abbrev pub run : {S A E : Type 0} → (S → A → S × E) → S → List A → S
 run act s [] = s
 run act s (a ∷ l) = run act (act s a .0) l
 

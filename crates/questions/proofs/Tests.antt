@@ -1,7 +1,7 @@
 -- Laws of tests and of lists of tests: what one that passed, or failed, says of its parts.
 use mathlib.Core.Path.{_≡_, refl, sym}
 use mathlib.Core.Logic.{⊎-elim}
-use mathlib.Core.Bool.{Bool, true, false, _&&_, _||_, not, and-eq-true-iff, false≢true}
+use mathlib.Core.Bool.{Bool, true, false, _&&_, _||_, not, cond, and-eq-true-iff, false≢true}
 use mathlib.Core.Option.{none}
 use mathlib.Core.List.{List, [], _∷_}
 use Prim.Native.Nat.{ℕ, zero, suc, _+_, _*_, _≤_, _<_}
@@ -48,6 +48,20 @@ pub all-yes : (l : List Question) → refusal l ≡ none → ands (answers l) �
 all-yes [] e = refl
 all-yes ((n, true) ∷ l) e = all-yes l e
 all-yes ((n, false) ∷ l) e = cc
+
+-- the answer to a question by its number, wherever it stands
+abbrev pub answerTo : ℕ → List Question → Bool
+answerTo n [] = true
+answerTo n (q ∷ l) = cond (eqb (q .0) n) (q .1) (answerTo n l)
+
+pub yes-to : (l : List Question) → refusal l ≡ none → (n : ℕ) → answerTo n l ≡ true
+yes-to [] e n = refl
+yes-to ((m, true) ∷ l) e n = go (eqb m n) (yes-to l e n)
+  where
+    go : (b : Bool) → answerTo n l ≡ true → cond b true (answerTo n l) ≡ true
+    go true h = refl
+    go false h = h
+yes-to ((m, false) ∷ l) e n = cc
 
 pub all-from : (f : ℕ → Bool) (i k : ℕ) → ((j : ℕ) → i ≤ j → j < i + k → f j ≡ true) → allFrom f i k ≡ true
 all-from f i zero h = refl

@@ -1,0 +1,66 @@
+-- Everything holds of an opening.
+use mathlib.Core.Path.{_≡_, refl, sym, ap, _∙_, subst, fun-ext}
+use mathlib.Core.Logic.{_≢_}
+use mathlib.Core.Bool.{false}
+use mathlib.Core.Option.{Option, some}
+use mathlib.Core.Option as Maybe
+use mathlib.Core.List.{List, []}
+use Prim.Native.Nat.{ℕ, zero, suc}
+use lib.Dec.{T}
+use lib.ListN.{getD, replicate}
+use Rattle.lines.specs.Record.{noValue}
+use Rattle.history.proofs.OnCell.{on-idle}
+use Rattle.history.proofs.Tracks.{clash}
+use Rattle.consensus.specs.declared.OnceCell.{OnceCell}
+use Rattle.consensus.specs.declared.Offer.{Offer}
+use Rattle.consensus.specs.Figure.{nowhere, stageOf, idleOffer}
+use Rattle.consensus.specs.Questions.{offerAt, freshCell, onceAt}
+use Rattle.consensus.specs.Entries.{onceStart}
+use Rattle.consensus.specs.History.{noOffers}
+use Rattle.consensus.proofs.Invariant as I
+use Rattle.consensus.proofs.Invariant.{Inv, Task}
+use Rattle.consensus.proofs.Keeping.{no-eq, no-winner}
+use Rattle.consensus.proofs.Lone.{nobody}
+use Rattle.consensus.proofs.Sound.{on, OfferedOn, CellSound, Sound}
+
+all-alike : {A : Type 0} (a : A) (n k : ℕ) → getD (replicate n a) k a ≡ a
+all-alike a zero zero = refl
+all-alike a zero (suc k) = refl
+all-alike a (suc n) zero = refl
+all-alike a (suc n) (suc k) = all-alike a n k
+
+fresh-is : noValue ≡ I.none
+unfolding I.none
+fresh-is = refl
+
+module _ (task : ℕ → Offer) (idle : (u : ℕ) → stageOf (task u) ≡ nowhere) (k : ℕ) where
+  no-offer : (w : ℕ) → ⊥ → OfferedOn [] k w
+  no-offer w x = absurd x
+
+  rests : (u w : ℕ) → Task (OfferedOn [] k) freshCell Maybe.none false u nowhere w
+  rests u w = search (no-eq, no-winner, no-offer)
+
+  fresh-cell : CellSound k freshCell task [] []
+  fresh-cell = record {
+    winner = Maybe.none;
+    fast = false;
+    company = nobody;
+    inv = record {
+      words = record { kept = λ t e. absurd (clash refl e); unstored = λ e. fresh-is; v-offered = λ e. absurd (e fresh-is); d-offered = λ e. absurd (e fresh-is); undecided = λ f c. fresh-is; fast-stored = λ f. absurd f; fast-decided = λ f. absurd f };
+      tasks = λ u. rw (idle u) (rests u (task u .value));
+    };
+    company-is = (idle, refl, refl);
+    calls-on = (λ i x. absurd x, λ f x. absurd x);
+    agreed = λ f x. absurd x;
+    noted-all = λ i x. absurd x;
+    room = refl;
+  }
+
+pub opening-sound : (n v : ℕ) → Sound n v (onceAt (onceStart n v)) (offerAt (onceStart n v)) noOffers
+opening-sound n v = record {
+  each-cell = λ k. rw (all-alike freshCell 16 k) (fresh-cell (on (offerAt (onceStart n v)) k) (λ u. ap stageOf (on-idle (λ (r : Offer). r .cell) idleOffer (offerAt (onceStart n v)) k u (all-alike idleOffer 32 u))) k);
+  each-task = λ t. all-alike idleOffer 32 t;
+  each-end = λ f x. absurd x;
+  begun-before = λ i x. absurd x;
+  one-offer = λ i j x. absurd x;
+}
