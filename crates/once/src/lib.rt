@@ -17,7 +17,7 @@ pub struct OnceReply {
     pub progress: Progress,
 }
 
-pub fn open(s: OnceState, tasks: u32, cells: u32) -> OnceReply
+pub fn open(mut s: OnceState, tasks: u32, cells: u32) -> OnceReply
     ensures { λ r. ⌜ onceAfter (r .state) (given (r .progress)) ≡ onceOpened s tasks cells ⌝ }
 {
     let n = asking::open_refusal(tasks, cells);
@@ -29,14 +29,12 @@ pub fn open(s: OnceState, tasks: u32, cells: u32) -> OnceReply
     }
     let r = offers::idle();
     let m = offers::fresh_cell();
-    let state = OnceState {
-        tasks,
-        cells,
-        words: [m; 16],
-        offers: [r; 32],
-    };
+    s.tasks = tasks;
+    s.cells = cells;
+    s.words = [m; 16];
+    s.offers = [r; 32];
     OnceReply {
-        state,
+        state: s,
         progress: Progress::Proceeds,
     }
 }

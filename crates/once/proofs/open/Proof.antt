@@ -14,8 +14,8 @@ returns c = let e = c .before .before .args in rw (is-refused (openOnce (e .task
 returns-2 : tie.Need-returns-2
 unfolding onceOpened
 returns-2 c =
-    let e = c .before .before .before .before .args in
-    rw (is-allowed (openOnce (e .tasks) (e .cells)) _ (c .before .before .before .open-refusal .ensures) (c .before .before .if1 .left) refl, c .before .idle .ensures, c .fresh-cell .ensures)
+    let e = c .before .before .before .before .before .before .args in
+    rw (is-allowed (openOnce (e .tasks) (e .cells)) _ (c .before .before .before .before .before .open-refusal .ensures) (c .before .before .before .before .if1 .left) refl, c .before .before .before .idle .ensures, c .before .before .fresh-cell .ensures)
 
 pub open-spec : {M : Type 1} → statement M
 open-spec =
