@@ -1,12 +1,26 @@
 // The files that a program's arguments name, each of them a case.
+ghost use mathlib.Core.Path.{_≡_};
+ghost use lib.ListN.{length};
 ghost use Rattle.io.specs.Counts.{Counts};
+use libc::STDIN_FILENO;
 use libc::STDOUT_FILENO;
 use report::Input;
 
-// Writes # and the argument, and reads the file of that name. What fails is said on standard error.
+// One byte more than a case may have, so that a longer one is noticed.
+pub fn file_space() -> [u8; 65537]
+    ensures { λ r. ⌜ 65537 ≡ length r ⌝ }
+{
+    [0; 65537]
+}
+
+// Writes # and the i-th argument, and reads the file of that name; 0 stands for standard input. What fails is said on
+// standard error.
 pub fn read_case(i: usize, file: &mut [u8]) -> Input
     ensures { λ r. ⌜ Counts (r .count) (now (file .exit)) ⌝ }
 {
+    if i == 0 {
+        return report::read_all(STDIN_FILENO, file, b"standard input");
+    }
     let nothing = Input {
         count: 0,
         whole: false,

@@ -17,15 +17,13 @@ pub struct Turn {
     pub progress: Progress,
 }
 
-fn go_on(m: OnceCell, r: Offer, line: u32, value: u32) -> Turn
-    ensures { λ n. ⌜ leaving (n .cell) (n .offer) (given (n .progress)) ≡ goOn m r line value ⌝ }
+fn go_on(m: OnceCell, mut r: Offer, line: u32) -> Turn
+    ensures { λ n. ⌜ leaving (n .cell) (n .offer) (given (n .progress)) ≡ goOn m r line (r .value) ⌝ }
 {
-    let mut q = r;
-    q.line = line;
-    q.value = value;
+    r.line = line;
     Turn {
         cell: m,
-        offer: q,
+        offer: r,
         progress: Progress::Proceeds,
     }
 }
@@ -47,14 +45,13 @@ fn agree(m: OnceCell, r: Offer, value: u32) -> Turn
 }
 
 // Each step counts, and the hardware CAS where it is one.
-fn with_step(r: Offer) -> Offer
+fn with_step(mut r: Offer) -> Offer
     requires { ⌜ r .steps ≤ 9 ⌝ }
     ensures { λ q. ⌜ q ≡ withStep r ⌝ }
 {
-    let mut q = r;
-    q.steps = r.steps + 1;
-    q.tried = r.tried | (r.line == 12);
-    q
+    r.steps = r.steps + 1;
+    r.tried = r.tried | (r.line == 12);
+    r
 }
 
 pub fn take_turn(task: u32, r: Offer, m: OnceCell) -> Turn
@@ -68,7 +65,7 @@ pub fn take_turn(task: u32, r: Offer, m: OnceCell) -> Turn
         5..=7 => win(q, m),
         8..=10 => lose(q, m),
         11..=13 => decide(q, m),
-        _ => go_on(m, q, line, r.value),
+        _ => go_on(m, q, line),
     }
 }
 
@@ -83,14 +80,26 @@ fn split(task: u32, r: Offer, mut m: OnceCell) -> Turn
     match line {
         1 => {
             m.x = task;
-            go_on(m, r, 2, r.value)
+            go_on(m, r, 2)
         }
-        2 => { if m.y == 0 { go_on(m, r, 3, r.value) } else { go_on(m, r, 8, r.value) } }
+        2 => {
+            if m.y == 0 {
+                go_on(m, r, 3)
+            } else {
+                go_on(m, r, 8)
+            }
+        }
         3 => {
             m.y = 1;
-            go_on(m, r, 4, r.value)
+            go_on(m, r, 4)
         }
-        _ => { if m.x == task { go_on(m, r, 5, r.value) } else { go_on(m, r, 8, r.value) } }
+        _ => {
+            if m.x == task {
+                go_on(m, r, 5)
+            } else {
+                go_on(m, r, 8)
+            }
+        }
     }
 }
 
@@ -103,9 +112,15 @@ fn win(r: Offer, mut m: OnceCell) -> Turn
     match line {
         5 => {
             m.v = r.value;
-            go_on(m, r, 6, r.value)
+            go_on(m, r, 6)
         }
-        6 => { if m.c == 0 { go_on(m, r, 7, r.value) } else { go_on(m, r, 11, r.value) } }
+        6 => {
+            if m.c == 0 {
+                go_on(m, r, 7)
+            } else {
+                go_on(m, r, 11)
+            }
+        }
         _ => {
             m.d = r.value;
             agree(m, r, r.value)
@@ -114,7 +129,7 @@ fn win(r: Offer, mut m: OnceCell) -> Turn
 }
 
 // Says that there is contention, and takes over the winner's value where it stands.
-fn lose(r: Offer, mut m: OnceCell) -> Turn
+fn lose(mut r: Offer, mut m: OnceCell) -> Turn
     requires { ⌜ (8 ≤ r .line) × (r .line ≤ 10) ⌝ }
     ensures { λ n. ⌜ ((p : ℕ) → leaving (n .cell) (n .offer) (given (n .progress)) ≡ does (stageOf r) p r m) ⌝ }
 {
@@ -122,10 +137,19 @@ fn lose(r: Offer, mut m: OnceCell) -> Turn
     match line {
         8 => {
             m.c = 1;
-            go_on(m, r, 9, r.value)
+            go_on(m, r, 9)
         }
-        9 => { if m.v == NO_VALUE { go_on(m, r, 11, r.value) } else { go_on(m, r, 10, r.value) } }
-        _ => go_on(m, r, 11, m.v),
+        9 => {
+            if m.v == NO_VALUE {
+                go_on(m, r, 11)
+            } else {
+                go_on(m, r, 10)
+            }
+        }
+        _ => {
+            r.value = m.v;
+            go_on(m, r, 11)
+        }
     }
 }
 
@@ -136,12 +160,18 @@ fn decide(r: Offer, mut m: OnceCell) -> Turn
 {
     let line = r.line;
     match line {
-        11 => { if m.d == NO_VALUE { go_on(m, r, 12, r.value) } else { agree(m, r, m.d) } }
+        11 => {
+            if m.d == NO_VALUE {
+                go_on(m, r, 12)
+            } else {
+                agree(m, r, m.d)
+            }
+        }
         12 => {
             if m.d == NO_VALUE {
                 m.d = r.value;
             }
-            go_on(m, r, 13, r.value)
+            go_on(m, r, 13)
         }
         _ => agree(m, r, m.d),
     }

@@ -5,12 +5,13 @@
 ghost use mathlib.Core.Path.{_≡_};
 ghost use Prim.Native.Nat.{_≤_, _<_};
 ghost use lib.ListN.{length};
+use case_files::file_space;
+use case_files::read_case;
 use consensus::Agreement;
 use consensus::Offer;
 use consensus::OnceCell;
 use consensus::OnceState;
 use consensus::Progress;
-use libc::STDIN_FILENO;
 use libc::STDOUT_FILENO;
 use once::OnceReply;
 use session_reader::items;
@@ -49,12 +50,14 @@ fn print_progress(action: u32, task: u32, p: Progress) -> bool {
     }
 }
 
-// READING
+// READING: a form is known by how many numbers it has
 
-// A form, known by how many numbers it has.
 const BAD: usize = 0;
+
 const STEP: usize = 1;
+
 const OPEN: usize = 2;
+
 const OFFER: usize = 3;
 
 // A line's form, its numbers, and the place after it.
@@ -118,14 +121,14 @@ fn read_line(s: &[u8], at: usize) -> Line
 
 struct Standing {
     state: OnceState,
-    // Whether there has been an open, whether the last one acted, and whether all was printed.
-    begun: bool,
+    // Whether the last open acted, and whether all was printed.
     open: bool,
     printed: bool,
     // The next move's number.
     action: u32,
 }
 
+// Any state may be opened.
 fn blank() -> Standing {
     let cell = OnceCell {
         x: 0,
@@ -150,7 +153,6 @@ fn blank() -> Standing {
     };
     Standing {
         state,
-        begun: false,
         open: false,
         printed: true,
         action: 0,
@@ -172,7 +174,6 @@ fn open(p: Standing, tasks: u32, cells: u32) -> Standing {
     let progress = r.progress;
     Standing {
         state,
-        begun: true,
         open: !is_refused(progress),
         printed: print_progress(0, 0, progress),
         action: 0,
@@ -184,7 +185,6 @@ fn moved(p: Standing, task: u32, r: OnceReply) -> Standing {
     let progress = r.progress;
     Standing {
         state,
-        begun: true,
         open: true,
         printed: print_progress(p.action, task, progress),
         action: wrapping_add_u32(p.action, 1),
@@ -215,7 +215,7 @@ fn run(s: &[u8]) {
     let mut at: usize = 0;
     while at < s.len() {
         let l = read_line(s, at);
-        if (l.form == BAD) | (!p.begun & (l.form != OPEN)) {
+        if (l.form == BAD) | ((at == 0) & (l.form != OPEN)) {
             print(b"(bad 14)\n");
             return;
         }
@@ -227,25 +227,9 @@ fn run(s: &[u8]) {
     }
 }
 
-// One byte more than the input may have.
-fn file_space() -> [u8; 65537]
-    ensures { λ r. ⌜ 65537 ≡ length r ⌝ }
-{
-    [0; 65537]
-}
-
 fn run_case(i: usize) {
     let mut file = file_space();
-    let read = case_files::read_case(i, &mut file);
-    if read.whole {
-        let n = read.count;
-        run(&file[..n]);
-    }
-}
-
-fn run_input() {
-    let mut file = file_space();
-    let read = report::read_all(STDIN_FILENO, &mut file, b"standard input");
+    let read = read_case(i, &mut file);
     if read.whole {
         let n = read.count;
         run(&file[..n]);
@@ -254,11 +238,10 @@ fn run_input() {
 
 fn main() {
     let count = os::arg_count();
-    if count <= 1 {
-        run_input();
-        return;
-    }
     let mut i: usize = 1;
+    if count <= 1 {
+        run_case(0);
+    }
     while i < count {
         run_case(i);
         i += 1;
