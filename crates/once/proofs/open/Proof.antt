@@ -15,7 +15,7 @@ returns-2 : tie.Need-returns-2
 unfolding onceOpened
 returns-2 c =
     let e = c .before .before .before .before .before .before .args in
-    rw (is-allowed (openOnce (e .tasks) (e .cells)) _ (c .before .before .before .before .before .open-refusal .ensures) (c .before .before .before .before .if1 .left) refl, c .before .before .before .idle .ensures, c .before .before .fresh-cell .ensures)
+    rw (is-allowed (openOnce (e .tasks) (e .cells)) _ (c .before .before .before .before .before .open-refusal .ensures) (c .before .before .before .before .if1 .left) refl, ← c .before .before .before .idle .ensures, ← c .before .before .fresh-cell .ensures)
 
 pub open-spec : {M : Type 1} → statement M
 open-spec =
