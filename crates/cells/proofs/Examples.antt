@@ -6,7 +6,7 @@ use lib.ListN.{replicate}
 use Rattle.questions.specs.Questions.{hasNone, openQuestions, recordFit, cellsFit, recordsFit, fit}
 use Rattle.blocks.specs.Blocks.{isCurrent, usedByTask, used, unused}
 use Rattle.lines.specs.Record.{idle}
-use Rattle.history.specs.History.{Op, read, swap, Action, begin, step, Kind, aRead, aSwap, Response, Value, Yes, No, Report, Event, refused, accepted, answered, history}
+use Rattle.history.specs.History.{read, swap, Action, begin, step, Kind, aRead, aSwap, Response, Value, Yes, No, Report, Event, refused, accepted, answered, history}
 use Rattle.cells.specs.Open.{opened}
 use Rattle.cells.specs.Begin.{readBegun, swapBegun}
 use Rattle.cells.specs.Step.{ran, stepped}

@@ -1,23 +1,22 @@
 -- The machine: from a state of which everything holds, every move gives an event that it may give, and everything holds again.
 use mathlib.Core.Path.{_≡_, refl, sym, ap, subst, _∙_, fun-ext}
 use mathlib.Core.Logic.{_≢_, _⊎_, inl, inr}
-use mathlib.Core.Bool.{Bool, true, false, not, _||_, false≢true}
+use mathlib.Core.Bool.{Bool, true, false, not, _||_}
 use mathlib.Core.Option.{Option, none, some}
-use mathlib.Core.List.{List, [], _∷_}
-use Prim.Native.Nat.{ℕ, suc, _≤_, _<_}
+use mathlib.Core.List.{List}
+use Prim.Native.Nat.{ℕ, _≤_, _<_}
 use native.Mathlib.Omega.{arith}
-use lib.Dec.{eqb, leb, ltb, T}
+use lib.Dec.{eqb, T}
 use lib.ListN.{length, getD, set, length-set}
 use lib.Seq.{getD-set-same, getD-set-other}
-use borrow.Author.Tests.{eqb-true, eqb-false, ltb-true, lt-ltb, le-leb}
+use borrow.Author.Tests.{eqb-true, ltb-true, lt-ltb, le-leb}
 use Rattle.lines.specs.Basics.{ands}
 use Rattle.lines.specs.Record.{noValue}
 use Rattle.questions.specs.Questions.{Question, refusal, tasksOk, cellsOk}
 use Rattle.questions.proofs.Tests.{yes-to, all-from, within-true}
-use Rattle.history.specs.Basics.{upd, _∈_}
-use Rattle.history.proofs.Basics.{either, upd-at, upd-off}
+use Rattle.history.specs.Basics.{upd}
+use Rattle.history.proofs.Basics.{either, upd-at, upd-off, clash}
 use Rattle.history.proofs.OnCell.{on-in}
-use Rattle.history.proofs.Tracks.{clash}
 use Rattle.consensus.specs.declared.OnceCell.{OnceCell}
 use Rattle.consensus.specs.declared.Offer.{Offer}
 use Rattle.consensus.specs.declared.OnceState.{OnceState}
@@ -25,13 +24,13 @@ use Rattle.consensus.specs.Figure.{stageOf, GoesOn, idleOffer, Leaves, w
 use Rattle.consensus.specs.Questions.{offerAt, freshCell, onceAt, hasOffered, isIdleOffer, isStep, offerTests, offerFit, offersFit, onceFit, offerQuestions, turnQuestions}
 use Rattle.consensus.specs.Entries.{OnceAfter, onceAfter, orRefused, replaced, noted, firstOffer, offerBegun, storedBack, onceStepped}
 use Rattle.consensus.specs.History.{Move, offer, step, MoveEvent, refused, begun, offerEvent, stepEvent, once, OnceCall, OnceCalls, tallied, tally}
-use Rattle.consensus.specs.Consensus.{May, IsPending}
+use Rattle.consensus.specs.Consensus.{May}
 use Rattle.consensus.proofs.Classes.{busy, lies-in}
 use Rattle.consensus.proofs.Invariant as I
 use Rattle.consensus.proofs.Keeping.{not-none}
 use Rattle.consensus.proofs.Ways.{Leads, goes, ends, leads, way-busy, way-short}
-use Rattle.consensus.proofs.Sound.{on, Pends, Doing, Ended, Sound}
-use Rattle.consensus.proofs.Begins.{idle-offer, busy-offer, begins-sound, was-idle}
+use Rattle.consensus.proofs.Sound.{on, Pends, Doing, Sound}
+use Rattle.consensus.proofs.Begins.{busy-offer, begins-sound, was-idle}
 use Rattle.consensus.proofs.Moving.{step-sound}
 
 pub record Stands (s : OnceState) (b : OnceCalls) : Type 0 where

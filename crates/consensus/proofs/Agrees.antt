@@ -1,26 +1,25 @@
 -- The once-only cells agree: the theorem about every list of moves.
 use mathlib.Core.Path.{_≡_, refl, sym, ap, subst, _∙_}
 use mathlib.Core.Logic.{_≢_, _⊎_, inl, inr}
-use mathlib.Core.Bool.{true, not}
-use mathlib.Core.Option.{Option, none, some}
+use mathlib.Core.Bool.{not}
+use mathlib.Core.Option.{none, some}
 use mathlib.Core.List.{List, [], _∷_, _++_}
-use Prim.Native.Nat.{ℕ, zero, suc, _+_, _≤_, _<_}
+use Prim.Native.Nat.{ℕ, zero, suc, _+_, _≤_}
 use native.Mathlib.Omega.{arith}
 use lib.Dec.{T}
-use lib.ListN.{length, length-append, replicate}
+use lib.ListN.{length-append, replicate}
 use Rattle.questions.specs.Questions.{refusal}
 use Rattle.questions.proofs.Tests.{yes-to}
 use Rattle.history.specs.Basics.{_∈_}
 use Rattle.history.specs.History.{history, run}
-use Rattle.history.proofs.Basics.{either, upd-same}
+use Rattle.history.proofs.Basics.{either, upd-same, clash}
 use Rattle.history.proofs.OnCell.{on-in}
-use Rattle.history.proofs.Tracks.{clash, some-inj}
 use Rattle.consensus.specs.declared.Offer.{Offer}
 use Rattle.consensus.specs.declared.OnceState.{OnceState}
 use Rattle.consensus.specs.Figure.{stageOf, idleOffer}
 use Rattle.consensus.specs.Questions.{offerAt, onceAt, openOnce}
-use Rattle.consensus.specs.Entries.{onceOpened, onceStart, onceAfter}
-use Rattle.consensus.specs.History.{Move, step, MoveEvent, refused, begun, did, ended, once, OnceId, OnceCall, OnceFinished, OnceCalls, noOffers, steps, hard, goneOn, wentOn, finishing, tally, tallyAll, offersOf, IsCall, finished, pending}
+use Rattle.consensus.specs.Entries.{onceOpened, onceStart}
+use Rattle.consensus.specs.History.{Move, step, MoveEvent, refused, begun, did, ended, once, OnceCall, OnceFinished, OnceCalls, noOffers, steps, hard, goneOn, wentOn, finishing, tally, tallyAll, offersOf, IsCall, finished, pending}
 use Rattle.consensus.specs.Consensus.{cellOf, Lone, Consensus, May, AllMay, RightOnce, OnceEnds}
 use Rattle.consensus.proofs.Classes.{tries}
 use Rattle.consensus.proofs.Lone.{Company, nobody, first, settled, crowded, Company-is}

@@ -1,13 +1,12 @@
 -- An accepted begin keeps everything.
 use mathlib.Core.Path.{_≡_, refl, sym, ap, subst, _∙_}
 use mathlib.Core.Logic.{_≢_, _⊎_, inl, inr}
-use mathlib.Core.Bool.{Bool, true, false, not, cond, false≢true}
+use mathlib.Core.Bool.{true, false, false≢true}
 use mathlib.Core.Option.{Option, none, some}
 use mathlib.Core.List.{List, [], _∷_}
 use Prim.Native.Nat.{ℕ, suc, _≤_, _<_}
 use native.Mathlib.Omega.{arith}
-use lib.Dec.{eqb, T}
-use lib.ListN.{length, getD, set, length-set}
+use lib.ListN.{length-set}
 use lib.Seq.{getD-set-same, getD-set-other}
 use borrow.Author.Tests.{eqb-true}
 use Rattle.history.specs.Basics.{upd, _∈_}
@@ -15,15 +14,15 @@ use Rattle.history.proofs.Basics.{either, upd-at, upd-off}
 use Rattle.history.proofs.OnCell.{on-changed, on-elsewhere}
 use Rattle.consensus.specs.declared.OnceCell.{OnceCell}
 use Rattle.consensus.specs.declared.Offer.{Offer}
-use Rattle.consensus.specs.Figure.{writeX, stageAt, stageOf, idleOffer}
+use Rattle.consensus.specs.Figure.{writeX, idleOffer}
 use Rattle.consensus.specs.Questions.{isIdleOffer, hasOffered}
 use Rattle.consensus.specs.Entries.{firstOffer, noted}
-use Rattle.consensus.specs.History.{offer, begun, OnceId, OnceCall, OnceFinished, OnceCalls, idOf, tally}
+use Rattle.consensus.specs.History.{offer, begun, OnceId, OnceCall, OnceCalls, idOf, tally}
 use Rattle.consensus.proofs.Invariant as I
 use Rattle.consensus.proofs.Invariant.{Inv, finish}
 use Rattle.consensus.proofs.Keeping.{no-eq, no-T, no-winner}
-use Rattle.consensus.proofs.Lone.{Company, nobody, first, settled, crowded, Company-is, joined, company-begin}
-use Rattle.consensus.proofs.Sound.{on, OfferedOn, CallsOn, CellSound, Pends, Doing, Ended, Sound, grow, begins-elsewhere}
+use Rattle.consensus.proofs.Lone.{Company, nobody, first, settled, crowded, joined, company-begin}
+use Rattle.consensus.proofs.Sound.{on, OfferedOn, CallsOn, CellSound, Pends, Doing, Sound, grow, begins-elsewhere}
 
 -- whether a task is busy: by its offer, and by its calls
 pub idle-offer : (n v : ℕ) (B : List OnceId) (t : ℕ) (o : Option OnceCall) (r : Offer) → Doing n v B t o r → isIdleOffer r ≡ true → (o ≡ none) × (r ≡ idleOffer)

@@ -1,5 +1,5 @@
 -- The invariant of one once-only cell, as small facts grouped by the words that they look at.
-use mathlib.Core.Path.{_≡_, refl, sym, subst}
+use mathlib.Core.Path.{_≡_, sym, subst}
 use mathlib.Core.Logic.{_≢_}
 use mathlib.Core.Bool.{Bool, not}
 use mathlib.Core.Option.{Option, some}

@@ -11,7 +11,7 @@ use borrow.Author.Tests.{eqb-true, eqb-false}
 use Rattle.lines.specs.Record.{noValue}
 use Rattle.history.specs.Basics.{upd}
 use Rattle.history.proofs.ListTests.{by-test}
-use Rattle.history.proofs.Tracks.{clash, some-inj}
+use Rattle.history.proofs.Basics.{clash, some-inj}
 use Rattle.consensus.specs.declared.OnceCell.{OnceCell}
 use Rattle.consensus.specs.declared.Offer.{Offer}
 use Rattle.consensus.specs.Figure.{Stage, writeX, readY, writeY, readX, storeV, readC, storeD, setC, testV, loadV, lookD, casD, readD, nowhere, stageAt, stageOf, Given, Refuses, GoesOn, Ends, idleOffer, Leaves, putD, goOn, agree, does, withStep}
@@ -159,8 +159,15 @@ module _ (O : ℕ → Type 0) (m : OnceCell) (task : ℕ → Offer) (winner : Op
   from-readC : stageOf (task p) ≡ readC → Kept O m task p (does readC p r m)
   from-readC e = tests (eqb (m .c) 0) _ _ _
       (λ z. let c : m .c ≡ 0 = eqb-true (m .c) 0 z in stores m winner true _ _ refl
-      (let w = i .words in record { kept = w .kept; unstored = w .unstored; v-offered = w .v-offered; d-offered = w .d-offered; undecided = λ f. absurd f; fast-stored = λ f. subst (λ v. v ≢ none) (sym (k .values .has-stored tt)) (k .values .some-value tt);
-        fast-decided = λ f. stays fast (λ f. w .undecided f c) (w .fast-decided) })
+      (let w = i .words in record {
+        kept = w .kept;
+        unstored = w .unstored;
+        v-offered = w .v-offered;
+        d-offered = w .d-offered;
+        undecided = λ f. absurd f;
+        fast-stored = λ f. subst (λ v. v ≢ none) (sym (k .values .has-stored tt)) (k .values .some-value tt);
+        fast-decided = λ f. stays fast (λ f. w .undecided f c) (w .fast-decided);
+      })
       (λ u ne. let j = i .tasks u in record { splits = j .splits; values = j .values; decides = record { contended = j .decides .contended; decided = j .decides .decided; is-fast = λ a. tt; follows = λ a f. absurd (j .decides .contended (lies-in choosing past tt (stageOf (task u)) a) c) } })
       (let k = was readC e in search off))
       (λ z. goes-on _ _ (let k = was readC e in let s = eqb-false (m .c) 0 z in let v : T fast → task p .value ≡ m .v = λ f. sym (k .values .has-stored tt) in search off))

@@ -1,8 +1,9 @@
 pub mod Classes
+pub mod Numbers
 pub mod Invariant
 pub mod Keeping
-pub mod Lone
 pub mod Ways
+pub mod Lone
 pub mod Sound
 pub mod Begins
 pub mod Moving

@@ -11,7 +11,7 @@ use Rattle.history.specs.Basics.{upd}
 use Rattle.history.proofs.Basics.{either, upd-same, upd-off, upd-cases}
 use Rattle.consensus.specs.declared.OnceCell.{OnceCell}
 use Rattle.consensus.specs.declared.Offer.{Offer}
-use Rattle.consensus.specs.Figure.{Stage, writeX, readY, writeY, readX, storeV, readC, storeD, setC, testV, loadV, lookD, casD, readD, nowhere, stageAt, stageOf, Given, Refuses, GoesOn, Ends, Leaves, putX, putY, putC, putV, putD, goOn, agree, does, withStep}
+use Rattle.consensus.specs.Figure.{Stage, writeX, readY, writeY, readX, storeV, readC, storeD, setC, testV, loadV, lookD, casD, readD, nowhere, stageAt, stageOf, Given, Refuses, GoesOn, Ends, Leaves, putX, putY, putV, goOn, agree, does, withStep}
 use Rattle.consensus.specs.Entries.{firstOffer, noted}
 use Rattle.consensus.proofs.Classes.{number, is, busy, tries, lonely, same-number, lies-in}
 use Rattle.consensus.proofs.Invariant.{none}
@@ -106,9 +106,10 @@ module _ (m : OnceCell) (task : ℕ → Offer) (p : ℕ) where
       go (inl z) = subst (λ q. After (first q) (does ℓ p r m)) z
           (first-step (λ u ne. h .0 u (λ x. ne (x ∙ sym z))) ℓ s (subst (λ ℓ. Runs p (m .x) (m .y) (m .c) ℓ) e (subst (λ q. Runs q (m .x) (m .y) (m .c) (stageOf (task q))) (sym z) (h .1))))
       go (inr ne) = absurd (subst (λ ℓ. T (busy ℓ)) (sym e ∙ h .0 p ne) b)
-  company-step settled ℓ e b s d h =
-      (subst (λ n. n ≢ none) (sym (d (h .0))) (h .0),
-      λ u. upd-cases (λ q. T (not (tries (stageOf q)))) task p (does ℓ p r m .offer) u (λ z. none-tries (h .0) ℓ (subst (λ ℓ. T (not (tries ℓ))) e (h .1 p)) (leads ℓ p r m b)) (λ ne. h .1 u))
+  company-step settled ℓ e b s d h = (
+    subst (λ n. n ≢ none) (sym (d (h .0))) (h .0),
+    λ u. upd-cases (λ q. T (not (tries (stageOf q)))) task p (does ℓ p r m .offer) u (λ z. none-tries (h .0) ℓ (subst (λ ℓ. T (not (tries ℓ))) e (h .1 p)) (leads ℓ p r m b)) (λ ne. h .1 u),
+  )
   company-step crowded ℓ e b s d h = tt
 
 -- of a call that ends while the cell was not crowded: it has not tried
@@ -128,9 +129,10 @@ joined settled t = settled
 joined crowded t = crowded
 
 pub company-begin : (c : Company) (m : OnceCell) (task : ℕ → Offer) (t k w : ℕ) → Company-is c m task → Company-is (joined c t) (noted m t) (upd task t (firstOffer k w))
-company-begin nobody m task t k w h =
-    (λ u ne. rw (upd-off task t (firstOffer k w) u ne) (h .0 u),
-    rw (upd-same task t (firstOffer k w)) (record { alone = tt; own-x = λ a. absurd a; clear-y = λ a. h .1; clear-c = h .2 }))
+company-begin nobody m task t k w h = (
+  λ u ne. rw (upd-off task t (firstOffer k w) u ne) (h .0 u),
+  rw (upd-same task t (firstOffer k w)) (record { alone = tt; own-x = λ a. absurd a; clear-y = λ a. h .1; clear-c = h .2 }),
+)
 company-begin (first p) m task t k w h = tt
 company-begin settled m task t k w h = (h .0, λ u. upd-cases (λ q. T (not (tries (stageOf q)))) task t (firstOffer k w) u (λ z. tt) (λ ne. h .1 u))
 company-begin crowded m task t k w h = tt

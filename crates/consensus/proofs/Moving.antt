@@ -1,10 +1,10 @@
 -- An accepted step keeps everything.
 use mathlib.Core.Path.{_≡_, refl, sym, ap, subst, _∙_}
 use mathlib.Core.Logic.{_≢_, _⊎_, inl, inr}
-use mathlib.Core.Bool.{Bool, true, false, not, cond}
+use mathlib.Core.Bool.{true, not, cond}
 use mathlib.Core.Option.{Option, none, some}
 use mathlib.Core.List.{List, [], _∷_, _++_}
-use Prim.Native.Nat.{ℕ, suc, _+_, _≤_, _<_}
+use Prim.Native.Nat.{ℕ, suc, _+_, _≤_}
 use native.Mathlib.Omega.{arith}
 use lib.Dec.{T}
 use lib.ListN.{length, length-append}
@@ -14,9 +14,9 @@ use Rattle.history.proofs.OnCell.{on-in, on-changed, on-others}
 use Rattle.consensus.specs.declared.Agreement.{Agreement}
 use Rattle.consensus.specs.declared.OnceCell.{OnceCell}
 use Rattle.consensus.specs.declared.Offer.{Offer}
-use Rattle.consensus.specs.Figure.{Stage, stageAt, stageOf, Given, Refuses, GoesOn, Ends, idleOffer, Leaves, goOn, agree, does, withStep, leaves}
+use Rattle.consensus.specs.Figure.{Stage, stageAt, stageOf, GoesOn, Ends, idleOffer, Leaves, goOn, agree, does, withStep, leaves}
 use Rattle.consensus.specs.Questions.{hasOffered}
-use Rattle.consensus.specs.History.{step, stepEvent, OnceId, OnceCall, OnceFinished, OnceCalls, goneOn, wentOn, finishing, hard, tallied, tally}
+use Rattle.consensus.specs.History.{step, stepEvent, OnceId, OnceCall, OnceFinished, OnceCalls, goneOn, hard, tally}
 use Rattle.consensus.specs.Paths.{oncePaths}
 use Rattle.consensus.specs.Consensus.{cellOf}
 use Rattle.consensus.proofs.Classes.{busy, tries}
@@ -24,7 +24,7 @@ use Rattle.consensus.proofs.Invariant as I
 use Rattle.consensus.proofs.Keeping.{Kept, keeps}
 use Rattle.consensus.proofs.Lone.{Company, nobody, first, settled, crowded, Company-is, stepped, company-step, lone-calm}
 use Rattle.consensus.proofs.Ways.{Leads, goes, ends, leads, goes-way, ends-path, path-row, way-busy, way-calm, flag-counts}
-use Rattle.consensus.proofs.Sound.{on, OfferedOn, NoneEnded, CallsOn, CellSound, Pends, Doing, Ended, Sound, ends-elsewhere}
+use Rattle.consensus.proofs.Sound.{on, OfferedOn, CallsOn, CellSound, Pends, Doing, Ended, Sound, ends-elsewhere}
 
 module _ (n v : ℕ) (cells : ℕ → OnceCell) (offers : ℕ → Offer) (b : OnceCalls) (S : Sound n v cells offers b)
     (t : ℕ) (c : OnceCall) (pending : b .pending t ≡ some c) (P : Pends n v (b .begun) t c (offers t)) where

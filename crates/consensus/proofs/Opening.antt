@@ -1,24 +1,20 @@
 -- Everything holds of an opening.
-use mathlib.Core.Path.{_≡_, refl, sym, ap, _∙_, subst, fun-ext}
-use mathlib.Core.Logic.{_≢_}
+use mathlib.Core.Path.{_≡_, refl, ap}
 use mathlib.Core.Bool.{false}
-use mathlib.Core.Option.{Option, some}
 use mathlib.Core.Option as Maybe
-use mathlib.Core.List.{List, []}
+use mathlib.Core.List.{[]}
 use Prim.Native.Nat.{ℕ, zero, suc}
-use lib.Dec.{T}
 use lib.ListN.{getD, replicate}
 use Rattle.lines.specs.Record.{noValue}
 use Rattle.history.proofs.OnCell.{on-idle}
-use Rattle.history.proofs.Tracks.{clash}
-use Rattle.consensus.specs.declared.OnceCell.{OnceCell}
+use Rattle.history.proofs.Basics.{clash}
 use Rattle.consensus.specs.declared.Offer.{Offer}
 use Rattle.consensus.specs.Figure.{nowhere, stageOf, idleOffer}
 use Rattle.consensus.specs.Questions.{offerAt, freshCell, onceAt}
 use Rattle.consensus.specs.Entries.{onceStart}
 use Rattle.consensus.specs.History.{noOffers}
 use Rattle.consensus.proofs.Invariant as I
-use Rattle.consensus.proofs.Invariant.{Inv, Task}
+use Rattle.consensus.proofs.Invariant.{Task}
 use Rattle.consensus.proofs.Keeping.{no-eq, no-winner}
 use Rattle.consensus.proofs.Lone.{nobody}
 use Rattle.consensus.proofs.Sound.{on, OfferedOn, CellSound, Sound}

@@ -1,20 +1,19 @@
 -- What holds of all cells, tasks and calls of a history together.
-use mathlib.Core.Path.{_≡_, refl, sym, subst, _∙_}
-use mathlib.Core.Logic.{_≢_, _⊎_, inl, inr}
-use mathlib.Core.Bool.{Bool, true, false, not, cond}
+use mathlib.Core.Path.{_≡_}
+use mathlib.Core.Logic.{_≢_, inl, inr}
+use mathlib.Core.Bool.{Bool, true, cond}
 use mathlib.Core.Option.{Option, none, some}
-use mathlib.Core.List.{List, [], _∷_}
+use mathlib.Core.List.{List, _∷_}
 use Prim.Native.Nat.{ℕ, _≤_, _<_}
-use lib.Dec.{T}
 use lib.ListN.{length}
-use Rattle.history.specs.Basics.{upd, _∈_}
+use Rattle.history.specs.Basics.{_∈_}
 use Rattle.history.proofs.OnCell as OnCell
 use Rattle.consensus.specs.declared.OnceCell.{OnceCell}
 use Rattle.consensus.specs.declared.Offer.{Offer}
 use Rattle.consensus.specs.Figure.{stageOf, idleOffer}
 use Rattle.consensus.specs.Questions.{hasOffered}
 use Rattle.consensus.specs.History.{OnceId, OnceCall, OnceFinished, OnceCalls, hard, attempts}
-use Rattle.consensus.specs.Consensus.{cellOf, Reported, Valid}
+use Rattle.consensus.specs.Consensus.{cellOf, Reported}
 use Rattle.consensus.proofs.Invariant as I
 use Rattle.consensus.proofs.Invariant.{Inv}
 use Rattle.consensus.proofs.Lone.{Company, nobody, first, settled, crowded, Company-is}

@@ -1,5 +1,5 @@
 -- Which step may follow which, and the ways that lead to each: what a pending call did so far is one of them, a finished one's a path.
-use mathlib.Core.Path.{_≡_, refl, sym, ap, _∙_, subst}
+use mathlib.Core.Path.{_≡_, refl, sym}
 use mathlib.Core.Logic.{inl, inr}
 use mathlib.Core.Bool.{Bool, true, false, _&&_, _||_, not, cond}
 use mathlib.Core.List.{List, [], _∷_, _++_}
@@ -13,7 +13,7 @@ use Rattle.consensus.specs.declared.OnceCell.{OnceCell}
 use Rattle.consensus.specs.declared.Offer.{Offer}
 use Rattle.consensus.specs.Figure.{Stage, writeX, readY, writeY, readX, storeV, readC, storeD, setC, testV, loadV, lookD, casD, readD, nowhere, isCas, stageAt, Leaves, goOn, agree, does}
 use Rattle.consensus.specs.History.{attempts}
-use Rattle.consensus.specs.Paths.{oncePaths, onceTable, table-is}
+use Rattle.consensus.specs.Paths.{oncePaths, onceTable}
 use Rattle.consensus.proofs.Classes.{number, is, busy, tries, stages, same-number, every-stage}
 
 -- WHAT MAY FOLLOW

@@ -9,7 +9,7 @@ use Rattle.lines.specs.Record.{noValue}
 use Rattle.history.specs.Basics as Basics
 use Rattle.history.specs.Basics.{_∈_}
 use Rattle.history.specs.History.{history}
-use Rattle.history.proofs.Tracks.{clash}
+use Rattle.history.proofs.Basics.{clash}
 use Rattle.consensus.specs.Figure.{Stage, writeX, readY, writeY, readX, storeV, readC, storeD, setC, testV, loadV, lookD, casD, readD}
 use Rattle.consensus.specs.Questions.{offerFit, offersFit, onceFit}
 use Rattle.consensus.specs.Entries.{onceStart, offerBegun, onceStepped}
@@ -126,9 +126,13 @@ cases =
     -- every refusal, in the order of the questions
     record { tasks = 1; cells = 1; list = offer 1 1 noValue ∷ offer 0 1 noValue ∷ offer 0 0 noValue ∷ step 1 ∷ step 0 ∷ offer 0 0 7 ∷ offer 0 0 noValue ∷ []; events = refused 7 ∷ refused 8 ∷ refused 10 ∷ refused 7 ∷ refused 11 ∷ begun ∷ refused 9 ∷ [] } ∷
     -- two collide: the loser decides before the winner stores V, and the winner follows it
-    record { tasks = 2; cells = 1; list = offer 0 0 7 ∷ offer 1 0 9 ∷ (replicate 4 (step 0) ++ (replicate 7 (step 1) ++ replicate 3 (step 0)));
+    record {
+      tasks = 2;
+      cells = 1;
+      list = offer 0 0 7 ∷ offer 1 0 9 ∷ (replicate 4 (step 0) ++ (replicate 7 (step 1) ++ replicate 3 (step 0)));
       events = begun ∷ begun ∷ did writeX ∷ did readY ∷ did writeY ∷ did readX ∷
-      (all (writeX ∷ readY ∷ setC ∷ testV ∷ lookD ∷ casD ∷ []) ++ (ended readD (record { cell = 0; value = 9; steps = 7; hard = 1 }) ∷ did storeV ∷ did readC ∷ ended lookD (record { cell = 0; value = 9; steps = 7; hard = 0 }) ∷ [])) } ∷ []
+          (all (writeX ∷ readY ∷ setC ∷ testV ∷ lookD ∷ casD ∷ []) ++ (ended readD (record { cell = 0; value = 9; steps = 7; hard = 1 }) ∷ did storeV ∷ did readC ∷ ended lookD (record { cell = 0; value = 9; steps = 7; hard = 0 }) ∷ []));
+    } ∷ []
 
 pub computed : gives cases
 unfolding offerBegun onceStepped onceFit offersFit offerFit

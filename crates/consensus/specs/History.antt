@@ -11,7 +11,7 @@ use Rattle.consensus.specs.declared.Agreement.{Agreement}
 use Rattle.consensus.specs.declared.OnceState.{OnceState}
 use Rattle.consensus.specs.Figure.{Stage, isCas, stageOf, Given, Refuses, GoesOn, Ends}
 use Rattle.consensus.specs.Questions.{offerAt}
-use Rattle.consensus.specs.Entries.{OnceAfter, offerBegun, onceStepped}
+use Rattle.consensus.specs.Entries.{offerBegun, onceStepped}
 
 -- MOVES AND EVENTS
 

@@ -8,7 +8,8 @@ use Rattle.lines.specs.Lines.{Wanted, for13, for25, for28, Line, l1, l2, l3, l1
 use Rattle.questions.specs.Questions.{ofKind}
 use Rattle.history.specs.Basics.{_∈_}
 use Rattle.questions.proofs.Numbers.{number}
-use Rattle.figure.proofs.LineLaws.{every, every-line, has, has-in, lines, same, same-is}
+use Rattle.history.proofs.ListTests.{every, has, has-in, implies, excludes}
+use Rattle.figure.proofs.LineLaws.{every-line, lines, same, same-is}
 use Rattle.figure.proofs.LineLaws as Laws
 
 abbrev pub wantedBy : Wanted → ℕ
@@ -104,15 +105,6 @@ abbrev pub uncontended : Line → Bool
 uncontended ℓ = busy ℓ && not (contended ℓ || is 27 ℓ)
 
 -- INCLUSIONS
-
-implies : (a b : Bool) → T (not a || b) → T a → T b
-implies true b h x = h
-implies false b h x = absurd x
-
-excludes : (a b : Bool) → T (not (a && b)) → T a → T b → ⊥
-excludes true true h x y = h
-excludes true false h x y = y
-excludes false b h x y = x
 
 -- one class lies in another: `lies-in a b tt`, where the test computes
 pub lies-in : (a b : Line → Bool) → T (every (λ ℓ. not (a ℓ) || b ℓ) lines) → (ℓ : Line) → T (a ℓ) → T (b ℓ)

@@ -22,7 +22,8 @@ use Rattle.history.proofs.Simulation as Sim
 use Rattle.history.proofs.Simulation.{Phase, settled, frozen, late, Ghost, unplaced, Tally, Why, Sided, Named}
 use Rattle.figure.specs.Figure.{Cell, World, withTask, recordAfter, accessCell, figure}
 use Rattle.figure.specs.Moments.{Notes, nothingNoted, noted, Sight, holdsBlock, sees, names, at, effect, lineC6, rules, ruleAt, ruled, stands}
-use Rattle.figure.proofs.LineLaws.{both, every, every-line, lines, same, same-is, extends, Leads, goes, done, by-test}
+use Rattle.history.proofs.ListTests.{both, every, by-test}
+use Rattle.figure.proofs.LineLaws.{every-line, lines, same, same-is, extends, Leads, goes, done}
 use Rattle.figure.proofs.LineLaws as Laws
 use Rattle.figure.proofs.Records.{Pending, led}
 use Rattle.figure.proofs.AsBegun.{opOf, cell-of}

@@ -13,7 +13,7 @@ use Rattle.lines.specs.Lines.{for13, for25, for28, Line, l1, l2, l3, l10, l11, 
 use Rattle.history.specs.Basics.{upd}
 use Rattle.history.proofs.Basics.{either, upd-same, upd-off, upd-cases}
 use Rattle.figure.specs.Figure.{Cell, store, install, Accessed, accessed, accessCell, recordAfter}
-use Rattle.figure.proofs.LineLaws.{by-test}
+use Rattle.history.proofs.ListTests.{by-test}
 use Rattle.figure.proofs.Classes.{busy, contended, marking}
 use Rattle.figure.proofs.Invariant.{View, Knowledge, Inv, line, held}
 use Rattle.figure.proofs.Frame.{was}

@@ -25,7 +25,8 @@ use Rattle.figure.specs.Figure.{Cell, World, withBoth, WorldAfter, store
 use Rattle.cells.specs.Events.{eventOf}
 use Rattle.figure.specs.Paths.{paths, reached, by25, pathsOf, Traced, Trace, noTrace, didLine, enterLine, figureTraces}
 use Rattle.figure.proofs.Reachable.{trivial, Reachable, next-reachable, opening-reachable}
-use Rattle.figure.proofs.LineLaws.{every, every-in, every-line, has, same, same-is, imp, before, waysOf, has-in, by-test}
+use Rattle.history.proofs.ListTests.{every, every-in, has, imp, has-in, by-test}
+use Rattle.figure.proofs.LineLaws.{every-line, same, same-is, before, waysOf}
 use Rattle.figure.proofs.Records.{OnPath, Sound, with-first, upd-both, Begun, starts, begin-cases, Stepped, runs, step-cases, act-sound}
 use Rattle.figure.proofs.Paths.{start-sound, last-line}
 use Rattle.figure.proofs.Classes.{holding, swapping}

@@ -13,7 +13,8 @@ use Rattle.questions.specs.Questions.{lineFit}
 use Rattle.questions.proofs.Numbers.{number, at-number}
 use Rattle.figure.specs.Figure.{Cell, World}
 use Rattle.figure.specs.Moments.{Notes, holdsBlock, noted, sees}
-use Rattle.figure.proofs.LineLaws.{every, lines, both, wantedBy, wanted-is}
+use Rattle.history.proofs.ListTests.{every, both}
+use Rattle.figure.proofs.LineLaws.{lines, wantedBy, wanted-is}
 use Rattle.figure.proofs.Classes.{is, figureLine, holding, stored, viewing, lies-in, are-apart}
 
 pub cond-true : {A : Type 0} (b : Bool) (x y : A) → T b → cond b x y ≡ x

@@ -13,7 +13,8 @@ use Rattle.questions.specs.Questions.{ofKind, reads, swaps, lineFit}
 use Rattle.history.specs.History.{Op, cellOf, Yes, No}
 use Rattle.history.specs.Linearization.{reply, valueLeft, apply}
 use Rattle.history.specs.Demand3.{Unequal}
-use Rattle.figure.proofs.LineLaws.{every-line, imp}
+use Rattle.history.proofs.ListTests.{imp}
+use Rattle.figure.proofs.LineLaws.{every-line}
 use Rattle.figure.proofs.AsBegun.{opOf, swap-op, Reads, read-op}
 use Rattle.figure.proofs.Tallies.{tally, tallyOf}
 use Rattle.figure.proofs.Classes.{busy, swapping, are-apart}

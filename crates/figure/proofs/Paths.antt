@@ -15,7 +15,8 @@ use Rattle.figure.specs.Figure.{World, WorldAfter, outcomeOf, figureRan,
 use Rattle.cells.specs.Events.{eventOf}
 use Rattle.lines.specs.Paths.{table}
 use Rattle.figure.specs.Paths.{paths, by25, counts, countsOf, Traced, Trace, noTrace, enterLine, figureTraces}
-use Rattle.figure.proofs.LineLaws.{every-line, has, same, Leads, goes, done}
+use Rattle.history.proofs.ListTests.{has}
+use Rattle.figure.proofs.LineLaws.{every-line, same, Leads, goes, done}
 use Rattle.figure.proofs.Records.{Pending, Complete, Then, led, one-line, Begun, starts, begin-cases, Stepped, runs, step-cases, Sound, its-op, with-first, act-sound}
 
 -- FINISHED CALLS

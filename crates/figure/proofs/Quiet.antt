@@ -20,7 +20,7 @@ use Rattle.questions.proofs.Numbers.{number}
 use Rattle.history.specs.Basics.{upd}
 use Rattle.history.proofs.Basics.{upd-at, upd-same, upd-off, upd-cases}
 use Rattle.figure.specs.Figure.{Cell, store, Accessed, accessed, accessCell}
-use Rattle.figure.proofs.LineLaws.{by-test}
+use Rattle.history.proofs.ListTests.{by-test}
 use Rattle.figure.proofs.Classes.{holding, swapping, uncontended, lies-in}
 
 -- has not set Y yet; has written X and not yet looked at it

@@ -6,7 +6,7 @@ use mathlib.Core.Option.{Option, none, some}
 use mathlib.Core.List.{List, [], _∷_, _++_}
 use Prim.Native.Nat.{ℕ, _+_, _≤_, _<_}
 use native.Mathlib.Omega.{arith}
-use lib.Dec.{eqb, leb, ltb, T, leb→le, ltb→lt}
+use lib.Dec.{leb, ltb, T, leb→le, ltb→lt}
 use borrow.Author.Tests.{ltb-true, lt-ltb, eq-eqb, ne-eqb}
 use Rattle.lines.specs.declared.Record.{Record}
 use Rattle.cells.specs.Answers.{Refused, Acted}
@@ -19,10 +19,11 @@ use Rattle.history.specs.History.{Op, read, swap, cellOf, Action, begin, step, 
 use Rattle.history.proofs.Basics.{either, upd-at, upd-off, upd-cases}
 use Rattle.figure.specs.Figure.{Cell, World, withTask, withBoth, WorldAfter, worldAfter, unlessRefused, recordAfter, outcomeOf, figureRan, figureStepped, figureBegun, opening, figure, accessCell, attempts, firstOf}
 use Rattle.cells.specs.Events.{reportOf, eventOf}
-use Rattle.figure.specs.Paths.{count, Traced, Trace, didLine, enterLine, figureTraces}
+use Rattle.figure.specs.Paths.{count, Trace, didLine, enterLine}
 use Rattle.figure.specs.Paths as Paths
 use Rattle.figure.proofs.AsBegun.{opOf}
-use Rattle.figure.proofs.LineLaws.{every, every-in, every-line, both, imp, lines, before, extends-in, waysOf, hardware-alike, Leads, goes, done, leads}
+use Rattle.history.proofs.ListTests.{every, every-in, both, imp}
+use Rattle.figure.proofs.LineLaws.{every-line, lines, before, extends-in, waysOf, hardware-alike, Leads, goes, done, leads}
 
 -- A CALL AND THE LINES THAT IT DID
 

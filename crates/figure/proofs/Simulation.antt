@@ -23,7 +23,7 @@ use Rattle.cells.specs.Events.{eventOf}
 use Rattle.figure.specs.Moments.{Notes, noNotes, nothingNoted, noted, noteStep, note, names, sees, moments}
 use Rattle.figure.proofs.Records.{Pending, AllOnPath, Begun, starts, begin-cases, Stepped, runs, step-cases, act-on-path}
 use Rattle.figure.proofs.Tallies.{tally, doing, follows, within}
-use Rattle.figure.proofs.LineLaws.{by-test}
+use Rattle.history.proofs.ListTests.{by-test}
 use Rattle.figure.proofs.Classes.{storing}
 use Rattle.figure.proofs.Invariant.{none, View}
 use Rattle.figure.proofs.Invariant as Local

@@ -19,7 +19,8 @@ use Rattle.history.proofs.Basics.{either, upd-at, upd-off}
 use Rattle.history.proofs.Simulation.{Phase, settled, frozen, late}
 use Rattle.figure.specs.Figure.{Cell, store, install, Accessed, accessCell}
 use Rattle.figure.proofs.Classes.{is, figureLine, busy, holding, swapping, stored, lies-in}
-use Rattle.figure.proofs.LineLaws.{wanted-is, by-test}
+use Rattle.history.proofs.ListTests.{by-test}
+use Rattle.figure.proofs.LineLaws.{wanted-is}
 use Rattle.figure.proofs.Invariant.{none, View, Knowledge, PhaseIs, line, held, Inv}
 use Rattle.figure.proofs.Frame.{Mine, quiet, was, Grows, grow, undecided, active-current, active-undecided}
 use Rattle.figure.proofs.Looking.{idle-mine, not-late, T-of, settled≢late, active-settled, value-of, decided-not-late, from1, from2, from3-25, from3-28, from10, from11, from12, from15, from17-18, from17-27, from19-20, from19-27, from20, from21-1, from21-22, from21-23, from24-1, from24-26}

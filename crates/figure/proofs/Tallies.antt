@@ -22,7 +22,8 @@ use Rattle.figure.specs.Figure.{Cell, World, WorldAfter, withBoth, recor
 use Rattle.cells.specs.Events.{eventOf}
 use Rattle.figure.specs.Paths.{readPaths, paths, count}
 use Rattle.figure.proofs.AsBegun.{opOf, kind-of, cell-of}
-use Rattle.figure.proofs.LineLaws.{every-in, waysOf, on-paths, on-read-paths, Leads, goes, done, by-test}
+use Rattle.history.proofs.ListTests.{every-in, by-test}
+use Rattle.figure.proofs.LineLaws.{waysOf, on-paths, on-read-paths, Leads, goes, done}
 use Rattle.figure.proofs.Records.{Pending, not-idle, led, Then, one-line, pending-bounds, read-bounds, Begun, starts, begin-cases, Stepped, runs, step-cases, OnPath, AllOnPath}
 
 abbrev pub tally : Record → Tally

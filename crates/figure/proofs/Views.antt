@@ -1,15 +1,15 @@
 -- From one cell to all: a cell sees the tasks that are on it, and a step on one cell leaves the views of the others.
-use mathlib.Core.Path.{_≡_, refl, sym, ap, subst, _∙_, fun-ext}
+use mathlib.Core.Path.{_≡_, refl}
 use mathlib.Core.Logic.{_≢_, _⊎_, inl, inr}
-use mathlib.Core.Bool.{Bool, true, false, not, cond}
+use mathlib.Core.Bool.{Bool, true, false, not}
 use Prim.Native.Nat.{ℕ}
-use lib.Dec.{eqb, T}
-use borrow.Author.Tests.{eq-eqb, ne-eqb}
+use lib.Dec.{T}
 use Rattle.lines.specs.declared.Record.{Record}
 use Rattle.lines.specs.Record.{idle}
 use Rattle.lines.specs.Lines.{Line, lineOf, nowhere}
 use Rattle.history.specs.Basics.{upd}
-use Rattle.history.proofs.Basics.{either, upd-at, upd-off}
+use Rattle.history.proofs.Basics.{either}
+use Rattle.history.proofs.OnCell as OnCell
 use Rattle.history.proofs.Simulation.{late, Ghost}
 use Rattle.figure.specs.Figure.{World}
 use Rattle.figure.proofs.LineLaws.{same, same-is}
@@ -18,23 +18,17 @@ use Rattle.figure.proofs.Invariant.{View, Knowledge, Task, line, Inv}
 use Rattle.figure.proofs.Looking.{idle-task}
 
 -- the tasks on cell k; the others are idle to it
-unfoldable pub on : (ℕ → Record) → ℕ → ℕ → Record
-on f k u = cond (eqb (f u .cell) k) (f u) idle
+abbrev pub on : (ℕ → Record) → ℕ → ℕ → Record
+on = OnCell.on (λ (r : Record). r .cell) idle
 
 pub on-in : (f : ℕ → Record) (k u : ℕ) → f u .cell ≡ k → on f k u ≡ f u
-unfolding on
-on-in f k u e = rw (eq-eqb (f u .cell) k e)
+on-in = OnCell.on-in (λ (r : Record). r .cell) idle
 
-pub on-out : (f : ℕ → Record) (k u : ℕ) → f u .cell ≢ k → on f k u ≡ idle
-unfolding on
-on-out f k u e = rw (ne-eqb (f u .cell) k e)
+on-out : (f : ℕ → Record) (k u : ℕ) → f u .cell ≢ k → on f k u ≡ idle
+on-out = OnCell.on-out (λ (r : Record). r .cell) idle
 
 pub on-idle : (f : ℕ → Record) (k u : ℕ) → f u ≡ idle → on f k u ≡ idle
-on-idle f k u e = go (either (f u .cell) k)
-  where
-    go : (f u .cell ≡ k) ⊎ (f u .cell ≢ k) → on f k u ≡ idle
-    go (inl z) = on-in f k u z ∙ e
-    go (inr z) = on-out f k u z
+on-idle = OnCell.on-idle (λ (r : Record). r .cell) idle
 
 -- who is busy to a cell is on it
 pub on-it : (f : ℕ → Record) (k u : ℕ) → T (busy (lineOf (on f k u))) → f u .cell ≡ k
@@ -50,41 +44,14 @@ view w g k = record { cell = w .cell k; task = on (w .records) k; value = g .cel
 -- A RECORD CHANGES
 
 module _ (f : ℕ → Record) (t : ℕ) (q : Record) where
-  on-other : (k u : ℕ) → u ≢ t → on (upd f t q) k u ≡ on f k u
-  unfolding on
-  on-other k u e = ap (λ (r : Record). cond (eqb (r .cell) k) r idle) (upd-off f t q u e)
-
-  -- one that is on cell k, or idle
   pub on-changed : (k : ℕ) → (q .cell ≡ k) ⊎ (q ≡ idle) → on (upd f t q) k ≡ upd (on f k) t q
-  on-changed k h = fun-ext (λ u. go u (either u t))
-    where
-      go : (u : ℕ) → (u ≡ t) ⊎ (u ≢ t) → on (upd f t q) k u ≡ upd (on f k) t q u
-      go u (inl e) = there h ∙ sym (upd-at (on f k) t q u e)
-        where
-          there : (q .cell ≡ k) ⊎ (q ≡ idle) → on (upd f t q) k u ≡ q
-          there (inl z) = on-in (upd f t q) k u (ap (λ (r : Record). r .cell) (upd-at f t q u e) ∙ z) ∙ upd-at f t q u e
-          there (inr z) = on-idle (upd f t q) k u (upd-at f t q u e ∙ z) ∙ sym z
-      go u (inr e) = on-other k u e ∙ sym (upd-off (on f k) t q u e)
+  on-changed = OnCell.on-changed (λ (r : Record). r .cell) idle f t q
 
-  -- on another cell before and after
   pub on-elsewhere : (j : ℕ) → (f t .cell ≢ j) ⊎ (f t ≡ idle) → (q .cell ≢ j) ⊎ (q ≡ idle) → on (upd f t q) j ≡ on f j
-  on-elsewhere j h h′ = fun-ext (λ u. go u (either u t))
-    where
-      off : (p : ℕ → Record) (u : ℕ) → (p u .cell ≢ j) ⊎ (p u ≡ idle) → on p j u ≡ idle
-      off p u (inl z) = on-out p j u z
-      off p u (inr z) = on-idle p j u z
+  on-elsewhere = OnCell.on-elsewhere (λ (r : Record). r .cell) idle f t q
 
-      go : (u : ℕ) → (u ≡ t) ⊎ (u ≢ t) → on (upd f t q) j u ≡ on f j u
-      go u (inl e) = off (upd f t q) u (subst (λ (r : Record). (r .cell ≢ j) ⊎ (r ≡ idle)) (sym (upd-at f t q u e)) h′) ∙ sym (off f u (subst (λ n. (f n .cell ≢ j) ⊎ (f n ≡ idle)) (sym e) h))
-      go u (inr e) = on-other j u e
-
-  -- on another cell than the record's, whether it stays there or ends
   pub on-others : (j : ℕ) → j ≢ f t .cell → (q .cell ≡ f t .cell) ⊎ (q ≡ idle) → on (upd f t q) j ≡ on f j
-  on-others j n h = on-elsewhere j (inl (λ z. n (sym z))) (go h)
-    where
-      go : (q .cell ≡ f t .cell) ⊎ (q ≡ idle) → (q .cell ≢ j) ⊎ (q ≡ idle)
-      go (inl z) = inl (λ y. n (sym y ∙ z))
-      go (inr z) = inr z
+  on-others = OnCell.on-others (λ (r : Record). r .cell) idle f t q
 
 -- WHOSE SWAP TOOK EFFECT matters only of busy tasks
 

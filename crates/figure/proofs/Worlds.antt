@@ -18,7 +18,8 @@ use Rattle.history.proofs.Simulation as Sim
 use Rattle.history.proofs.Simulation.{Phase, settled, frozen, late, Ghost, Tally, Move, shift, Grown, May}
 use Rattle.figure.specs.Figure.{Cell, World, withBoth, recordAfter, accessCell, figure}
 use Rattle.figure.specs.Moments.{Notes, noted, names, sees}
-use Rattle.figure.proofs.LineLaws.{every, lines}
+use Rattle.history.proofs.ListTests.{every}
+use Rattle.figure.proofs.LineLaws.{lines}
 use Rattle.figure.proofs.Records.{Pending, AllOnPath, OnPath}
 use Rattle.figure.proofs.AsBegun.{opOf, cell-of}
 use Rattle.figure.proofs.Tallies.{tally, tallyOf, doing}

@@ -3,7 +3,6 @@ use mathlib.Core.Path.{_≡_, refl, sym, ap, _∙_, subst}
 use mathlib.Core.Logic.{_≢_, _⊎_, inl, inr}
 use mathlib.Core.Option.{Option, none, some}
 use Prim.Native.Nat.{ℕ, _≤_}
-use native.Mathlib.Omega.{arith}
 use Rattle.history.specs.Basics.{upd}
 use Rattle.history.specs.History.{Op, cellOf, kindOf, Action, begin, step, Event, refused, accepted, answered, Report, Call, Calls, called, advance, advanced, enter, IsBusy, Allowed}
 use Rattle.history.specs.Demand3.{mostHard, Reports}

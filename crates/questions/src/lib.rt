@@ -22,13 +22,13 @@ pub struct State {
     pub records: [Record; 32],
 }
 
-fn tasks_ok(tasks: u32) -> bool
+pub fn tasks_ok(tasks: u32) -> bool
     ensures { λ b. ⌜ b ≡ tasksOk tasks ⌝ }
 {
     (1 <= tasks) & (tasks <= 32)
 }
 
-fn cells_ok(cells: u32) -> bool
+pub fn cells_ok(cells: u32) -> bool
     ensures { λ b. ⌜ b ≡ cellsOk cells ⌝ }
 {
     (1 <= cells) & (cells <= 16)

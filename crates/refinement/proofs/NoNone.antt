@@ -22,7 +22,7 @@ use Rattle.history.specs.Basics.{_∈_}
 use Rattle.history.specs.History.{Op, Action, begin, step, Response, Value, Yes, No, Report, Event, refused, accepted, answered, history, run, Call, Calls, FinishedCall, noCalls, advanced, closed, enter, enterAll, callsOf}
 use Rattle.figure.specs.Figure.{Cell, World, WorldAfter, accessCell, outcomeOf, figureRan, figure, opening, figureLooked}
 use Rattle.cells.specs.Events.{eventOf, tried}
-use Rattle.figure.proofs.LineLaws.{by-test}
+use Rattle.history.proofs.ListTests.{by-test}
 use Rattle.figure.proofs.Records.{Begun, starts, begin-cases, Stepped, runs, step-cases, with-first}
 use Rattle.figure.proofs.Invariant as Invariant
 use Rattle.figure.proofs.Invariant.{View, Knowledge}

@@ -1,27 +1,13 @@
 // Runs each session that an argument names, and writes its name and what it prints.
+use case_files::file_space;
+use case_files::read_case;
 use libc::STDOUT_FILENO;
-use session_runner::file_space;
 use session_runner::run_session;
 use session_runner::text_space;
 
 fn run_one(i: usize) {
-    let mut name = io::buffer();
-    let length = os::arg(i, &mut name);
-    if os::errno() != 0 {
-        os::fail(b"argument");
-        return;
-    }
-    io::write_all(STDOUT_FILENO, b"# ");
-    io::write_all(STDOUT_FILENO, &name[..length]);
-    io::write_all(STDOUT_FILENO, b"\n");
-    let fd = os::open_read(&name[..length]);
-    if fd < 0 {
-        os::fail(&name[..length]);
-        return;
-    }
     let mut file = file_space();
-    let read = report::read_all(fd, &mut file, &name[..length]);
-    libc::close(fd);
+    let read = read_case(i, &mut file);
     if !read.whole {
         return;
     }

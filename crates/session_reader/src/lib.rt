@@ -1,6 +1,6 @@
 // Reads a session file: the first of questions 12 to 15 that is answered no, or the session.
 mod forms;
-mod items;
+pub mod items;
 mod opening;
 
 ghost use mathlib.Core.Path.{_≡_};

@@ -1,0 +1,7 @@
+-- What a turn leaves, of its parts.
+use Rattle.consensus.specs.declared.OnceCell.{OnceCell}
+use Rattle.consensus.specs.declared.Offer.{Offer}
+use Rattle.consensus.specs.Figure.{Given, Leaves}
+
+abbrev pub leaving : OnceCell → Offer → Given → Leaves
+leaving m r g = record { cell = m; offer = r; gives = g }
