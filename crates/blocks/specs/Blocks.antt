@@ -10,7 +10,7 @@ use Rattle.blocks.specs.declared.Found.{Found}
 use Rattle.blocks.specs.declared.Found.the-variants.{At, Nowhere}
 use Rattle.lines.specs.Basics.{anyFrom}
 use Rattle.lines.specs.Record.{isIdle, recordAt}
-use Rattle.questions.specs.Questions.{holds, installs}
+use Rattle.questions.specs.Questions.{holds, hasTaken}
 
 -- some cell's current block is b
 unfoldable pub isCurrent : State → ℕ → Bool
@@ -18,7 +18,7 @@ isCurrent s b = anyFrom (λ k. eqb (getD (s .current) k 0) b) 0 (s .cells)
 
 -- a task holds b, or has taken it
 abbrev pub usesBlock : Record → ℕ → Bool
-usesBlock r b = not (isIdle r) && ((holds r && eqb (r .held) b) || (installs r && eqb (r .taken) b))
+usesBlock r b = not (isIdle r) && ((holds r && eqb (r .held) b) || (hasTaken r && eqb (r .taken) b))
 
 unfoldable pub usedByTask : State → ℕ → Bool
 usedByTask s b = anyFrom (λ t. usesBlock (recordAt (s .records) t) b) 0 (s .tasks)

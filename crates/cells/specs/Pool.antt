@@ -19,9 +19,13 @@ word p b f = getD p (5 * b + offset f) 0
 abbrev pub setWord : List ℕ → ℕ → Field → ℕ → List ℕ
 setWord p b f v = set p (5 * b + offset f) v
 
--- a new block: X no task, Y and C false, D none, V the value
+-- X where no task has written it
+abbrev pub noTask : ℕ
+noTask = 255
+
+-- a block that an opening fills: X no task, Y and C false, D none, V the value
 abbrev pub fresh : ℕ → Field → ℕ
-fresh v X = 255
+fresh v X = noTask
 fresh v Y = 0
 fresh v C = 0
 fresh v Field.V = v

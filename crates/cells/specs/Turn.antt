@@ -7,13 +7,13 @@ use Prim.Native.Nat.{ℕ, _+_, _*_, _≤_, _<_}
 use lib.Dec.{eqb}
 use Rattle.lines.specs.declared.Record.{Record}
 use Rattle.cells.specs.Answers.{Said, Acted, Ended}
-use Rattle.lines.specs.declared.Field.the-variants.{D}
+use Rattle.lines.specs.declared.Field.the-variants.{X, D}
 use Rattle.lines.specs.declared.Access.{Access}
 use Rattle.lines.specs.declared.Access.the-variants.{LoadCell, Load, Store, DecideCas, InstallCas, Allocate, Nothing}
 use Rattle.lines.specs.Answers.{Next, Go, Done}
 use Rattle.lines.specs.Record.{noValue, idle}
 use Rattle.lines.specs.Lines.{accessOf, nextOf}
-use Rattle.cells.specs.Pool.{word, setWord, fill}
+use Rattle.cells.specs.Pool.{word, setWord, noTask}
 
 -- MEMORY
 
@@ -27,10 +27,11 @@ pub record Touched : Type 0 where
 abbrev pub touched : List ℕ → (current last value : ℕ) → Touched
 touched p c l v = record { pool = p; current = c; last = l; value = v }
 
--- where every block is in use nothing is filled, and no block is handed back; no fit state with a task at line 29 has this
-abbrev pub filling : Option ℕ → List ℕ → (current last v : ℕ) → Touched
-filling none p c l v = touched p c l noValue
-filling (some b) p c l v = touched (fill p b v) c b b
+-- line 4 takes the unused block and stores its X; where every block is in use nothing is stored, and no block is handed back: no fit state
+-- with a task at line 4 has this
+abbrev pub taking : Option ℕ → List ℕ → (current last : ℕ) → Touched
+taking none p c l = touched p c l noValue
+taking (some b) p c l = touched (setWord p b X noTask) c b b
 
 abbrev pub performed : List ℕ → (current last : ℕ) → Option ℕ → Access → Touched
 performed p c l f (LoadCell k) = touched p c l c
@@ -38,7 +39,7 @@ performed p c l f (Load b g) = touched p c l (word p b g)
 performed p c l f (Store b g v) = touched (setWord p b g v) c l 0
 performed p c l f (DecideCas b v) = cond (eqb (word p b D) noValue) (touched (setWord p b D v) c l 1) (touched p c l 0)
 performed p c l f (InstallCas k b n) = cond (eqb c b) (touched p n l 1) (touched p c l 0)
-performed p c l f (Allocate v) = filling f p c l v
+performed p c l f Allocate = taking f p c l
 performed p c l f Nothing = touched p c l 0
 
 -- THE TURN
@@ -69,7 +70,7 @@ Reaches n (Load b f) = 5 * b + 4 < n
 Reaches n (Store b f v) = 5 * b + 4 < n
 Reaches n (DecideCas b v) = 5 * b + 4 < n
 Reaches n (InstallCas k b m) = Prim.Unit
-Reaches n (Allocate v) = Prim.Unit
+Reaches n Allocate = Prim.Unit
 Reaches n Nothing = Prim.Unit
 
 -- so is the unused block
@@ -80,5 +81,5 @@ There n (some b) = 5 * b + 4 < n
 -- what a turn needs of its record
 pub record Ready (words task : ℕ) (r : Record) : Type 0 where
   pub reaches : Reaches words (accessOf task r)
-  pub steps : r .steps ≤ 16
+  pub steps : r .steps ≤ 20
   pub hard : r .hard ≤ 3

@@ -15,7 +15,7 @@ use Rattle.lines.specs.declared.Access.the-variants.{LoadCell, Load, Store, Dec
 use Rattle.lines.specs.Answers.{Next, Go, Done}
 use Rattle.lines.specs.Record.{noValue, idle}
 use Rattle.lines.specs.Lines.{accessOf, nextOf}
-use Rattle.cells.specs.Pool.{fresh}
+use Rattle.cells.specs.Pool.{noTask, fresh}
 use Rattle.questions.specs.Questions.{refusal, beginQuestions, swapQuestions, stepQuestions, lookQuestions}
 use Rattle.lines.specs.Record.{firstRead, firstSwap}
 use Rattle.cells.specs.Look.{shownValue, shown}
@@ -52,17 +52,9 @@ store m b D n = record { current = m .current; next = m .next; x = m .x; y = m .
 abbrev pub install : Cell → ℕ → Cell
 install m b = record { current = b; next = m .next; x = m .x; y = m .y; c = m .c; v = m .v; d = m .d }
 
--- a new block, filled with the value
-abbrev pub allocate : Cell → ℕ → Cell
-allocate m n = record {
-  current = m .current;
-  next = suc (m .next);
-  x = upd (m .x) (m .next) (fresh n X);
-  y = upd (m .y) (m .next) (fresh n Y);
-  c = upd (m .c) (m .next) (fresh n C);
-  v = upd (m .v) (m .next) (fresh n Field.V);
-  d = upd (m .d) (m .next) (fresh n D);
-}
+-- a new block: line 4 stores its X; its other words, whatever they are, are stored by lines 5 to 8
+abbrev pub allocate : Cell → Cell
+allocate m = record { current = m .current; next = suc (m .next); x = upd (m .x) (m .next) noTask; y = m .y; c = m .c; v = m .v; d = m .d }
 
 -- what an access makes of the task's own cell (so the cell's number is not looked at), and the value that it answers
 pub record Accessed : Type 0 where
@@ -78,7 +70,7 @@ accessCell m (Load b f) = accessed m (wordOf m b f)
 accessCell m (Store b f n) = accessed (store m b f n) 0
 accessCell m (DecideCas b n) = cond (eqb (m .d b) noValue) (accessed (store m b D n) 1) (accessed m 0)
 accessCell m (InstallCas k b n) = cond (eqb (m .current) b) (accessed (install m n) 1) (accessed m 0)
-accessCell m (Allocate n) = accessed (allocate m n) (m .next)
+accessCell m Allocate = accessed (allocate m) (m .next)
 accessCell m Nothing = accessed m 0
 
 -- THE MACHINE

@@ -49,11 +49,11 @@ pub moments-hold :
     (step 0 ∷ alone 0 (swap 0 5 5) 3 ++ alone 0 (swap 0 4 6) 8, entry 3 itself 0 C1 ∷ entry 11 itself 0 C2 ∷ []) ∷
     -- P9: task 1's late store counts, at the action that set C; task 0 answers no at the decision. Then task 0 replaces the block, alone.
     (
-      lateStore ++ steps 4 1 ++ steps 3 0 ++ alone 0 (swap 0 9 4) 9 ++ alone 0 (swap 0 4 6) 10,
-      entry 12 itself 1 C3 ∷ entry 16 itself 0 C5 ∷ entry 30 itself 0 C6 ∷ entry 39 itself 0 C4 ∷ [],
+      lateStore ++ steps 4 1 ++ steps 3 0 ++ alone 0 (swap 0 9 4) 13 ++ alone 0 (swap 0 4 6) 10,
+      entry 12 itself 1 C3 ∷ entry 16 itself 0 C5 ∷ entry 34 itself 0 C6 ∷ entry 43 itself 0 C4 ∷ [],
     ) ∷
     -- P10: task 1 replaces the block; task 0's hardware CAS fails, and it took effect right after
-    (meeting ++ steps 5 0 ++ steps 10 1 ++ steps 2 0, entry 25 itself 1 C6 ∷ entry 25 after 0 C6 ∷ []) ∷
+    (meeting ++ steps 5 0 ++ steps 14 1 ++ steps 6 0, entry 29 itself 1 C6 ∷ entry 29 after 0 C6 ∷ []) ∷
     -- a swap that stored late and halted is listed as soon as its value is decided, and not before
     (lateStore ++ steps 1 0, []) ∷
     (lateStore ++ steps 2 0, entry 12 itself 1 C3 ∷ []) ∷

@@ -7,7 +7,7 @@ use lib.Dec.{eqb}
 use Rattle.lines.specs.declared.Access.{Access}
 use Rattle.lines.specs.Record.{idle}
 use Rattle.lines.specs.Paths.{table}
-use Rattle.lines.specs.Lines.{Line, Wanted, for13, for25, for28, l1, l2, l3, l10, l11, l12, l15, l16, l17, l18, l19, l20, l21, l22, l23, l24, l26, l27, l29, l30, lineOf, accessAt, loads, stores, hardware}
+use Rattle.lines.specs.Lines.{Line, Wanted, for13, for25, for28, l1, l2, l3, l4, l5, l6, l7, l8, l10, l11, l12, l15, l16, l17, l18, l19, l20, l21, l22, l23, l24, l26, l27, l30, lineOf, accessAt, loads, stores, hardware}
 use Rattle.history.specs.Basics.{upd, _∈_}
 use Rattle.figure.specs.Figure.{World, figure}
 use Rattle.history.specs.History.{Op, read, swap, Action, begin, step, Response, Value, Yes, No, Report, Event, refused, accepted, answered, FinishedCall}
@@ -48,9 +48,9 @@ by21 = won ++ decision for28
 abbrev pub by25 : List Line
 by25 = yesFrom25 ++ decision for28
 
--- a new block replaces the held one
+-- a new block is filled, and replaces the held one
 abbrev pub replace : List Line
-replace = l29 ∷ l30 ∷ []
+replace = l4 ∷ l5 ∷ l6 ∷ l7 ∷ l8 ∷ l30 ∷ []
 
 -- document 01's order; the ninth, "no from 28 by 25", no fresh opening reaches
 abbrev pub paths : List (List Line)

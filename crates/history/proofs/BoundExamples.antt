@@ -51,8 +51,8 @@ pub no-read-beyond-its-bound : Bounds (callsOf ((begin 0 (read 0), accepted 0) �
 unfolding upd
 no-read-beyond-its-bound c = omega (arith, c .unended 0 _ refl .0)
 
--- a swap that seventeen steps did not end
-pub no-swap-beyond-its-bound : Bounds (callsOf ((begin 0 (swap 0 5 7), accepted 0) ∷ replicate 17 (step 0, accepted 0))) → ⊥
+-- a swap that twenty-one steps did not end
+pub no-swap-beyond-its-bound : Bounds (callsOf ((begin 0 (swap 0 5 7), accepted 0) ∷ replicate 21 (step 0, accepted 0))) → ⊥
 unfolding upd
 no-swap-beyond-its-bound c = omega (arith, c .unended 0 _ refl .0)
 
@@ -67,7 +67,7 @@ no-swap-of-four-hardware-CAS c = omega (arith, c .unended 0 _ refl .1)
 
 -- RIGHT: document 01's longest calls, a read that decides and a swap that ends at 30 by 25
 abbrev only : FinishedCall → Calls
-only f = record { now = 18; accepted = []; pending = λ t. none; finished = f ∷ [] }
+only f = record { now = 22; accepted = []; pending = λ t. none; finished = f ∷ [] }
 
 within-bounds : (f : FinishedCall) → (f .call .steps ≤ most (f .call .start .op)) × (f .call .hard ≤ mostHard (f .call .start .op)) → Reports (f .call) (f .report) → Bounds (only f)
 within-bounds f h r = record { ended = ended; reported = reported; unended = λ t c e. absurd (clash refl e) }
@@ -81,7 +81,7 @@ within-bounds f h r = record { ended = ended; reported = reported; unended = λ 
 pub longest-read : Bounds (only (ended 0 0 (read 0) [] 6 6 1 (Value 5)))
 longest-read = within-bounds _ (omega arith) (record { kind = refl; cell = refl; steps = refl; hard = refl })
 
-pub longest-swap : Bounds (only (ended 0 0 (swap 0 5 7) [] 17 17 3 Yes))
+pub longest-swap : Bounds (only (ended 0 0 (swap 0 5 7) [] 21 21 3 Yes))
 longest-swap = within-bounds _ (omega arith) (record { kind = refl; cell = refl; steps = refl; hard = refl })
 
 -- a swap that is alone, on a clear cell, tries the hardware CAS

@@ -13,7 +13,7 @@ use Rattle.history.specs.Linearization.{Point, Linearizes}
 
 abbrev pub most : Op → ℕ
 most (read k) = 6
-most (swap k e n) = 17
+most (swap k e n) = 21
 
 abbrev pub mostHard : Op → ℕ
 mostHard (read k) = 1

@@ -9,6 +9,7 @@ use Rattle.lines.specs.declared.Field.the-variants.{X, Y, C, D}
 use Rattle.lines.specs.declared.Access.{Access}
 use Rattle.lines.specs.declared.Access.the-variants.{LoadCell, Load, Store, DecideCas, InstallCas, Allocate, Nothing}
 use Rattle.lines.specs.Basics.{within}
+use Rattle.lines.specs.Record.{noValue}
 use Rattle.lines.specs.Answers.{Next, Go, Done}
 use Rattle.history.specs.History.{Response, Value, Yes, No}
 
@@ -21,7 +22,7 @@ pub data Wanted : Type 0 where
 -- the figure's lines that are steps; those of the deciding part with the line that wanted it
 pub data Line : Type 0 where
   l1 l2 l3 : Wanted → Line
-  l10 l11 l12 l15 l16 l17 l18 l19 l20 l21 l22 l23 l24 l26 l27 l29 l30 : Line
+  l4 l5 l6 l7 l8 l10 l11 l12 l15 l16 l17 l18 l19 l20 l21 l22 l23 l24 l26 l27 l30 : Line
   nowhere : Line
 
 abbrev pub deciding : (Wanted → Line) → ℕ → Line
@@ -31,12 +32,13 @@ deciding l w = cond (eqb w 13) (l for13) (cond (eqb w 25) (l for25) (cond (eqb w
 abbrev pub lineAt : (line wanted : ℕ) → Line
 lineAt n w =
     cond (within n 1 3) (cond (eqb n 1) (deciding l1 w) (cond (eqb n 2) (deciding l2 w) (deciding l3 w)))
+    (cond (within n 4 8) (cond (eqb n 4) l4 (cond (eqb n 5) l5 (cond (eqb n 6) l6 (cond (eqb n 7) l7 l8))))
     (cond (within n 10 12) (cond (eqb n 10) l10 (cond (eqb n 11) l11 l12))
     (cond (within n 15 24)
     (cond (eqb n 15) l15 (cond (eqb n 16) l16 (cond (eqb n 17) l17 (cond (eqb n 18) l18 (cond (eqb n 19) l19
     (cond (eqb n 20) l20 (cond (eqb n 21) l21 (cond (eqb n 22) l22 (cond (eqb n 23) l23 l24)))))))))
-    (cond (within n 26 30) (cond (eqb n 26) l26 (cond (eqb n 27) l27 (cond (eqb n 29) l29 (cond (eqb n 30) l30 nowhere))))
-    nowhere)))
+    (cond (within n 26 30) (cond (eqb n 26) l26 (cond (eqb n 27) l27 (cond (eqb n 30) l30 nowhere)))
+    nowhere))))
 
 abbrev pub lineOf : Record → Line
 lineOf r = lineAt (r .line) (r .wanted)
@@ -47,6 +49,11 @@ abbrev pub accessAt : Line → ℕ → Record → Access
 accessAt (l1 w) p r = Load (r .held) Field.V
 accessAt (l2 w) p r = DecideCas (r .held) (r .loaded)
 accessAt (l3 w) p r = Load (r .held) D
+accessAt l4 p r = Allocate
+accessAt l5 p r = Store (r .taken) Y 0
+accessAt l6 p r = Store (r .taken) C 0
+accessAt l7 p r = Store (r .taken) D noValue
+accessAt l8 p r = Store (r .taken) Field.V (r .new)
 accessAt l10 p r = LoadCell (r .cell)
 accessAt l11 p r = Load (r .held) Field.V
 accessAt l12 p r = Load (r .held) C
@@ -62,7 +69,6 @@ accessAt l23 p r = Store (r .held) Field.V (r .new)
 accessAt l24 p r = Load (r .held) C
 accessAt l26 p r = Store (r .held) Y 0
 accessAt l27 p r = Store (r .held) C 1
-accessAt l29 p r = Allocate (r .new)
 accessAt l30 p r = InstallCas (r .cell) (r .held) (r .taken)
 accessAt nowhere p r = Nothing
 
@@ -73,7 +79,7 @@ loads (Load b f) = 1
 loads (Store b f v) = 0
 loads (DecideCas b v) = 0
 loads (InstallCas k b n) = 0
-loads (Allocate v) = 0
+loads Allocate = 0
 loads Nothing = 0
 
 abbrev pub stores : Access → ℕ
@@ -82,7 +88,7 @@ stores (Load b f) = 0
 stores (Store b f v) = 1
 stores (DecideCas b v) = 0
 stores (InstallCas k b n) = 0
-stores (Allocate v) = 0
+stores Allocate = 1
 stores Nothing = 0
 
 abbrev pub hardware : Access → ℕ
@@ -91,7 +97,7 @@ hardware (Load b f) = 0
 hardware (Store b f v) = 0
 hardware (DecideCas b v) = 1
 hardware (InstallCas k b n) = 1
-hardware (Allocate v) = 0
+hardware Allocate = 0
 hardware Nothing = 0
 
 -- WHAT FOLLOWS
@@ -128,7 +134,12 @@ nextAt (l1 w) p r v = load r 2 v
 nextAt (l2 w) p r v = goto r 3
 nextAt (l3 for13) p r v = answer r (readAnswer r v)
 nextAt (l3 for25) p r v = cond (eqb v (r .new)) (answer r Yes) (decide r 28)
-nextAt (l3 for28) p r v = cond (eqb v (r .expected)) (goto r 29) (answer r No)
+nextAt (l3 for28) p r v = cond (eqb v (r .expected)) (goto r 4) (answer r No)
+nextAt l4 p r v = take r 5 v
+nextAt l5 p r v = goto r 6
+nextAt l6 p r v = goto r 7
+nextAt l7 p r v = goto r 8
+nextAt l8 p r v = goto r 30
 nextAt l10 p r v = hold r 11 v
 nextAt l11 p r v = load r 12 v
 nextAt l12 p r v = cond (eqb v 0) (answer r (readAnswer r (r .loaded))) (decide r 13)
@@ -144,7 +155,6 @@ nextAt l23 p r v = goto r 24
 nextAt l24 p r v = cond (eqb v 0) (goto r 26) (decide r 25)
 nextAt l26 p r v = answer r Yes
 nextAt l27 p r v = decide r 28
-nextAt l29 p r v = take r 30 v
 nextAt l30 p r v = cond (eqb v 1) (answer r Yes) (answer r No)
 nextAt nowhere p r v = Go r
 

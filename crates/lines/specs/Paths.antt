@@ -2,7 +2,7 @@
 use mathlib.Core.Bool.{_&&_, cond}
 use mathlib.Core.Option.{Option, none, some}
 use mathlib.Core.List.{List, [], _∷_}
-use Prim.Native.Nat.{ℕ}
+use Prim.Native.Nat.{ℕ, zero, suc}
 use lib.Dec.{eqb}
 use lib.ListN.{getD}
 use Rattle.lines.specs.declared.paths.Row.{Row}
@@ -14,16 +14,20 @@ abbrev pub table : List (List ℕ)
 table =
     (3 ∷ 3 ∷ 0 ∷ 0 ∷ []) ∷ (6 ∷ 5 ∷ 0 ∷ 1 ∷ []) ∷ (8 ∷ 5 ∷ 3 ∷ 0 ∷ []) ∷ (10 ∷ 6 ∷ 4 ∷ 0 ∷ []) ∷ (12 ∷ 8 ∷ 3 ∷ 1 ∷ []) ∷
     (7 ∷ 4 ∷ 2 ∷ 1 ∷ []) ∷ (9 ∷ 5 ∷ 3 ∷ 1 ∷ []) ∷ (10 ∷ 7 ∷ 2 ∷ 1 ∷ []) ∷ (15 ∷ 10 ∷ 3 ∷ 2 ∷ []) ∷
-    (9 ∷ 4 ∷ 2 ∷ 2 ∷ []) ∷ (11 ∷ 5 ∷ 3 ∷ 2 ∷ []) ∷ (12 ∷ 7 ∷ 2 ∷ 2 ∷ []) ∷ (17 ∷ 10 ∷ 3 ∷ 3 ∷ []) ∷ []
+    (13 ∷ 4 ∷ 7 ∷ 2 ∷ []) ∷ (15 ∷ 5 ∷ 8 ∷ 2 ∷ []) ∷ (16 ∷ 7 ∷ 7 ∷ 2 ∷ []) ∷ (21 ∷ 10 ∷ 8 ∷ 3 ∷ []) ∷ []
 
--- loads and stores of the first row with these steps and hardware CAS attempts. (Today no two rows share both; should one come that
--- shares 15 and 2 with the ninth, which no opening reaches, the first of the two is meant.)
-abbrev pub rowIn : List (List ℕ) → (steps hard : ℕ) → Option (ℕ × ℕ)
-rowIn [] s h = none
-rowIn (r ∷ l) s h = cond (eqb (getD r 0 0) s && eqb (getD r 3 0) h) (some (getD r 1 0, getD r 2 0)) (rowIn l s h)
+-- one number of one row
+abbrev pub entry : (row which : ℕ) → ℕ
+entry i n = getD (getD table i []) n 0
 
+-- loads and stores of the last of the first n rows that has these steps and hardware CAS attempts
+abbrev pub rowBelow : ℕ → (steps hard : ℕ) → Option (ℕ × ℕ)
+rowBelow zero s h = none
+rowBelow (suc i) s h = cond (eqb (entry i 0) s && eqb (entry i 3) h) (some (entry i 1, entry i 2)) (rowBelow i s h)
+
+-- Two rows have 15 steps and 2 hardware CAS attempts. The ninth no opening reaches, so the later one is meant.
 unfoldable pub rowOf : (steps hard : ℕ) → Option (ℕ × ℕ)
-rowOf = rowIn table
+rowOf = rowBelow 13
 
 -- what a search that ended says: loads and stores, or that there is no such row
 abbrev pub rowGives : Row → Option (ℕ × ℕ)

@@ -9,7 +9,7 @@ use Rattle.lines.specs.declared.Record.{Record}
 use Rattle.questions.specs.declared.State.{State}
 use Rattle.lines.specs.Basics.{ands, allFrom, anyFrom, within}
 use Rattle.lines.specs.Record.{noValue, isIdle, recordAt}
-use Rattle.lines.specs.Lines.{Line, Wanted, for13, for25, for28, l1, l2, l3, l10, l11, l12, l15, l16, l17, l18, l19, l20, l21, l22, l23, l24, l26, l27, l29, l30, nowhere, lineOf}
+use Rattle.lines.specs.Lines.{Line, Wanted, for13, for25, for28, l1, l2, l3, l4, l5, l6, l7, l8, l10, l11, l12, l15, l16, l17, l18, l19, l20, l21, l22, l23, l24, l26, l27, l30, nowhere, lineOf}
 
 -- a question: its number and whether the answer is yes
 abbrev pub Question : Type 0
@@ -62,6 +62,11 @@ abbrev pub ofKind : Line → (read swap : Bool) → Bool
 ofKind (l1 w) a b = decidesFor w a b
 ofKind (l2 w) a b = decidesFor w a b
 ofKind (l3 w) a b = decidesFor w a b
+ofKind l4 a b = b
+ofKind l5 a b = b
+ofKind l6 a b = b
+ofKind l7 a b = b
+ofKind l8 a b = b
 ofKind l10 a b = a
 ofKind l11 a b = a
 ofKind l12 a b = a
@@ -77,7 +82,6 @@ ofKind l23 a b = b
 ofKind l24 a b = b
 ofKind l26 a b = b
 ofKind l27 a b = b
-ofKind l29 a b = b
 ofKind l30 a b = b
 ofKind nowhere a b = false
 
@@ -91,18 +95,21 @@ holdsBefore n = not (eqb n 10 || eqb n 15)
 abbrev pub holds : Record → Bool
 holds r = holdsBefore (r .line)
 
--- a task's next line is 30
-abbrev pub installs : Record → Bool
-installs r = eqb (r .line) 30
+-- by its next line, a task has taken a block: it fills it or is about to install it
+abbrev pub takenBefore : ℕ → Bool
+takenBefore n = within n 5 8 || eqb n 30
+
+abbrev pub hasTaken : Record → Bool
+hasTaken r = takenBefore (r .line)
 
 abbrev pub blocksFit : Record → ℕ → Bool
-blocksFit r b = (not (holds r) || ltb (r .held) b) && (not (installs r) || ltb (r .taken) b)
+blocksFit r b = (not (holds r) || ltb (r .held) b) && (not (hasTaken r) || ltb (r .taken) b)
 
 abbrev pub valuesFit : Record → Bool
 valuesFit r = eqb (r .kind) 1 || (not (eqb (r .expected) noValue) && not (eqb (r .new) noValue))
 
 abbrev pub busyTests : Record → (cells blocks : ℕ) → List Bool
-busyTests r v b = ltb (r .cell) v ∷ lineFit r ∷ blocksFit r b ∷ valuesFit r ∷ leb (r .steps) 16 ∷ leb (r .hard) 3 ∷ []
+busyTests r v b = ltb (r .cell) v ∷ lineFit r ∷ blocksFit r b ∷ valuesFit r ∷ leb (r .steps) 20 ∷ leb (r .hard) 3 ∷ []
 
 unfoldable pub recordFit : Record → (cells blocks : ℕ) → Bool
 recordFit r v b = isIdle r || ands (busyTests r v b)
