@@ -1,4 +1,4 @@
--- At line 29 some block is unused, and the search finds it: each cell names one block, a task uses at most two, and at line 29 at most one.
+-- At line 4 some block is unused, and the search finds it: each cell names one block, a task uses at most two, and at line 4 at most one.
 use mathlib.Core.Path.{_≡_, refl, sym, _∙_}
 use mathlib.Core.Logic.{_⊎_, inl, inr, ⊎-elim}
 use mathlib.Core.Bool.{Bool, true, false, _&&_, _||_, not, false≢true}
@@ -13,7 +13,7 @@ use borrow.Author.Tests.{eqb-true, eqb-false, ltb-true}
 use Rattle.lines.specs.declared.Record.{Record}
 use Rattle.questions.specs.declared.State.{State}
 use Rattle.lines.specs.Record.{isIdle, recordAt}
-use Rattle.questions.specs.Questions.{holds, installs, fit, fitTests}
+use Rattle.questions.specs.Questions.{holds, hasTaken, fit, fitTests}
 use Rattle.blocks.specs.Blocks.{isCurrent, usedByTask, used, usesBlock, after, unusedFrom, unused}
 use Rattle.questions.proofs.Tests.{nth, blocks-true}
 use Rattle.blocks.proofs.Counting.{count, gap, count-or, count-and, count-none, count-one, count-any, count-less}
@@ -25,7 +25,7 @@ module _ (n : ℕ) (r : Record) where
   holding b = holds r && eqb (r .held) b
 
   abbrev taking : ℕ → Bool
-  taking b = installs r && eqb (r .taken) b
+  taking b = hasTaken r && eqb (r .taken) b
 
   in-parts : count (usesBlock r) n ≤ 1 + count taking n
   in-parts =
@@ -38,12 +38,12 @@ module _ (n : ℕ) (r : Record) where
       )
 
   at-most-two : count (usesBlock r) n ≤ 2
-  at-most-two = omega (arith, in-parts, count-and (installs r) (λ b. eqb (r .taken) b) n, count-one (r .taken) n)
+  at-most-two = omega (arith, in-parts, count-and (hasTaken r) (λ b. eqb (r .taken) b) n, count-one (r .taken) n)
 
-  at-most-one : r .line ≡ 29 → count (usesBlock r) n ≤ 1
+  at-most-one : r .line ≡ 4 → count (usesBlock r) n ≤ 1
   at-most-one e = let z : count taking n ≡ 0 = rw e (count-none n) in omega (arith, in-parts)
 
-few : (s : State) (t : ℕ) → s .cells + 2 * s .tasks ≤ s .blocks → t < s .tasks → recordAt (s .records) t .line ≡ 29 → count (used s) (s .blocks) < s .blocks
+few : (s : State) (t : ℕ) → s .cells + 2 * s .tasks ≤ s .blocks → t < s .tasks → recordAt (s .records) t .line ≡ 4 → count (used s) (s .blocks) < s .blocks
 unfolding used isCurrent usedByTask
 few s t enough lt e =
     let n = s .blocks in
@@ -97,8 +97,8 @@ module _ (s : State) (x : ℕ) (l : x < s .blocks) (e : used s x ≡ false) wher
 pub after-below : (n b : ℕ) → b < n → after n b < n
 after-below n b h = ⊎-elim (λ y. omega (arith, y .0, y .1)) (λ y. omega (arith, y .0, y .1)) (next n b h)
 
--- In every fit state, a task whose next line is 29 finds an unused block.
-pub one-is-unused : (s : State) (p : List ℕ) (t : ℕ) → fit s p ≡ true → t < s .tasks → recordAt (s .records) t .line ≡ 29
+-- In every fit state, a task whose next line is 4 finds an unused block.
+pub one-is-unused : (s : State) (p : List ℕ) (t : ℕ) → fit s p ≡ true → t < s .tasks → recordAt (s .records) t .line ≡ 4
     → (b : ℕ) × (unused s ≡ some b) × (used s b ≡ false) × (b < s .blocks)
 unfolding fit unused
 one-is-unused s p t e l g =

@@ -33,7 +33,8 @@ fn uses_block(r: Record, b: u32) -> bool
 {
     let line = r.line;
     let holds = !((line == 10) | (line == 15));
-    !(line == 0) & ((holds & (r.held == b)) | ((line == 30) & (r.taken == b)))
+    let taken = ((5 <= line) & (line <= 8)) | (line == 30);
+    !(line == 0) & ((holds & (r.held == b)) | (taken & (r.taken == b)))
 }
 
 fn is_used(s: State, b: u32) -> bool

@@ -1,4 +1,4 @@
--- Two runs of the pool in which readings to keep out would answer otherwise, computed. (P1 to P10: `prints` in session_text.)
+-- Three runs of the pool in which readings to keep out would answer otherwise, computed. (P1 to P10: `prints` in session_text.)
 use mathlib.Core.Path.{_≡_, refl}
 use mathlib.Core.List.{List, [], _∷_, _++_}
 use Prim.Native.Nat.{ℕ}
@@ -32,10 +32,10 @@ report k a s h = record { kind = k; cell = 0; answer = a; steps = s; hard = h }
 
 -- tasks 1 and 2 collide on the cell's block: 2 replaces it, putting v2 for v; 1 comes too late
 abbrev round : (v v1 v2 : ℕ) → List Action
-round v v1 v2 = begin 1 (swap 0 v v1) ∷ begin 2 (swap 0 v v2) ∷ steps 4 1 ++ steps 9 2 ++ steps 7 1
+round v v1 v2 = begin 1 (swap 0 v v1) ∷ begin 2 (swap 0 v v2) ∷ steps 4 1 ++ steps 13 2 ++ steps 11 1
 
 abbrev lost : List Report
-lost = report aSwap Yes 9 2 ∷ report aSwap No 11 2 ∷ []
+lost = report aSwap Yes 13 2 ∷ report aSwap No 15 2 ∷ []
 
 abbrev Hold : List (List Action × List Report) → Type 0
 Hold [] = Unit {0}
@@ -52,7 +52,13 @@ examples :
     (
       begin 0 (read 0) ∷ steps 1 0 ++ round 5 15 6 ++ round 6 16 7 ++ round 7 17 8 ++ round 8 18 9 ++ steps 5 0,
       lost ++ lost ++ lost ++ lost ++ report aRead (Value 5) 6 1 ∷ [],
+    ) ∷
+    -- a task that halts between lines 6 and 7 has taken its block: the others go on through all other blocks and finish, and what it
+    -- stores when it goes on is in nobody's block
+    (
+      begin 0 (swap 0 5 50) ∷ begin 1 (swap 0 5 6) ∷ steps 4 1 ++ steps 10 0 ++ steps 11 1 ++ round 6 16 7 ++ round 7 17 8 ++ round 8 18 9 ++ steps 2 0 ++ begin 1 (read 0) ∷ steps 3 1 ++ steps 1 0,
+      report aSwap Yes 15 2 ∷ lost ++ lost ++ lost ++ report aRead (Value 9) 3 0 ∷ report aSwap No 13 2 ∷ [],
     ) ∷ []
     )
 unfolding opened readBegun swapBegun stepped ran fit recordFit cellsFit recordsFit hasNone openQuestions isCurrent usedByTask used unused
-examples = (refl, (refl, tt))
+examples = (refl, (refl, (refl, tt)))

@@ -24,7 +24,7 @@ use Rattle.cells.proofs.TurnLaw.{ready, turn-free}
 
 -- the block handed to a turn: what the search finds, where the line is one that asks
 abbrev pub Free : State → Record → Option ℕ → Type 0
-Free s r f = (f ≡ unused s) ⊎ ((r .line ≡ 29 → ⊥) × (f ≡ none))
+Free s r f = (f ≡ unused s) ⊎ ((r .line ≡ 4 → ⊥) × (f ≡ none))
 
 pub record Acting (s : State) (p : List ℕ) (t : ℕ) (r : Record) : Type 0 where
   pub searches : (s .tasks ≤ 32) × (s .cells ≤ 16) × (s .last < s .blocks)

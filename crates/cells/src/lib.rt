@@ -125,8 +125,8 @@ pub fn step(mut s: State, pool: &mut [u32], task: u32) -> Reply
             outcome: Outcome::Refused(n),
         };
     }
-    // Only line 29 asks for a block.
-    let free = if r.line == 29 {
+    // Only line 4 asks for a block.
+    let free = if r.line == 4 {
         blocks::unused_block(s)
     } else {
         Found::Nowhere

@@ -9,6 +9,9 @@ ghost use Rattle.cells.specs.Turn.{touched, performed};
 use lines::Field;
 use lines::records::NO_VALUE;
 
+// X where no task has written it.
+pub const NO_TASK: u32 = 255;
+
 fn offset(field: Field) -> usize
     ensures { λ n. ⌜ (n ≡ offset field) × (n < 5) ⌝ }
 {
@@ -45,7 +48,7 @@ fn put(part: &mut [u32], at: usize, v: u32)
     part[at] = v;
 }
 
-// The words of a new block.
+// The words of a block that an opening fills.
 pub fn fill(pool: &mut [u32], block: u32, v: u32)
     requires { ⌜ 5 * block + 4 < length (now pool) ⌝ }
     ensures { λ _. ⌜ now (pool .exit) ≡ fill (now (pool .entry)) block v ⌝ }
@@ -58,7 +61,7 @@ fn put_block(part: &mut [u32], v: u32)
     requires { ⌜ 4 < length (now part) ⌝ }
     ensures { λ _. ⌜ now (part .exit) ≡ fill (now (part .entry)) 0 v ⌝ }
 {
-    part[0] = 255;
+    part[0] = NO_TASK;
     part[1] = 0;
     part[2] = 0;
     part[3] = v;

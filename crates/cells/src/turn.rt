@@ -6,14 +6,15 @@ ghost use Rattle.lines.specs.Lines.{hardware, counted};
 ghost use Rattle.lines.specs.Record.{idle};
 ghost use Rattle.blocks.specs.Blocks.{foundOf};
 ghost use Rattle.cells.specs.Answers.{said};
-ghost use Rattle.cells.specs.Turn.{touched, filling, performed, turned, turn, Reaches, There, Ready};
+ghost use Rattle.cells.specs.Turn.{touched, taking, performed, turned, turn, Reaches, There, Ready};
 use crate::Outcome;
+use crate::pool::NO_TASK;
 use crate::pool::decide_cas;
-use crate::pool::fill;
 use crate::pool::load;
 use crate::pool::store;
 use blocks::Found;
 use lines::Access;
+use lines::Field;
 use lines::Next;
 use lines::Record;
 use lines::accesses::access_of;
@@ -76,13 +77,13 @@ fn hardware(a: Access) -> u32
         Access::Store(_, _, _) => 0,
         Access::DecideCas(_, _) => 1,
         Access::InstallCas(_, _, _) => 1,
-        Access::Allocate(_) => 0,
+        Access::Allocate => 0,
         Access::Nothing => 0,
     }
 }
 
 fn counted(r: Record, a: Access) -> Record
-    requires { ⌜ (r .steps ≤ 16) × (r .hard ≤ 3) ⌝ }
+    requires { ⌜ (r .steps ≤ 20) × (r .hard ≤ 3) ⌝ }
     ensures { λ n. ⌜ n ≡ counted r a ⌝ }
 {
     let mut n = r;
@@ -111,7 +112,7 @@ fn perform(pool: &mut [u32], a: Access, current: u32, last: u32, free: Found) ->
                 leave(current, last, 0)
             }
         }
-        Access::Allocate(v) => allocate(pool, free, current, last, v),
+        Access::Allocate => allocate(pool, free, current, last),
         Access::Nothing => leave(current, last, 0),
     }
 }
@@ -126,13 +127,13 @@ fn leave(current: u32, last: u32, value: u32) -> Touch
     }
 }
 
-fn allocate(pool: &mut [u32], free: Found, current: u32, last: u32, v: u32) -> Touch
+fn allocate(pool: &mut [u32], free: Found, current: u32, last: u32) -> Touch
     requires { ⌜ There (length (now pool)) (foundOf free) ⌝ }
-    ensures { λ m. ⌜ touched (now (pool .exit)) (m .current) (m .last) (m .value) ≡ filling (foundOf free) (now (pool .entry)) current last v ⌝ }
+    ensures { λ m. ⌜ touched (now (pool .exit)) (m .current) (m .last) (m .value) ≡ taking (foundOf free) (now (pool .entry)) current last ⌝ }
 {
     match free {
         Found::At(b) => {
-            fill(pool, b, v);
+            store(pool, b, Field::X, NO_TASK);
             leave(current, b, b)
         }
         Found::Nowhere => leave(current, last, NO_VALUE),

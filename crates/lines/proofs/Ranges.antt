@@ -1,4 +1,4 @@
--- Which line a number is: none outside the four ranges; in the deciding part, none unless a line wants the decision.
+-- Which line a number is: none outside the five ranges; in the deciding part, none unless a line wants the decision.
 use mathlib.Core.Path.{_≡_, refl, sym, ap}
 use mathlib.Core.Bool.{Bool, true, false, _||_, cond, and-false, false≢true}
 use Prim.Native.Nat.{ℕ, zero, suc, _+_, _≤_, _<_}
@@ -17,12 +17,12 @@ out n a b h = go (decLe a n)
     go (yes l) = let g : b < n = omega (arith, h l) in rw (lt-leb n b g) (and-false (leb a n))
     go (no l) = let g : n < a = omega (arith, l) in rw (lt-leb a n g)
 
--- n is in none of the four ranges
+-- n is in none of the five ranges
 abbrev pub Outside : ℕ → Type 0
-Outside n = (1 ≤ n → n ≤ 3 → ⊥) × (10 ≤ n → n ≤ 12 → ⊥) × (15 ≤ n → n ≤ 24 → ⊥) × (26 ≤ n → n ≤ 30 → ⊥)
+Outside n = (1 ≤ n → n ≤ 3 → ⊥) × (4 ≤ n → n ≤ 8 → ⊥) × (10 ≤ n → n ≤ 12 → ⊥) × (15 ≤ n → n ≤ 24 → ⊥) × (26 ≤ n → n ≤ 30 → ⊥)
 
 pub no-line : (n w : ℕ) → Outside n → lineAt n w ≡ nowhere
-no-line n w h = rw (out n 1 3 (h .0), out n 10 12 (h .1), out n 15 24 (h .2), out n 26 30 (h .3))
+no-line n w h = rw (out n 1 3 (h .0), out n 4 8 (h .1), out n 10 12 (h .2), out n 15 24 (h .3), out n 26 30 (h .4))
 
 -- rewrites the line and leaves the record
 pub line-at : (r : Record) (n : ℕ) → r .line ≡ n → lineOf r ≡ lineAt n (r .wanted)
@@ -39,6 +39,14 @@ past n a (suc k) l h = omega (arith, past n a k l (h .0), h .1)
 
 pub at-24 : (n : ℕ) → (15 ≤ n) × (n ≤ 24) → Passed n 15 9 → n ≡ 24
 at-24 n l h = omega (arith, past n 15 9 (l .0) h, l .1)
+
+-- after line 27 and before 30
+pub no-end : (n w : ℕ) → (26 ≤ n) × (n ≤ 30) → (n ≡ 26 → ⊥) → (n ≡ 27 → ⊥) → (n ≡ 30 → ⊥) → lineAt n w ≡ nowhere
+no-end n w l a b c = go (decLe n 28)
+  where
+    go : Dec (n ≤ 28) → lineAt n w ≡ nowhere
+    go (yes e) = let f : n ≡ 28 = omega (arith, l, a, b, e) in rw f
+    go (no e) = let f : n ≡ 29 = omega (arith, l, c, e) in rw f
 
 abbrev wants : ℕ → Bool
 wants w = eqb w 13 || (eqb w 25 || eqb w 28)

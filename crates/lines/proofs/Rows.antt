@@ -1,27 +1,29 @@
--- Looking row after row: what is left from row i on decides the whole search, w.
-use mathlib.Core.Path.{_≡_, sym, ap, _∙_}
+-- The row of a finished call. Looking row after row downward, what is left below row i decides the whole search, w.
+use mathlib.Core.Path.{_≡_, refl, sym, ap, _∙_}
 use mathlib.Core.Bool.{Bool, true, false, _&&_}
 use mathlib.Core.Option.{Option, none, some}
-use mathlib.Core.List.{List, []}
-use Prim.Native.Nat.{ℕ, _+_, _≤_, _<_}
-use native.Mathlib.Numerals.{add-one}
+use Prim.Native.Nat.{ℕ, suc, _-_, _≤_, _<_}
+use native.Mathlib.Omega.{arith}
 use lib.Dec.{eqb}
-use lib.ListN.{getD, length, drop, drop-of-length-le}
-use lib.Seq.{drop-cons}
-use Rattle.lines.specs.Paths.{rowIn}
+use Rattle.lines.specs.Paths.{entry, rowBelow, rowOf}
 
-module _ (l : List (List ℕ)) (i s h : ℕ) {w : Option (ℕ × ℕ)} (left : rowIn (drop i l) s h ≡ w) where
-  abbrev row : ℕ → ℕ → ℕ
-  row n d = getD (getD l i []) n d
+-- two rows have 15 steps and 2 hardware CAS attempts; this one openings reach
+pub reached-row : rowOf 15 2 ≡ some (5, 8)
+unfolding rowOf
+reached-row = refl
 
+module _ (i s h : ℕ) {w : Option (ℕ × ℕ)} (left : rowBelow i s h ≡ w) where
   abbrev is : Bool
-  is = eqb (row 0 0) s && eqb (row 3 0) h
+  is = eqb (entry (i - 1) 0) s && eqb (entry (i - 1) 3) h
 
-  pub row-here : i < length l → is ≡ true → some (row 1 0, row 2 0) ≡ w
-  row-here b e = sym (ap (λ (x : List (List ℕ)). rowIn x s h) (drop-cons l i [] b) ∙ rw e) ∙ left
+  one-less : 0 < i → rowBelow i s h ≡ rowBelow (suc (i - 1)) s h
+  one-less b = let e : i ≡ suc (i - 1) = omega arith in ap (λ (n : ℕ). rowBelow n s h) e
 
-  pub row-after : i < length l → is ≡ false → rowIn (drop (i + 1) l) s h ≡ w
-  row-after b e = sym (ap (λ (x : List (List ℕ)). rowIn x s h) (drop-cons l i [] b) ∙ rw (e, add-one i)) ∙ left
+  pub row-here : 0 < i → is ≡ true → some (entry (i - 1) 1, entry (i - 1) 2) ≡ w
+  row-here b e = sym (one-less b ∙ rw e) ∙ left
 
-  pub row-none : length l ≤ i → none ≡ w
-  row-none b = sym (rw (drop-of-length-le l b)) ∙ left
+  pub row-after : 0 < i → is ≡ false → rowBelow (i - 1) s h ≡ w
+  row-after b e = sym (one-less b ∙ rw e) ∙ left
+
+  pub row-none : i ≤ 0 → none ≡ w
+  row-none b = let e : i ≡ 0 = omega arith in sym (ap (λ (n : ℕ). rowBelow n s h) e) ∙ left

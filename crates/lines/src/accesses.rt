@@ -7,6 +7,7 @@ ghost use Rattle.lines.specs.Lines.{accessOf};
 use crate::Access;
 use crate::Field;
 use crate::Record;
+use crate::records::NO_VALUE;
 
 pub fn access_of(task: u32, r: Record) -> Access
     ensures { λ a. ⌜ a ≡ accessOf task r ⌝ }
@@ -14,6 +15,7 @@ pub fn access_of(task: u32, r: Record) -> Access
     let line = r.line;
     match line {
         1..=3 => access_decide(r),
+        4..=8 => access_fill(r),
         10..=12 => access_read(r),
         15..=24 => access_swap(task, r),
         26..=30 => access_install(r),
@@ -34,6 +36,21 @@ fn access_decide(r: Record) -> Access
         1 => Access::Load(r.held, Field::V),
         2 => Access::DecideCas(r.held, r.loaded),
         _ => Access::Load(r.held, Field::D),
+    }
+}
+
+// The words of a new block.
+fn access_fill(r: Record) -> Access
+    requires { ⌜ (4 ≤ r .line) × (r .line ≤ 8) ⌝ }
+    ensures { λ a. ⌜ ((p : ℕ) → a ≡ accessOf p r) ⌝ }
+{
+    let line = r.line;
+    match line {
+        4 => Access::Allocate,
+        5 => Access::Store(r.taken, Field::Y, 0),
+        6 => Access::Store(r.taken, Field::C, 0),
+        7 => Access::Store(r.taken, Field::D, NO_VALUE),
+        _ => Access::Store(r.taken, Field::V, r.new),
     }
 }
 
@@ -69,7 +86,7 @@ fn access_swap(task: u32, r: Record) -> Access
     }
 }
 
-// A swap's end. Line 28 is the deciding part's.
+// A swap's end. Lines 28 and 29 are no steps: the deciding part and lines 4 to 8 do them.
 fn access_install(r: Record) -> Access
     requires { ⌜ (26 ≤ r .line) × (r .line ≤ 30) ⌝ }
     ensures { λ a. ⌜ ((p : ℕ) → a ≡ accessOf p r) ⌝ }
@@ -78,7 +95,6 @@ fn access_install(r: Record) -> Access
     match line {
         26 => Access::Store(r.held, Field::Y, 0),
         27 => Access::Store(r.held, Field::C, 1),
-        29 => Access::Allocate(r.new),
         30 => Access::InstallCas(r.cell, r.held, r.taken),
         _ => Access::Nothing,
     }

@@ -88,6 +88,7 @@ pub fn next_of(task: u32, r: Record, v: u32) -> Next
     let line = r.line;
     match line {
         1..=3 => next_decide(r, v),
+        4..=8 => next_fill(r, v),
         10..=12 => next_read(r, v),
         15..=24 => next_swap(task, r, v),
         26..=30 => next_install(r, v),
@@ -126,12 +127,26 @@ fn next_decided(r: Record, v: u32) -> Next
         }
         28 => {
             if v == r.expected {
-                goto(r, 29)
+                goto(r, 4)
             } else {
                 answer(r, Answer::No)
             }
         }
         _ => Next::Go(r),
+    }
+}
+
+fn next_fill(r: Record, v: u32) -> Next
+    requires { ⌜ (4 ≤ r .line) × (r .line ≤ 8) ⌝ }
+    ensures { λ n. ⌜ ((p : ℕ) → followed n ≡ nextAt (lineOf r) p r v) ⌝ }
+{
+    let line = r.line;
+    match line {
+        4 => take(r, 5, v),
+        5 => goto(r, 6),
+        6 => goto(r, 7),
+        7 => goto(r, 8),
+        _ => goto(r, 30),
     }
 }
 
@@ -193,7 +208,6 @@ fn next_install(r: Record, v: u32) -> Next
     match line {
         26 => answer(r, Answer::Yes),
         27 => decide(r, 28),
-        29 => take(r, 30, v),
         30 => next_installed(r, v),
         _ => Next::Go(r),
     }

@@ -19,7 +19,7 @@ pub struct Record {
     pub new: u32,
     // The block that its first load found in the cell.
     pub held: u32,
-    // The block that it is about to install.
+    // The block that line 4 took: it is being filled, or about to be installed.
     pub taken: u32,
     pub loaded: u32,
     pub steps: u32,
@@ -60,8 +60,8 @@ pub enum Access {
     DecideCas(u32, u32),
     // The hardware CAS of a cell's block, from the second to the third number.
     InstallCas(u32, u32, u32),
-    // An unused block, filled with the value.
-    Allocate(u32),
+    // Takes an unused block and stores its X.
+    Allocate,
     Nothing,
 }
 

@@ -1,9 +1,7 @@
 // The counts of each complete path of figure 2.
 ghost use mathlib.Core.Path.{_≡_};
-ghost use mathlib.Core.List.{[]};
 ghost use Prim.Native.Nat.{_<_};
-ghost use lib.ListN.{getD};
-ghost use Rattle.lines.specs.Paths.{table, rowGives, rowOf};
+ghost use Rattle.lines.specs.Paths.{entry, rowGives, rowOf};
 
 // Document 01's rows: steps, loads, stores, hardware CAS attempts.
 const PATHS: [[u32; 4]; 13] = [
@@ -16,16 +14,16 @@ const PATHS: [[u32; 4]; 13] = [
     [9, 5, 3, 1],
     [10, 7, 2, 1],
     [15, 10, 3, 2],
-    [9, 4, 2, 2],
-    [11, 5, 3, 2],
-    [12, 7, 2, 2],
-    [17, 10, 3, 3],
+    [13, 4, 7, 2],
+    [15, 5, 8, 2],
+    [16, 7, 7, 2],
+    [21, 10, 8, 3],
 ];
 
 // One number of one row.
 fn count_of(row: usize, which: usize) -> u32
     requires { ⌜ (row < 13) × (which < 4) ⌝ }
-    ensures { λ n. ⌜ n ≡ getD (getD table row []) which 0 ⌝ }
+    ensures { λ n. ⌜ n ≡ entry row which ⌝ }
 {
     PATHS[row][which]
 }
@@ -36,15 +34,16 @@ pub enum Row {
     NoRow,
 }
 
+// The last of the rows that have these counts: two have 15 steps and 2 hardware CAS attempts, and no opening reaches the ninth.
 pub fn row_of(steps: u32, hard: u32) -> Row
     ensures { λ r. ⌜ rowGives r ≡ rowOf steps hard ⌝ }
 {
-    let mut i: usize = 0;
-    while i < 13 {
+    let mut i: usize = 13;
+    while i > 0 {
+        i = i - 1;
         if (count_of(i, 0) == steps) & (count_of(i, 3) == hard) {
             return Row::Counts(count_of(i, 1), count_of(i, 2));
         }
-        i = i + 1;
     }
     Row::NoRow
 }

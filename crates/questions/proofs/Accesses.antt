@@ -1,46 +1,54 @@
--- What the lines' accesses keep to: a block's words are the held block's, at lines that hold one; the cell is the task's own; only line 29
--- asks for an unused block.
+-- What the lines' accesses keep to: a block's words are the held block's, at lines that hold one, or, in a store, the taken block's, at lines
+-- that have taken one; the cell is the task's own; only line 4 asks for an unused block.
 use mathlib.Core.Path.{_≡_, refl}
+use mathlib.Core.Logic.{_⊎_, inl, inr}
 use mathlib.Core.Bool.{true}
 use Prim.Native.Nat.{ℕ}
 use Rattle.lines.specs.declared.Record.{Record}
 use Rattle.lines.specs.declared.Access.{Access}
 use Rattle.lines.specs.declared.Access.the-variants.{LoadCell, Load, Store, DecideCas, InstallCas, Allocate, Nothing}
-use Rattle.lines.specs.Lines.{Line, l1, l2, l3, l10, l11, l12, l15, l16, l17, l18, l19, l20, l21, l22, l23, l24, l26, l27, l29, l30, nowhere, accessAt}
-use Rattle.questions.specs.Questions.{holdsBefore}
+use Rattle.lines.specs.Lines.{Line, l1, l2, l3, l4, l5, l6, l7, l8, l10, l11, l12, l15, l16, l17, l18, l19, l20, l21, l22, l23, l24, l26, l27, l30, nowhere, accessAt}
+use Rattle.questions.specs.Questions.{holdsBefore, takenBefore}
 use Rattle.questions.proofs.Numbers.{number}
 
 abbrev pub Holds : Line → Type 0
 Holds l = holdsBefore (number l) ≡ true
 
+abbrev pub HasTaken : Line → Type 0
+HasTaken l = takenBefore (number l) ≡ true
+
 abbrev pub Keeps : Line → Record → Access → Type 0
 Keeps l r (LoadCell k) = k ≡ r .cell
 Keeps l r (Load b f) = (b ≡ r .held) × Holds l
-Keeps l r (Store b f v) = (b ≡ r .held) × Holds l
+Keeps l r (Store b f v) = ((b ≡ r .held) × Holds l) ⊎ ((b ≡ r .taken) × HasTaken l)
 Keeps l r (DecideCas b v) = (b ≡ r .held) × Holds l
 Keeps l r (InstallCas k b n) = (k ≡ r .cell) × (b ≡ r .held)
-Keeps l r (Allocate v) = number l ≡ 29
+Keeps l r Allocate = number l ≡ 4
 Keeps l r Nothing = Prim.Unit
 
 pub keeps : (t : ℕ) (r : Record) (l : Line) → Keeps l r (accessAt l t r)
 keeps t r (l1 w) = (refl, refl)
 keeps t r (l2 w) = (refl, refl)
 keeps t r (l3 w) = (refl, refl)
+keeps t r l4 = refl
+keeps t r l5 = inr (refl, refl)
+keeps t r l6 = inr (refl, refl)
+keeps t r l7 = inr (refl, refl)
+keeps t r l8 = inr (refl, refl)
 keeps t r l10 = refl
 keeps t r l11 = (refl, refl)
 keeps t r l12 = (refl, refl)
 keeps t r l15 = refl
-keeps t r l16 = (refl, refl)
+keeps t r l16 = inl (refl, refl)
 keeps t r l17 = (refl, refl)
-keeps t r l18 = (refl, refl)
+keeps t r l18 = inl (refl, refl)
 keeps t r l19 = (refl, refl)
 keeps t r l20 = (refl, refl)
 keeps t r l21 = (refl, refl)
-keeps t r l22 = (refl, refl)
-keeps t r l23 = (refl, refl)
+keeps t r l22 = inl (refl, refl)
+keeps t r l23 = inl (refl, refl)
 keeps t r l24 = (refl, refl)
-keeps t r l26 = (refl, refl)
-keeps t r l27 = (refl, refl)
-keeps t r l29 = refl
+keeps t r l26 = inl (refl, refl)
+keeps t r l27 = inl (refl, refl)
 keeps t r l30 = (refl, refl)
 keeps t r nowhere = tt

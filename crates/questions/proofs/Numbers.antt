@@ -8,7 +8,7 @@ use lib.Dec.{eqb, leb, lit≤}
 use borrow.Author.Tests.{eqb-true, lt-leb}
 use Rattle.lines.specs.declared.Record.{Record}
 use Rattle.lines.specs.Basics.{allFrom}
-use Rattle.lines.specs.Lines.{Line, l1, l2, l3, l10, l11, l12, l15, l16, l17, l18, l19, l20, l21, l22, l23, l24, l26, l27, l29, l30, nowhere, lineAt, lineOf}
+use Rattle.lines.specs.Lines.{Line, l1, l2, l3, l4, l5, l6, l7, l8, l10, l11, l12, l15, l16, l17, l18, l19, l20, l21, l22, l23, l24, l26, l27, l30, nowhere, lineAt, lineOf}
 use Rattle.questions.specs.Questions.{ofKind, lineFit, reads, swaps}
 use Rattle.questions.proofs.Tests.{all-at}
 
@@ -17,6 +17,11 @@ abbrev pub number : Line → ℕ
 number (l1 w) = 1
 number (l2 w) = 2
 number (l3 w) = 3
+number l4 = 4
+number l5 = 5
+number l6 = 6
+number l7 = 7
+number l8 = 8
 number l10 = 10
 number l11 = 11
 number l12 = 12
@@ -32,7 +37,6 @@ number l23 = 23
 number l24 = 24
 number l26 = 26
 number l27 = 27
-number l29 = 29
 number l30 = 30
 number nowhere = 0
 
@@ -58,7 +62,7 @@ module _ (w : ℕ) (a b : Bool) where
       go (yes h) = all-at (λ n. numbered n w a b) 0 31 table n (omega arith) (omega arith)
       go (no h) =
           let past : (b : ℕ) → b ≤ 30 → leb n b ≡ false = λ b l. lt-leb n b (omega arith) in
-          rw (past 3 (lit≤ tt), and-false (leb 1 n), past 12 (lit≤ tt), and-false (leb 10 n), past 24 (lit≤ tt), and-false (leb 15 n), past 30 (lit≤ tt), and-false (leb 26 n), or-true)
+          rw (past 3 (lit≤ tt), and-false (leb 1 n), past 8 (lit≤ tt), and-false (leb 4 n), past 12 (lit≤ tt), and-false (leb 10 n), past 24 (lit≤ tt), and-false (leb 15 n), past 30 (lit≤ tt), and-false (leb 26 n), or-true)
 
 pub at-number : (r : Record) → lineFit r ≡ true → r .line ≡ number (lineOf r)
 at-number r e = eqb-true _ _ (rw (e, or-false) at (each (r .wanted) (reads r) (swaps r) (r .line)))

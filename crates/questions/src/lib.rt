@@ -108,10 +108,11 @@ fn line_fit(r: Record) -> bool
     let line = r.line;
     match line {
         1..=3 => wanted_fit(r),
+        4..=8 => is_swap(r),
         10..=12 => is_read(r),
         15..=24 => is_swap(r),
         26..=27 => is_swap(r),
-        29..=30 => is_swap(r),
+        30 => is_swap(r),
         _ => false,
     }
 }
@@ -120,7 +121,8 @@ fn blocks_fit(r: Record, blocks: u32) -> bool
     ensures { λ b. ⌜ b ≡ blocksFit r blocks ⌝ }
 {
     let holds = !((r.line == 10) | (r.line == 15));
-    (!holds | (r.held < blocks)) & (!(r.line == 30) | (r.taken < blocks))
+    let taken = ((5 <= r.line) & (r.line <= 8)) | (r.line == 30);
+    (!holds | (r.held < blocks)) & (!taken | (r.taken < blocks))
 }
 
 fn values_fit(r: Record) -> bool
@@ -145,7 +147,7 @@ fn record_fit(r: Record, cells: u32, blocks: u32) -> bool
     if !blocks_fit(r, blocks) {
         return false;
     }
-    values_fit(r) & ((r.steps <= 16) & (r.hard <= 3))
+    values_fit(r) & ((r.steps <= 20) & (r.hard <= 3))
 }
 
 fn cells_fit(current: &[u32; 16], cells: u32, blocks: u32) -> bool

@@ -12,5 +12,5 @@ allocate-spec =
     (λ c. search needs)
     (λ c κs. search needs)
     (λ c. search needs)
-    (λ c. rw (c .before .before .before .before .before .before .free .given .1, c .before .before .before .fill .ensures, c .leave .ensures))
+    (λ c. rw (c .before .before .before .before .before .before .free .given .1, c .before .before .before .store .ensures, c .leave .ensures))
     (λ c. rw (c .before .enum-told .given .1, c .leave2 .ensures)))

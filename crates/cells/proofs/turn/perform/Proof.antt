@@ -35,5 +35,5 @@ perform-spec =
     (λ c. rw (c .before .before .before .a4 .given .1, c .leave5 .ensures, eq-eqb _ _ (c .before .if1 .taken)))
     (λ c. rw (c .before .before .before .a4 .given .1, c .leave6 .ensures, ne-eqb _ _ (c .before .if1 .left)))
     (λ c. search needs)
-    (λ c. rw (c .before .before .before .before .before .a5 .given .1) (c .before .before .allocate .ensures))
-    (λ c. rw (c .before .enum-told2 .given .1, c .leave7 .ensures)))
+    (λ c. rw (c .before .before .before .before .enum-told2 .given .1) (c .before .before .allocate .ensures))
+    (λ c. rw (c .before .enum-told3 .given .1, c .leave7 .ensures)))

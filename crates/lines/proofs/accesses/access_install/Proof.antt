@@ -1,5 +1,4 @@
-use mathlib.Core.Path.{_≡_}
-use native.Mathlib.Omega.{arith}
+use Rattle.lines.proofs.Ranges.{no-end}
 use Rattle.lines.proofs.accesses.access_install.Statement.{statement}
 use Rattle.lines.proofs.accesses.access_install.Tie as tie
 
@@ -10,5 +9,4 @@ access-install-spec =
     (λ c p. rw (c .match .keys1))
     (λ c p. rw (c .match .keys2))
     (λ c p. rw (c .match .keys3))
-    (λ c p. rw (c .match .keys4))
-    (λ c p. let e : c .before .args .r .line ≡ 28 = omega arith in rw e))
+    (λ c p. rw (no-end _ _ (c .before .pre) (c .match .rest .0 .0 .1) (c .match .rest .0 .1) (c .match .rest .1))))

@@ -1,7 +1,5 @@
 use borrow.Author.Needs.{needs}
-use mathlib.Core.Path.{_≡_}
-use native.Mathlib.Omega.{arith}
-use Rattle.lines.proofs.Ranges.{line-at}
+use Rattle.lines.proofs.Ranges.{no-end, line-at}
 use Rattle.lines.proofs.following.next_install.Statement.{statement}
 use Rattle.lines.proofs.following.next_install.Tie as tie
 
@@ -12,9 +10,7 @@ next-install-spec =
     (λ c κs. search needs)
     (λ c κs. search needs)
     (λ c κs. search needs)
-    (λ c κs. search needs)
     (λ c p. rw (c .before .match .keys1, c .answer .ensures))
     (λ c p. rw (c .before .match .keys2, c .decide .ensures))
-    (λ c p. rw (c .before .match .keys3, c .take .ensures))
-    (λ c p. rw (line-at (c .before .before .args .r) 30 (c .before .match .keys4)) (c .next-installed .ensures p))
-    (λ c p. let e : c .before .args .r .line ≡ 28 = omega arith in rw e))
+    (λ c p. rw (line-at (c .before .before .args .r) 30 (c .before .match .keys3)) (c .next-installed .ensures p))
+    (λ c p. rw (no-end _ _ (c .before .pre) (c .match .rest .0 .0 .1) (c .match .rest .0 .1) (c .match .rest .1))))
