@@ -143,6 +143,7 @@ opening-good n v vs ok κ = record {
     tasks = λ u. rw (on-idle (λ t. idle) k u refl) (idle-task (view (opening n v vs) (Sim.fresh (λ k. getD vs k 0)) k) κ u idle (settled≢late u));
     rivals = λ u x ne e. rw (on-idle (λ t. idle) k u refl, on-idle (λ t. idle) k x refl) record { one-won = λ b. absurd b; no-race = λ b. absurd b };
     apart = λ u x ne. rw (on-idle (λ t. idle) k u refl) (λ b. absurd b);
+    unheld = λ u x. rw (on-idle (λ t. idle) k u refl) (λ b. absurd b);
   };
 }
 

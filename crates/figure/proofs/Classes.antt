@@ -4,7 +4,7 @@ use mathlib.Core.List.{[], _∷_}
 use Prim.Native.Nat.{ℕ}
 use lib.Dec.{eqb, T, not-T}
 use Rattle.lines.specs.Basics.{within}
-use Rattle.lines.specs.Lines.{Wanted, for13, for25, for28, Line, l1, l2, l3, l10, l11, l12, l15, l16, l17, l18, l19, l20, l21, l22, l23, l24, l26, l27, l29, l30, nowhere}
+use Rattle.lines.specs.Lines.{Wanted, for13, for25, for28, Line, l1, l2, l3, l4, l5, l6, l7, l8, l10, l11, l12, l15, l16, l17, l18, l19, l20, l21, l22, l23, l24, l26, l27, l30, nowhere}
 use Rattle.questions.specs.Questions.{ofKind}
 use Rattle.history.specs.Basics.{_∈_}
 use Rattle.questions.proofs.Numbers.{number}
@@ -22,6 +22,11 @@ abbrev pub decisionFor : Line → ℕ
 decisionFor (l1 w) = wantedBy w
 decisionFor (l2 w) = wantedBy w
 decisionFor (l3 w) = wantedBy w
+decisionFor l4 = 0
+decisionFor l5 = 0
+decisionFor l6 = 0
+decisionFor l7 = 0
+decisionFor l8 = 0
 decisionFor l10 = 0
 decisionFor l11 = 0
 decisionFor l12 = 0
@@ -37,7 +42,6 @@ decisionFor l23 = 0
 decisionFor l24 = 0
 decisionFor l26 = 0
 decisionFor l27 = 0
-decisionFor l29 = 0
 decisionFor l30 = 0
 decisionFor nowhere = 0
 
@@ -82,11 +86,24 @@ storing ℓ = is 23 ℓ || stored ℓ
 
 -- knows that its block is inactive
 abbrev pub contended : Line → Bool
-contended ℓ = within (number ℓ) 1 3 || within (number ℓ) 29 30
+contended ℓ = within (number ℓ) 1 8 || is 30 ℓ
 
 -- replaces its block
 abbrev pub replacing : Line → Bool
-replacing ℓ = within (number ℓ) 29 30
+replacing ℓ = within (number ℓ) 4 8 || is 30 ℓ
+
+-- has taken a new block; has stored its Y; and its C; and its D
+abbrev pub taking : Line → Bool
+taking ℓ = within (number ℓ) 5 8 || is 30 ℓ
+
+abbrev pub filledY : Line → Bool
+filledY ℓ = within (number ℓ) 6 8 || is 30 ℓ
+
+abbrev pub filledC : Line → Bool
+filledC ℓ = within (number ℓ) 7 8 || is 30 ℓ
+
+abbrev pub filledD : Line → Bool
+filledD ℓ = is 8 ℓ || is 30 ℓ
 
 -- has loaded V and is about to load C
 abbrev pub checking : Line → Bool

@@ -14,7 +14,7 @@ use Rattle.history.proofs.Simulation.{Phase, settled, frozen, late}
 use Rattle.figure.specs.Figure.{store}
 use Rattle.figure.proofs.Classes.{is, busy, holding, swapping, won, loaded, stored, replacing, lies-in, are-apart}
 use Rattle.figure.proofs.Invariant.{none, View, Knowledge, Decided, Seen, Store, Owner, TaskOf, PhaseIs, line, held, Inv}
-use Rattle.figure.proofs.Frame.{moved, Rest, Mine, finish, was, undecided, one-winner, not-taken, decided-with}
+use Rattle.figure.proofs.Frame.{moved, Rest, Mine, finish, was, undecided, one-winner, decided-with}
 use Rattle.figure.proofs.Looking.{off, same-wins, same-loses, settled≢late}
 
 -- whose swap took effect when t decides its block for what it loaded
@@ -107,7 +107,7 @@ module _ (s : View) (κ : Knowledge) (t : ℕ) (x : Wanted) (i : Inv s κ) (e : 
         plan = λ b. upd-cases (λ g. g ≡ none → s .task u .loaded ≢ q .loaded → s .cell .v L ≡ s .task u .loaded) (s .cell .d) (q .held) (q .loaded) (held s u)
             (λ h g. absurd (given g)) (λ h g. absurd (h (undecided s κ i u (lies-in (is 2) holding tt (line s u) b) g ∙ sym is-L)));
       };
-      fresh = λ b. rw (upd-off (s .cell .d) (q .held) (q .loaded) (s .task u .taken) (not-taken s κ i u t b (rw e tt))) (k .fresh b);
+      fresh = λ b. rw (upd-off (s .cell .d) (q .held) (q .loaded) (s .task u .taken) (i .unheld u t b (rw e tt))) (k .fresh b);
       owner = λ z. absurd (settled≢late u z);
     }
 
@@ -115,6 +115,7 @@ module _ (s : View) (κ : Knowledge) (t : ℕ) (x : Wanted) (i : Inv s κ) (e : 
     rest-done = record {
       rivals = λ u w ne ne′. i .rivals u w;
       apart = λ u w ne ne′. i .apart u w;
+      unheld = λ u w ne ne′. i .unheld u w;
       tasks = λ u ne. task′ u;
       current = let k = i .current in record {
         low = k .low;

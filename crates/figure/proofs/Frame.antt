@@ -1,6 +1,6 @@
 -- A step changes memory and ghost, then one record: what holds of everybody but the stepper, and what holds of the stepper, make the
 -- invariant again. The quantifiers over tasks are met here once.
-use mathlib.Core.Path.{_≡_, refl, sym, subst, _∙_}
+use mathlib.Core.Path.{_≡_, refl, sym, subst}
 use mathlib.Core.Logic.{_≢_, _⊎_, inl, inr}
 use mathlib.Core.Bool.{Bool, not}
 use Prim.Native.Nat.{ℕ}
@@ -10,7 +10,7 @@ use Rattle.lines.specs.Lines.{Line, lineOf}
 use Rattle.history.specs.Basics.{upd}
 use Rattle.history.proofs.Basics.{either, upd-cases}
 use Rattle.history.proofs.Simulation.{Phase, late}
-use Rattle.figure.proofs.Classes.{is, busy, holding, stored, won, checking, viewing, lies-in}
+use Rattle.figure.proofs.Classes.{is, busy, holding, taking, stored, won, checking, viewing, lies-in}
 use Rattle.figure.proofs.Invariant.{none, View, Knowledge, Decided, TaskOf, Rival, CurrentOf, line, held, RivalOf, Inv}
 
 abbrev pub moved : View → ℕ → Record → View
@@ -20,14 +20,22 @@ pub record Rest (s : View) (κ : Knowledge) (t : ℕ) : Type 0 where
   pub current : CurrentOf s
   pub tasks : (u : ℕ) → u ≢ t → TaskOf s κ u (line s u) (s .task u)
   pub rivals : (u w : ℕ) → u ≢ t → w ≢ t → u ≢ w → held s u ≡ held s w → RivalOf s u w
-  pub apart : (u w : ℕ) → u ≢ t → w ≢ t → u ≢ w → T (is 30 (line s u)) → T (is 30 (line s w)) → s .task u .taken ≢ s .task w .taken
+  pub apart : (u w : ℕ) → u ≢ t → w ≢ t → u ≢ w → T (taking (line s u)) → T (taking (line s w)) → s .task u .taken ≢ s .task w .taken
+  pub unheld : (u w : ℕ) → u ≢ t → w ≢ t → T (taking (line s u)) → T (holding (line s w)) → s .task u .taken ≢ held s w
+
+-- the stepper's two blocks, held and taken: nobody holds the one, nobody has taken the other
+pub record Unheld (s : View) (t : ℕ) (ℓ : Line) (held-block taken : ℕ) : Type 0 where
+  pub mine : (w : ℕ) → w ≢ t → T (taking ℓ) → T (holding (line s w)) → taken ≢ held s w
+  pub theirs : (w : ℕ) → w ≢ t → T (taking (line s w)) → T (holding ℓ) → s .task w .taken ≢ held-block
+  pub own : T (taking ℓ) → T (holding ℓ) → taken ≢ held-block
 
 -- the stepper at line ℓ with the record q
 pub record Mine (s : View) (κ : Knowledge) (t : ℕ) (ℓ : Line) (q : Record) : Type 0 where
   pub task : TaskOf s κ t ℓ q
   pub wins : (w : ℕ) → w ≢ t → q .held ≡ held s w → Rival w ℓ (line s w) (s .cell .x (held s w))
   pub loses : (w : ℕ) → w ≢ t → held s w ≡ q .held → Rival t (line s w) ℓ (s .cell .x (q .held))
-  pub apart : (w : ℕ) → w ≢ t → T (is 30 ℓ) → T (is 30 (line s w)) → q .taken ≢ s .task w .taken
+  pub apart : (w : ℕ) → w ≢ t → T (taking ℓ) → T (taking (line s w)) → q .taken ≢ s .task w .taken
+  pub unheld : Unheld s t ℓ (q .held) (q .taken)
 
 -- what holds of the new record and of every old one holds of all
 each : (f : ℕ → Record) (t : ℕ) (q : Record) (Q : ℕ → Record → Type 0) → Q t q → ((u : ℕ) → u ≢ t → Q u (f u)) → (u : ℕ) → Q u (upd f t q u)
@@ -40,17 +48,20 @@ finish s κ t ℓ q e r o = record {
   rivals = each f t q (λ u p. (w : ℕ) → u ≢ w → p .held ≡ upd f t q w .held → Rival w (lineOf p) (lineOf (upd f t q w)) (s .cell .x (upd f t q w .held)))
       (each f t q (λ w p. t ≢ w → q .held ≡ p .held → Rival w (lineOf q) (lineOf p) (s .cell .x (p .held))) (λ n. absurd (n refl)) (λ w ne n h. rw e (o .wins w ne h)))
       (λ u ne. each f t q (λ w p. u ≢ w → held s u ≡ p .held → Rival w (line s u) (lineOf p) (s .cell .x (p .held))) (λ n h. rw e (o .loses u ne h)) (λ w ne′. r .rivals u w ne ne′));
-  apart = each f t q (λ u p. (w : ℕ) → u ≢ w → T (is 30 (lineOf p)) → T (is 30 (lineOf (upd f t q w))) → p .taken ≢ upd f t q w .taken)
-      (each f t q (λ w p. t ≢ w → T (is 30 (lineOf q)) → T (is 30 (lineOf p)) → q .taken ≢ p .taken) (λ n. absurd (n refl)) (λ w ne n. rw e (o .apart w ne)))
-      (λ u ne. each f t q (λ w p. u ≢ w → T (is 30 (line s u)) → T (is 30 (lineOf p)) → s .task u .taken ≢ p .taken)
+  apart = each f t q (λ u p. (w : ℕ) → u ≢ w → T (taking (lineOf p)) → T (taking (lineOf (upd f t q w))) → p .taken ≢ upd f t q w .taken)
+      (each f t q (λ w p. t ≢ w → T (taking (lineOf q)) → T (taking (lineOf p)) → q .taken ≢ p .taken) (λ n. absurd (n refl)) (λ w ne n. rw e (o .apart w ne)))
+      (λ u ne. each f t q (λ w p. u ≢ w → T (taking (line s u)) → T (taking (lineOf p)) → s .task u .taken ≢ p .taken)
       (λ n a b h. o .apart u ne (rw e at b) a (sym h)) (λ w ne′. r .apart u w ne ne′));
+  unheld = each f t q (λ u p. (w : ℕ) → T (taking (lineOf p)) → T (holding (lineOf (upd f t q w))) → p .taken ≢ upd f t q w .held)
+      (each f t q (λ w p. T (taking (lineOf q)) → T (holding (lineOf p)) → q .taken ≢ p .held) (rw e (o .unheld .own)) (λ w ne. rw e (o .unheld .mine w ne)))
+      (λ u ne. each f t q (λ w p. T (taking (line s u)) → T (holding (lineOf p)) → s .task u .taken ≢ p .held) (rw e (o .unheld .theirs u ne)) (λ w ne′. r .unheld u w ne ne′));
 }
   where
     f : ℕ → Record
     f = s .task
 
 pub forget : (s : View) (κ : Knowledge) (t : ℕ) → Inv s κ → Rest s κ t
-forget s κ t i = record { current = i .current; tasks = λ u ne. i .tasks u; rivals = λ u w ne ne′. i .rivals u w; apart = λ u w ne ne′. i .apart u w }
+forget s κ t i = record { current = i .current; tasks = λ u ne. i .tasks u; rivals = λ u w ne ne′. i .rivals u w; apart = λ u w ne ne′. i .apart u w; unheld = λ u w ne ne′. i .unheld u w }
 
 -- a step that changes neither memory nor ghost
 pub quiet : (s : View) (κ : Knowledge) (t : ℕ) (ℓ : Line) (q : Record) → lineOf q ≡ ℓ → Inv s κ → Mine s κ t ℓ q → Inv (moved s t q) κ
@@ -63,6 +74,7 @@ was s κ t ℓ e i = record {
   wins = λ w ne h. rw e at (i .rivals t w (λ p. ne (sym p)) h);
   loses = λ w ne h. rw e at (i .rivals w t ne h);
   apart = λ w ne. rw e at (i .apart t w (λ p. ne (sym p)));
+  unheld = record { mine = λ w ne. rw e at (i .unheld t w); theirs = λ w ne. rw e at (i .unheld w t); own = rw e at (i .unheld t t) };
 }
 
 -- KNOWLEDGE
@@ -76,7 +88,7 @@ pub record Grows (s : View) (κ κ′ : Knowledge) (u : ℕ) (ℓ : Line) : Type
   pub storedActive : T (stored ℓ) → κ′ .storedActive u ≡ κ .storedActive u
 
 pub grow : (s : View) (κ κ′ : Knowledge) → ((u : ℕ) → Grows s κ κ′ u (line s u)) → Inv s κ → Inv s κ′
-grow s κ κ′ m i = record { current = i .current; tasks = λ u. more u (line s u) (m u) (i .tasks u); rivals = i .rivals; apart = i .apart }
+grow s κ κ′ m i = record { current = i .current; tasks = λ u. more u (line s u) (m u) (i .tasks u); rivals = i .rivals; apart = i .apart; unheld = i .unheld }
   where
     more : (u : ℕ) (ℓ : Line) → Grows s κ κ′ u ℓ → TaskOf s κ u ℓ (s .task u) → TaskOf s κ′ u ℓ (s .task u)
     more u ℓ m k = record {
@@ -148,9 +160,3 @@ module _ (s : View) (κ : Knowledge) (i : Inv s κ) where
       go : (u ≡ w) ⊎ (u ≢ w) → u ≡ w
       go (inl e) = e
       go (inr e) = absurd (i .rivals u w e h .one-won a b)
-
-  -- a taken block is not held
-  pub not-taken : (u w : ℕ) → T (is 30 (line s u)) → T (holding (line s w)) → s .task u .taken ≢ held s w
-  not-taken u w a h e =
-      let f = i .tasks u .fresh a in
-      i .tasks w .decided .replaced-decided h (λ z. f .other (e ∙ z)) (rw e at (f .d-is))

@@ -9,7 +9,7 @@ use Rattle.lines.specs.Lines.{Line, lineOf}
 use Rattle.lines.specs.Record as Reserved
 use Rattle.history.proofs.Simulation.{Phase, settled, frozen, late}
 use Rattle.figure.specs.Figure.{Cell}
-use Rattle.figure.proofs.Classes.{is, busy, holding, swapping, racing, won, loaded, stored, contended, replacing, checking}
+use Rattle.figure.proofs.Classes.{is, busy, holding, swapping, racing, won, loaded, stored, contended, replacing, taking, filledY, filledC, filledD, checking}
 
 -- document 01's none, kept shut: its digits say nothing here
 unfoldable pub none : ℕ
@@ -105,14 +105,14 @@ pub record Planned (ℓ : Line) (v d P vL : ℕ) : Type 0 where
   -- the sequential cell's value, or what a late swap stored
   pub plan : T (is 2 ℓ) → d ≡ none → v ≢ P → vL ≡ v
 
--- the block that a task at line 30 has taken: nobody else knows it
-pub record Fresh (b nv next v d y c L : ℕ) : Type 0 where
+-- the block that a task at line ℓ has taken: nobody else knows it, and the words that are stored so far are a new block's
+pub record Fresh (ℓ : Line) (b nv next v d y c L : ℕ) : Type 0 where
   pub below : b < next
   pub other : b ≢ L
-  pub v-is : v ≡ nv
-  pub d-is : d ≡ none
-  pub y-is : y ≡ 0
-  pub c-is : c ≡ 0
+  pub y-is : T (filledY ℓ) → y ≡ 0
+  pub c-is : T (filledC ℓ) → c ≡ 0
+  pub d-is : T (filledD ℓ) → d ≡ none
+  pub v-is : T (is 30 ℓ) → v ≡ nv
 
 -- the task whose late store may yet take effect
 pub record Owner (ℓ : Line) (q : Record) (placed : Bool) (L P vL : ℕ) : Type 0 where
@@ -130,7 +130,7 @@ pub record Task (m : Cell) (P : ℕ) (placed : Bool) (phase : Phase) (κ : Knowl
   pub store : Store ℓ (κ .storedActive u) placed (m .d (q .held)) (m .c (q .held))
   pub seen : Seen ℓ (q .held) (q .loaded) (κ .loaded u) (κ .decided u) (κ .replaced u) (m .d (q .held)) (m .c (q .held)) (m .current)
   pub planned : Planned ℓ (q .loaded) (m .d (q .held)) P (m .v (m .current))
-  pub fresh : T (is 30 ℓ) → Fresh (q .taken) (q .new) (m .next) (m .v (q .taken)) (m .d (q .taken)) (m .y (q .taken)) (m .c (q .taken)) (m .current)
+  pub fresh : T (taking ℓ) → Fresh ℓ (q .taken) (q .new) (m .next) (m .v (q .taken)) (m .d (q .taken)) (m .y (q .taken)) (m .c (q .taken)) (m .current)
   -- a store can come late only from a call that began before the block became inactive
   pub early : T (is 23 ℓ) → κ .early u
   pub owner : phase ≡ late u → Owner ℓ q placed (m .current) P (m .v (m .current))
@@ -180,4 +180,6 @@ pub record Inv (s : View) (κ : Knowledge) : Type 0 where
   pub tasks : (u : ℕ) → TaskOf s κ u (line s u) (s .task u)
   pub rivals : (u w : ℕ) → u ≢ w → held s u ≡ held s w → RivalOf s u w
   -- two tasks never take the same block
-  pub apart : (u w : ℕ) → u ≢ w → T (is 30 (line s u)) → T (is 30 (line s w)) → s .task u .taken ≢ s .task w .taken
+  pub apart : (u w : ℕ) → u ≢ w → T (taking (line s u)) → T (taking (line s w)) → s .task u .taken ≢ s .task w .taken
+  -- nobody holds a block that is taken
+  pub unheld : (u w : ℕ) → T (taking (line s u)) → T (holding (line s w)) → s .task u .taken ≢ held s w

@@ -4,6 +4,7 @@ pub mod Records
 pub mod Paths
 pub mod Tallies
 pub mod Classes
+pub mod Stores
 pub mod Invariant
 pub mod Frame
 pub mod Looking

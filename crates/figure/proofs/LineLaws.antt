@@ -11,7 +11,7 @@ use Rattle.lines.specs.declared.Record.{Record}
 use Rattle.lines.specs.declared.Access.{Access}
 use Rattle.lines.specs.Answers.{Next, Go}
 use Rattle.lines.specs.Record.{idle}
-use Rattle.lines.specs.Lines.{Line, for13, for25, for28, l1, l2, l3, l10, l11, l12, l15, l16, l17, l18, l19, l20, l21, l22, l23, l24, l26, l27, l29, l30, nowhere, lineAt, lineOf, accessAt, loads, stores, hardware, at, answer, readAnswer, nextAt}
+use Rattle.lines.specs.Lines.{Line, for13, for25, for28, l1, l2, l3, l4, l5, l6, l7, l8, l10, l11, l12, l15, l16, l17, l18, l19, l20, l21, l22, l23, l24, l26, l27, l30, nowhere, lineAt, lineOf, accessAt, loads, stores, hardware, at, answer, readAnswer, nextAt}
 use Rattle.questions.specs.Questions.{ofKind, reads, swaps}
 use Rattle.history.specs.Basics.{_∈_}
 use Rattle.history.proofs.ListTests.{every, has, both, every-in, every-at, by-test, has-in}
@@ -24,7 +24,7 @@ use Rattle.figure.proofs.AsBegun.{opOf, swap-op, Reads, read-op}
 abbrev pub lines : List Line
 lines =
     nowhere ∷ l1 for13 ∷ l1 for25 ∷ l1 for28 ∷ l2 for13 ∷ l2 for25 ∷ l2 for28 ∷ l3 for13 ∷ l3 for25 ∷ l3 for28 ∷ l10 ∷ l11 ∷ l12 ∷ l15 ∷
-    l16 ∷ l17 ∷ l18 ∷ l19 ∷ l20 ∷ l21 ∷ l22 ∷ l23 ∷ l24 ∷ l26 ∷ l27 ∷ l29 ∷ l30 ∷ []
+    l16 ∷ l17 ∷ l18 ∷ l19 ∷ l20 ∷ l21 ∷ l22 ∷ l23 ∷ l24 ∷ l26 ∷ l27 ∷ l30 ∷ l4 ∷ l5 ∷ l6 ∷ l7 ∷ l8 ∷ []
 
 -- a line's place there
 abbrev place : (l : Line) → (n : ℕ) × (getD lines n nowhere ≡ l)
@@ -53,8 +53,12 @@ place l23 = (21, refl)
 place l24 = (22, refl)
 place l26 = (23, refl)
 place l27 = (24, refl)
-place l29 = (25, refl)
-place l30 = (26, refl)
+place l30 = (25, refl)
+place l4 = (26, refl)
+place l5 = (27, refl)
+place l6 = (28, refl)
+place l7 = (29, refl)
+place l8 = (30, refl)
 
 -- a test that every line passes, found by computing
 pub every-line : (f : Line → Bool) → T (every f lines) → (l : Line) → T (f l)
@@ -221,6 +225,11 @@ leads (l2 for28) p r v e h = goes {n = 3} {w = r .wanted} {h = r .held} (rw (wan
 leads (l3 for13) p r v e h = read-ends h v tt
 leads (l3 for25) p r v e h = either (eqb v (r .new)) (swap-ends h tt) (goes (tt, (λ a b. refl), λ z. refl))
 leads (l3 for28) p r v e h = either (eqb v (r .expected)) (goes (tt, (λ a b. refl), λ z. refl)) (swap-ends h tt)
+leads l4 p r v e h = goes (tt, (λ a b. refl), λ z. refl)
+leads l5 p r v e h = goes (tt, (λ a b. refl), λ z. refl)
+leads l6 p r v e h = goes (tt, (λ a b. refl), λ z. refl)
+leads l7 p r v e h = goes (tt, (λ a b. refl), λ z. refl)
+leads l8 p r v e h = goes (tt, (λ a b. refl), λ z. refl)
 leads l10 p r v e h = goes (tt, (λ a b. refl), λ z. absurd z)
 leads l11 p r v e h = goes (tt, (λ a b. refl), λ z. refl)
 leads l12 p r v e h = either (eqb v 0) (read-ends h (r .loaded) tt) (goes (tt, (λ a b. refl), λ z. refl))
@@ -236,6 +245,5 @@ leads l23 p r v e h = goes (tt, (λ a b. refl), λ z. refl)
 leads l24 p r v e h = either (eqb v 0) (goes (tt, (λ a b. refl), λ z. refl)) (goes (tt, (λ a b. refl), λ z. refl))
 leads l26 p r v e h = swap-ends h tt
 leads l27 p r v e h = goes (tt, (λ a b. refl), λ z. refl)
-leads l29 p r v e h = goes (tt, (λ a b. refl), λ z. refl)
 leads l30 p r v e h = either (eqb v 1) (swap-ends h tt) (swap-ends h tt)
 leads nowhere p r v e h = absurd (false≢true h)

@@ -7,11 +7,11 @@ use native.Mathlib.Omega.{arith}
 use lib.Dec.{T}
 use Rattle.lines.specs.declared.Record.{Record}
 use Rattle.lines.specs.declared.Access.{Access}
-use Rattle.lines.specs.Lines.{Wanted, for13, for25, for28, Line, l1, l2, l3, l10, l11, l12, l15, l16, l17, l18, l19, l20, l21, l22, l23, l24, l26, l27, l29, nowhere, at, counted}
+use Rattle.lines.specs.Lines.{Wanted, for13, for25, for28, Line, l1, l2, l3, l4, l10, l11, l12, l15, l16, l17, l18, l19, l20, l21, l22, l23, l24, l26, l27, nowhere, at, counted}
 use Rattle.history.proofs.Simulation.{Phase, settled, frozen, late}
-use Rattle.figure.proofs.Classes.{holding, racing, won, loaded, stored}
+use Rattle.figure.proofs.Classes.{holding, racing, won, loaded, stored, taking}
 use Rattle.figure.proofs.Invariant.{none, View, Knowledge, Fresh, Owner, TaskOf, Rival, PhaseIs, line, held, Inv}
-use Rattle.figure.proofs.Frame.{Mine, undecided, active-undecided, active-current}
+use Rattle.figure.proofs.Frame.{Mine, Unheld, undecided, active-undecided, active-current}
 
 -- NOTHING FOLLOWS FROM A LINE THAT IS NOT THERE: `search` closes each fact whose line it is not
 
@@ -27,8 +27,8 @@ no-lt a b x = absurd x
 pub no-phase : (a b : Phase) → ⊥ → a ≡ b
 no-phase a b x = absurd x
 
-pub no-fresh : (b nv next v d y c L : ℕ) → ⊥ → Fresh b nv next v d y c L
-no-fresh b nv next v d y c L x = absurd x
+pub no-fresh : (ℓ : Line) (b nv next v d y c L : ℕ) → ⊥ → Fresh ℓ b nv next v d y c L
+no-fresh ℓ b nv next v d y c L x = absurd x
 
 pub no-owner : (ℓ : Line) (q : Record) (placed : Bool) (L P v : ℕ) → ⊥ → Owner ℓ q placed L P v
 no-owner ℓ q placed L P v x = absurd x
@@ -56,7 +56,11 @@ module _ (s : View) (κ : Knowledge) (t : ℕ) where
   pub same-loses : (ℓ ℓ′ : Line) (q : Record) → (T (won ℓ′) → T (won ℓ)) → (T (racing ℓ′) → T (racing ℓ)) → Mine s κ t ℓ q → (w : ℕ) → w ≢ t → held s w ≡ q .held → Rival t (line s w) ℓ′ (s .cell .x (q .held))
   same-loses ℓ ℓ′ q f g m w ne h = record { one-won = λ a b. m .loses w ne h .one-won a (f b); no-race = λ a b. m .loses w ne h .no-race a (g b) }
 
-  pub ruleset off = (nothing, no-loaded, no-decided, no-early, no-other, same-wins, same-loses)
+  -- a block taken stays taken, and a block held stays held
+  pub same-unheld : (ℓ ℓ′ : Line) (q : Record) → (T (taking ℓ′) → T (taking ℓ)) → (T (holding ℓ′) → T (holding ℓ)) → Mine s κ t ℓ q → Unheld s t ℓ′ (q .held) (q .taken)
+  same-unheld ℓ ℓ′ q f g m = let o = m .unheld in record { mine = λ w ne a. o .mine w ne (f a); theirs = λ w ne a b. o .theirs w ne a (g b); own = λ a b. o .own (f a) (g b) }
+
+  pub ruleset off = (nothing, no-loaded, no-decided, no-early, no-other, same-wins, same-loses, same-unheld)
 
   -- a task that is idle asks for nothing, unless its late store is awaited
   pub idle-task : (q : Record) → s .phase ≢ late t → TaskOf s κ t nowhere q
@@ -64,7 +68,7 @@ module _ (s : View) (κ : Knowledge) (t : ℕ) where
       { self = search off; split = search off; value = search off; decided = search off; store = search off; seen = search off; planned = search off; fresh = search off; early = search off; owner = λ e. absurd (n e) }
 
   pub idle-mine : (q : Record) → s .phase ≢ late t → Mine s κ t nowhere q
-  idle-mine q n = record { task = idle-task q n; wins = λ w ne h. search off; loses = λ w ne h. search off; apart = λ w ne. search off }
+  idle-mine q n = record { task = idle-task q n; wins = λ w ne h. search off; loses = λ w ne h. search off; apart = λ w ne. search off; unheld = search off }
 
   -- who has not stored is not awaited
   pub not-late : (ℓ : Line) (q : Record) → (T (stored ℓ) → ⊥) → TaskOf s κ t ℓ q → s .phase ≢ late t
@@ -149,11 +153,14 @@ module _ (s : View) (κ : Knowledge) (i : Inv s κ) where
         not-other : L ≢ L → (n : ℕ) × κ .replaced t n × (n ≢ s .cell .d L)
         not-other e = absurd (e refl)
 
+        first-held : (ℓ : Line) → (T (taking ℓ) → ⊥) → Unheld s t ℓ L (q .taken)
+        first-held ℓ n = record { mine = λ w ne a. absurd (n a); theirs = λ w ne a b. i .tasks w .fresh a .other; own = λ a. absurd (n a) }
+
         pub from10 : Mine s κ t l10 q → Mine s κ t l11 held-now
-        from10 m = let c = i .current in search (off, same, not-other, seen-decision)
+        from10 m = let c = i .current in let h = first-held l11 (λ x. x) in search (off, same, not-other, seen-decision)
 
         pub from15 : Mine s κ t l15 q → Mine s κ t l16 held-now
-        from15 m = let c = i .current in search (off, same, not-other, seen-decision)
+        from15 m = let c = i .current in let h = first-held l16 (λ x. x) in search (off, same, not-other, seen-decision)
 
       module _ (now : s .phase ≡ settled → κ .loaded t (s .value)) where
         seen-active : (ℓ : Line) → line s t ≡ ℓ → T (holding ℓ) → s .cell .c (q .held) ≡ 0 → κ .loaded t (s .cell .v (q .held))
@@ -223,7 +230,7 @@ module _ (s : View) (κ : Knowledge) (i : Inv s κ) where
         let nt : T (s .placed t) → ⊥ = λ x. d (m .task .decided .placed-decided tt x (m .task .decided .decided tt)) in
         search off
 
-    pub from3-28 : Mine s κ t (l3 for28) q → s .cell .d (q .held) ≡ q .expected → Mine s κ t l29 on
+    pub from3-28 : Mine s κ t (l3 for28) q → s .cell .d (q .held) ≡ q .expected → Mine s κ t l4 on
     from3-28 m d = let o = decided-not-late for28 m in search off
 
     pub from24-1 : Mine s κ t l24 q → s .cell .c (q .held) ≢ 0 → Mine s κ t (l1 for25) on

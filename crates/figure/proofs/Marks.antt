@@ -1,7 +1,7 @@
 -- An active block whose Y is set has a task in its splitter: so where no swap of unequal values is pending, Y is clear.
 use mathlib.Core.Path.{_≡_, refl, sym, ap, subst, _∙_}
 use mathlib.Core.Logic.{_≢_, _⊎_, inl, inr}
-use Prim.Native.Nat.{ℕ, _<_}
+use Prim.Native.Nat.{ℕ}
 use native.Mathlib.Omega.{arith}
 use lib.Dec.{eqb, T}
 use borrow.Author.Tests.{eqb-false}
@@ -9,12 +9,12 @@ use Rattle.lines.specs.declared.Record.{Record}
 use Rattle.lines.specs.declared.Field.the-variants.{Y, C, D}
 use Rattle.lines.specs.Answers.{Next}
 use Rattle.lines.specs.Record.{noValue}
-use Rattle.lines.specs.Lines.{for13, for25, for28, Line, l1, l2, l3, l10, l11, l12, l15, l16, l17, l18, l19, l20, l21, l22, l23, l24, l26, l27, l29, l30, nowhere, lineOf, accessAt, counted, nextAt}
+use Rattle.lines.specs.Lines.{for13, for25, for28, Line, l1, l2, l3, l4, l5, l6, l7, l8, l10, l11, l12, l15, l16, l17, l18, l19, l20, l21, l22, l23, l24, l26, l27, l30, nowhere, lineOf, accessAt, counted, nextAt}
 use Rattle.history.specs.Basics.{upd}
 use Rattle.history.proofs.Basics.{either, upd-same, upd-off, upd-cases}
 use Rattle.figure.specs.Figure.{Cell, store, install, Accessed, accessed, accessCell, recordAfter}
 use Rattle.history.proofs.ListTests.{by-test}
-use Rattle.figure.proofs.Classes.{busy, contended, marking}
+use Rattle.figure.proofs.Classes.{busy, contended, taking, marking}
 use Rattle.figure.proofs.Invariant.{View, Knowledge, Inv, line, held}
 use Rattle.figure.proofs.Frame.{was}
 
@@ -80,12 +80,21 @@ module _ (s : View) (κ : Knowledge) (t : ℕ) (i : Inv s κ) (k : Marks (s .cel
   decided-inactive : (ℓ : Line) → line s t ≡ ℓ → T (contended ℓ) → m .c (q .held) ≢ 0
   decided-inactive ℓ e b = was s κ t ℓ e i .task .decided .inactive b
 
+  -- the block that is filled is not the cell's
+  unnamed : (ℓ : Line) → line s t ≡ ℓ → T (taking ℓ) → L ≢ q .taken
+  unnamed ℓ e b z = was s κ t ℓ e i .task .fresh b .other (sym z)
+
   pub marks-kept : (ℓ : Line) → line s t ≡ ℓ → T (busy ℓ) → Does ℓ (accessCell m (accessAt ℓ t q))
   marks-kept (l1 x) e b = from-inactive _ (decided-inactive (l1 x) e tt)
   marks-kept (l2 x) e b = by-test (Does (l2 x)) (eqb (m .d (q .held)) noValue) (accessed (store m (q .held) D (q .loaded)) 1) (accessed m 0) (λ z. from-inactive _ (decided-inactive (l2 x) e tt)) (λ z. from-inactive _ (decided-inactive (l2 x) e tt))
   marks-kept (l3 for13) e b = from-inactive _ (decided-inactive (l3 for13) e tt)
   marks-kept (l3 for25) e b = from-inactive _ (decided-inactive (l3 for25) e tt)
   marks-kept (l3 for28) e b = from-inactive _ (decided-inactive (l3 for28) e tt)
+  marks-kept l4 e b = from-outside l4 e (λ x. x) _
+  marks-kept l5 e b = λ c y. from-outside l5 e (λ x. x) _ c (λ z. y (upd-off (m .y) (q .taken) 0 L (unnamed l5 e tt) ∙ z))
+  marks-kept l6 e b = λ c. from-outside l6 e (λ x. x) _ (sym (upd-off (m .c) (q .taken) 0 L (unnamed l6 e tt)) ∙ c)
+  marks-kept l7 e b = from-outside l7 e (λ x. x) _
+  marks-kept l8 e b = from-outside l8 e (λ x. x) _
   marks-kept l10 e b = from-outside l10 e (λ x. x) _
   marks-kept l11 e b = from-outside l11 e (λ x. x) _
   marks-kept l12 e b = from-outside l12 e (λ x. x) _
@@ -101,10 +110,6 @@ module _ (s : View) (κ : Knowledge) (t : ℕ) (i : Inv s κ) (k : Marks (s .cel
   marks-kept l24 e b = by-test Leaves (eqb (m .c (q .held)) 0) _ _ (λ z. to-marking _ tt refl) (λ z. to-marking _ tt refl)
   marks-kept l26 e b = resets _
   marks-kept l27 e b = closes _
-  marks-kept l29 e b = λ c y. from-outside l29 e (λ x. x) _ (sym (upd-off (m .c) (m .next) 0 L low) ∙ c) (λ z. y (upd-off (m .y) (m .next) 0 L low ∙ z))
-    where
-      low : L ≢ m .next
-      low z = let h : L < m .next = i .current .low in omega arith
   marks-kept l30 e b = by-test (Does l30) (eqb (m .current) (q .held)) (accessed (install m (q .taken)) 1) (accessed m 0)
-      (λ z c y. absurd (y (was s κ t l30 e i .task .fresh tt .y-is))) (λ z. from-outside l30 e (λ x. x) _)
+      (λ z c y. absurd (y (was s κ t l30 e i .task .fresh tt .y-is tt))) (λ z. from-outside l30 e (λ x. x) _)
   marks-kept nowhere e b = absurd b

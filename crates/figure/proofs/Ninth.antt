@@ -1,10 +1,10 @@
 -- "No from 28 by 25" is not reached: a swap that line 25 did not answer came late, so the decision is the value that it expects, and
--- stays so; then line 28 finds it and goes on to 29.
+-- stays so; then line 28 finds it and goes on to 4.
 use mathlib.Core.Path.{_≡_, refl, sym, ap, subst, _∙_}
 use mathlib.Core.Logic.{_≢_, _⊎_, inl, inr}
 use mathlib.Core.Bool.{Bool, true, false, not, _||_, false≢true}
 use mathlib.Core.List.{List, [], _∷_, _++_}
-use Prim.Native.Nat.{ℕ, _<_}
+use Prim.Native.Nat.{ℕ}
 use native.Mathlib.Omega.{arith}
 use lib.Dec.{eqb, T, not-T}
 use lib.ListN.{getD, take, drop}
@@ -17,7 +17,7 @@ use Rattle.lines.specs.declared.Access.the-variants.{LoadCell, Load, Store, Dec
 use Rattle.lines.specs.Answers.{Result, Next, Go, Done}
 use Rattle.lines.specs.Record.{noValue, idle}
 use Rattle.cells.specs.Pool.{offset}
-use Rattle.lines.specs.Lines.{Line, for25, for28, l1, l2, l3, l29, l30, lineOf, accessAt, accessOf, counted, nextAt, nextOf}
+use Rattle.lines.specs.Lines.{Line, for25, for28, l1, l2, l3, l4, l5, l6, l7, l8, l30, lineOf, accessAt, accessOf, counted, nextAt, nextOf}
 use Rattle.history.specs.Basics.{upd, _∈_}
 use Rattle.history.specs.History.{Op, read, swap, Action, begin, step, Response, run}
 use Rattle.history.proofs.Basics.{upd-same, upd-off, upd-cases}
@@ -29,9 +29,9 @@ use Rattle.history.proofs.ListTests.{every, every-in, has, imp, has-in, by-test
 use Rattle.figure.proofs.LineLaws.{every-line, same, same-is, before, waysOf}
 use Rattle.figure.proofs.Records.{OnPath, Sound, with-first, upd-both, Begun, starts, begin-cases, Stepped, runs, step-cases, act-sound}
 use Rattle.figure.proofs.Paths.{start-sound, last-line}
-use Rattle.figure.proofs.Classes.{holding, swapping}
+use Rattle.figure.proofs.Classes.{is, holding, swapping, taking, lies-in}
 use Rattle.figure.proofs.Invariant.{none, TaskOf}
-use Rattle.figure.proofs.Views.{view}
+use Rattle.figure.proofs.Views.{on-in, view}
 use Rattle.figure.proofs.Worlds.{known, facts}
 
 -- CALLS THAT LINE 25 DID NOT ANSWER
@@ -41,7 +41,7 @@ through25 did = has same did (l3 for25)
 
 -- the lines after that
 abbrev later : List Line
-later = l1 for28 ∷ l2 for28 ∷ l3 for28 ∷ l29 ∷ l30 ∷ []
+later = l1 for28 ∷ l2 for28 ∷ l3 for28 ∷ l4 ∷ l5 ∷ l6 ∷ l7 ∷ l8 ∷ l30 ∷ []
 
 -- found by computing over all that may stand before a line
 comes-later : (ℓ : Line) (did : List Line) → did ∈ before ℓ → through25 did ≡ true → ℓ ∈ later
@@ -71,7 +71,11 @@ keeps t x q ℓ (inl e) = rw e (refl, refl, refl)
 keeps t x q ℓ (inr (inl e)) = rw e (refl, refl, refl)
 keeps t x q ℓ (inr (inr (inl e))) = rw e (by-test (Keeps q) (eqb x (q .expected)) _ _ (λ z. (refl, refl, refl)) (λ z. tt))
 keeps t x q ℓ (inr (inr (inr (inl e)))) = rw e (refl, refl, refl)
-keeps t x q ℓ (inr (inr (inr (inr (inl e))))) = rw e (by-test (Keeps q) (eqb x 1) _ _ (λ z. tt) (λ z. tt))
+keeps t x q ℓ (inr (inr (inr (inr (inl e))))) = rw e (refl, refl, refl)
+keeps t x q ℓ (inr (inr (inr (inr (inr (inl e)))))) = rw e (refl, refl, refl)
+keeps t x q ℓ (inr (inr (inr (inr (inr (inr (inl e))))))) = rw e (refl, refl, refl)
+keeps t x q ℓ (inr (inr (inr (inr (inr (inr (inr (inl e)))))))) = rw e (refl, refl, refl)
+keeps t x q ℓ (inr (inr (inr (inr (inr (inr (inr (inr (inl e))))))))) = rw e (by-test (Keeps q) (eqb x 1) _ _ (λ z. tt) (λ z. tt))
 
 -- A DECISION STAYS
 
@@ -82,23 +86,23 @@ spares (Load b f) = true
 spares (Store b f n) = not (eqb (offset f) (offset D))
 spares (DecideCas b n) = true
 spares (InstallCas k b n) = true
-spares (Allocate n) = true
+spares Allocate = true
 spares Nothing = true
 
-decision-stays : (m : Cell) (a : Access) (b : ℕ) → T (spares a) → b < m .next → m .d b ≢ none → accessCell m a .cell .d b ≡ m .d b
+decision-stays : (m : Cell) (a : Access) (b : ℕ) → T (spares a) → m .d b ≢ none → accessCell m a .cell .d b ≡ m .d b
 unfolding none
-decision-stays m (LoadCell k) b s l n = refl
-decision-stays m (Load c f) b s l n = refl
-decision-stays m (Store c X x) b s l n = refl
-decision-stays m (Store c Y x) b s l n = refl
-decision-stays m (Store c C x) b s l n = refl
-decision-stays m (Store c Field.V x) b s l n = refl
-decision-stays m (Store c D x) b s l n = absurd s
-decision-stays m (DecideCas c x) b s l n = by-test (λ (z : Accessed). z .cell .d b ≡ m .d b) (eqb (m .d c) noValue) (accessed (store m c D x) 1) (accessed m 0)
+decision-stays m (LoadCell k) b s n = refl
+decision-stays m (Load c f) b s n = refl
+decision-stays m (Store c X x) b s n = refl
+decision-stays m (Store c Y x) b s n = refl
+decision-stays m (Store c C x) b s n = refl
+decision-stays m (Store c Field.V x) b s n = refl
+decision-stays m (Store c D x) b s n = absurd s
+decision-stays m (DecideCas c x) b s n = by-test (λ (z : Accessed). z .cell .d b ≡ m .d b) (eqb (m .d c) noValue) (accessed (store m c D x) 1) (accessed m 0)
     (λ z. upd-off (m .d) c x b (λ e. n (ap (m .d) e ∙ eqb-true _ _ z))) (λ z. refl)
-decision-stays m (InstallCas k c x) b s l n = by-test (λ (z : Accessed). z .cell .d b ≡ m .d b) (eqb (m .current) c) (accessed (install m x) 1) (accessed m 0) (λ z. refl) (λ z. refl)
-decision-stays m (Allocate x) b s l n = upd-off (m .d) (m .next) _ b (λ e. omega arith)
-decision-stays m Nothing b s l n = refl
+decision-stays m (InstallCas k c x) b s n = by-test (λ (z : Accessed). z .cell .d b ≡ m .d b) (eqb (m .current) c) (accessed (install m x) 1) (accessed m 0) (λ z. refl) (λ z. refl)
+decision-stays m Allocate b s n = refl
+decision-stays m Nothing b s n = refl
 
 -- THE INVARIANT
 
@@ -140,16 +144,32 @@ module _ (v : ℕ) (w : World) (i : Reachable v w) (r : Trace) (s : Sound w r) (
     abbrev next : Next
     next = nextOf t q (accessCell m (accessOf t q) .value)
 
+    -- D is stored only in the block that t fills, which u does not hold
+    kept : (u : ℕ) → T (holding (now u)) → w .records u .cell ≡ q .cell → m .d (w .records u .held) ≢ none → accessCell m (accessOf t q) .cell .d (w .records u .held) ≡ m .d (w .records u .held)
+    kept u b e decided = go (is 7 (now t)) refl
+      where
+        p : Record
+        p = w .records u
+
+        apart : T (taking (now t)) → q .taken ≢ p .held
+        apart a z =
+            let et = on-in (w .records) (q .cell) t refl in
+            let eu = on-in (w .records) (q .cell) u e in
+            i .holds .good .cells (q .cell) .unheld t u (rw et a) (rw eu b) (ap (λ (r : Record). r .taken) et ∙ (z ∙ sym (ap (λ (r : Record). r .held) eu)))
+
+        go : (x : Bool) → is 7 (now t) ≡ x → accessCell m (accessOf t q) .cell .d (p .held) ≡ m .d (p .held)
+        go true z = let f : now t ≡ l7 = same-is (now t) l7 (lies-in (is 7) (λ k. same k l7) tt (now t) (rw z tt)) in
+            subst (λ k. accessCell m (accessAt k t q) .cell .d (p .held) ≡ m .d (p .held)) (sym f) (upd-off (m .d) (q .taken) noValue (p .held) (λ g. apart (rw f tt) (sym g)))
+        go false z = decision-stays m (accessOf t q) (p .held) (lies-in (λ k. not (is 7 k)) (λ k. spares (accessAt k t q)) tt (now t) (rw z tt)) decided
+
     -- a call's decision stays when t steps
     stays : (u : ℕ) → through25 (r .did u) ≡ true → Expected cells (w .records u)
     stays u h =
         let p = w .records u in
         let ℓ = its-line u h in
-        let low = task u .value .there (every-in holding later tt (now u) ℓ) in
         let decided : w .cell (p .cell) .d (p .held) ≢ none = λ z. task u .self .ev-some (every-in swapping later tt (now u) ℓ) (sym (o .late u h) ∙ z) in
-        let kept = decision-stays (w .cell (p .cell)) (accessOf t q) (p .held) (every-line (λ k. spares (accessAt k t q)) tt (lineOf q)) low decided in
         upd-cases (λ (c : Cell). c .d (p .held) ≡ p .expected) (w .cell) (q .cell) (accessCell m (accessOf t q) .cell) (p .cell)
-        (λ e. subst (λ k. accessCell (w .cell k) (accessOf t q) .cell .d (p .held) ≡ p .expected) e (kept ∙ o .late u h)) (λ e. o .late u h)
+        (λ e. kept u (every-in holding later tt (now u) ℓ) e (subst (λ k. w .cell k .d (p .held) ≢ none) e decided) ∙ subst (λ k. w .cell k .d (p .held) ≡ p .expected) e (o .late u h)) (λ e. o .late u h)
 
     -- line 25 found another value than the new one: the swap is not placed, so the decision is the expected value
     came-late : now t ≡ l3 for25 → m .d (q .held) ≢ q .new → m .d (q .held) ≡ q .expected

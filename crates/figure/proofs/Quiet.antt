@@ -15,7 +15,7 @@ use Rattle.lines.specs.declared.Access.the-variants.{LoadCell, Load, Store, Dec
 use Rattle.lines.specs.Answers.{Next, Go, Done}
 use Rattle.lines.specs.Basics.{within}
 use Rattle.lines.specs.Record.{noValue}
-use Rattle.lines.specs.Lines.{Line, l1, l2, l3, l10, l11, l12, l15, l16, l17, l18, l19, l20, l21, l22, l23, l24, l26, l27, l29, l30, nowhere, lineOf, accessAt, counted, nextAt, hardware}
+use Rattle.lines.specs.Lines.{Line, l1, l2, l3, l4, l5, l6, l7, l8, l10, l11, l12, l15, l16, l17, l18, l19, l20, l21, l22, l23, l24, l26, l27, l30, nowhere, lineOf, accessAt, counted, nextAt, hardware}
 use Rattle.questions.proofs.Numbers.{number}
 use Rattle.history.specs.Basics.{upd}
 use Rattle.history.proofs.Basics.{upd-at, upd-same, upd-off, upd-cases}
@@ -118,7 +118,11 @@ module _ (m : Cell) (f : ℕ → Record) (t : ℕ) (z : Quiet m f t) where
   quiet-step (l2 x) e b = absurd b
   quiet-step (l3 x) e b = absurd b
   quiet-step l27 e b = absurd b
-  quiet-step l29 e b = absurd b
+  quiet-step l4 e b = absurd b
+  quiet-step l5 e b = absurd b
+  quiet-step l6 e b = absurd b
+  quiet-step l7 e b = absurd b
+  quiet-step l8 e b = absurd b
   quiet-step l30 e b = absurd b
   quiet-step nowhere e b = absurd b
 
@@ -134,7 +138,7 @@ harmless (Load b f) = true
 harmless (Store b f n) = false
 harmless (DecideCas b n) = true
 harmless (InstallCas k b n) = false
-harmless (Allocate n) = false
+harmless Allocate = false
 harmless Nothing = true
 
 -- the words that quietness looks at
@@ -148,7 +152,7 @@ same-words m (DecideCas b n) h = by-test (λ (x : Accessed). SameWords m (x .cel
 same-words m Nothing h = (refl, refl, refl, refl)
 same-words m (Store b f n) h = absurd h
 same-words m (InstallCas k b n) h = absurd h
-same-words m (Allocate n) h = absurd h
+same-words m Allocate h = absurd h
 
 -- another record of task u, at a line that swaps nothing, and these words as they were
 others : (m m′ : Cell) (f : ℕ → Record) (t u : ℕ) (r : Record) → SameWords m m′ → Quiet m f t → t ≢ u → (T (swapping (lineOf r)) → ⊥) → Quiet m′ (upd f u r) t

@@ -98,8 +98,8 @@ module _ (v : ℕ) (did : List Line) (q : Record) (o : Pending v did q) where
       let m = leb→le (count hardware did) x (k .1) in
       (omega (arith, o .steps), omega (arith, o .hard))
 
-  pub pending-bounds : (q .steps < 17) × (q .hard ≤ 3)
-  pending-bounds = bounded 17 3 (λ l. true) tt refl
+  pub pending-bounds : (q .steps < 21) × (q .hard ≤ 3)
+  pending-bounds = bounded 21 3 (λ l. true) tt refl
 
   pub read-bounds : q .kind ≡ 1 → (q .steps < 6) × (q .hard ≤ 1)
   read-bounds e = bounded 6 1 (λ l. ofKind l true false) tt (reading q e (o .line))
@@ -293,7 +293,7 @@ pub record Busy (v : ℕ) (q : Record) : Type 0 where
   pub cell : q .cell < v
   pub line : lineFit q ≡ true
   pub values : valuesFit q ≡ true
-  pub steps : q .steps ≤ 16
+  pub steps : q .steps ≤ 20
   pub hard : q .hard ≤ 3
 
 abbrev pub WellRecord : ℕ → Record → Type 0

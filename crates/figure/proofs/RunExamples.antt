@@ -39,12 +39,12 @@ unfolding upd figureRan figureStepped figureBegun
 p6 = refl
 
 -- the inactive block is replaced by the swap of 9 to 4, and the new one is active: the next swap attempts no hardware CAS
-pub p9 : five (meeting ++ steps 2 0 ++ steps 5 1 ++ steps 3 0 ++ alone (swap 0 9 4) 9 ++ alone (swap 0 4 6) 10) ≡
-    swapped 0 Yes 12 1 ∷ swapped 0 No 7 1 ∷ swapped 1 Yes 9 2 ∷ swapped 0 Yes 10 0 ∷ []
+pub p9 : five (meeting ++ steps 2 0 ++ steps 5 1 ++ steps 3 0 ++ alone (swap 0 9 4) 13 ++ alone (swap 0 4 6) 10) ≡
+    swapped 0 Yes 12 1 ∷ swapped 0 No 7 1 ∷ swapped 1 Yes 13 2 ∷ swapped 0 Yes 10 0 ∷ []
 unfolding upd figureRan figureStepped figureBegun
 p9 = refl
 
 -- task 1 replaces the block; task 0's hardware CAS of it then fails
-pub p10 : five (meeting ++ steps 5 0 ++ steps 10 1 ++ steps 2 0) ≡ swapped 1 Yes 17 3 ∷ swapped 1 No 9 2 ∷ []
+pub p10 : five (meeting ++ steps 5 0 ++ steps 14 1 ++ steps 6 0) ≡ swapped 1 Yes 21 3 ∷ swapped 1 No 13 2 ∷ []
 unfolding upd figureRan figureStepped figureBegun
 p10 = refl

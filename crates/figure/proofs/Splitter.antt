@@ -12,9 +12,9 @@ use Rattle.history.specs.Basics.{upd}
 use Rattle.history.proofs.Basics.{upd-same, upd-off, upd-cases}
 use Rattle.history.proofs.Simulation.{Phase, late}
 use Rattle.figure.specs.Figure.{Cell, store}
-use Rattle.figure.proofs.Classes.{is, holding, racing, won, lies-in}
+use Rattle.figure.proofs.Classes.{is, holding, racing, won, taking, lies-in}
 use Rattle.figure.proofs.Invariant.{View, Knowledge, Split, PhaseIs, line, held, Inv}
-use Rattle.figure.proofs.Frame.{moved, Rest, finish, forget, was, not-taken, decided-with}
+use Rattle.figure.proofs.Frame.{moved, Rest, finish, forget, was, decided-with}
 use Rattle.figure.proofs.Looking.{off, same-loses, idle-mine, not-late}
 
 -- the view with other memory and another phase
@@ -35,6 +35,7 @@ module _ (s : View) (κ : Knowledge) (t : ℕ) (r : Rest s κ t) where
   restX b = record {
     current = r .current;
     apart = r .apart;
+    unheld = r .unheld;
     tasks = λ u ne. let k = r .tasks u ne in record {
       self = k .self;
       value = k .value;
@@ -56,12 +57,13 @@ module _ (s : View) (κ : Knowledge) (t : ℕ) (r : Rest s κ t) where
     };
   }
 
-  module _ (b : ℕ) (far : (u : ℕ) → u ≢ t → T (is 30 (line s u)) → s .task u .taken ≢ b) where
+  module _ (b : ℕ) (far : (u : ℕ) → u ≢ t → T (taking (line s u)) → s .task u .taken ≢ b) where
     -- Y changes where nobody else relies on it
     restY : (n : ℕ) → ((u : ℕ) → u ≢ t → Split u (line s u) (m .x (held s u)) (upd (m .y) b n (held s u))) → Rest (inMemory s (store m b Y n) (s .phase)) κ t
     restY n split = record {
       current = r .current;
       apart = r .apart;
+      unheld = r .unheld;
       rivals = r .rivals;
       tasks = λ u ne. let k = r .tasks u ne in record {
         self = k .self;
@@ -82,6 +84,7 @@ module _ (s : View) (κ : Knowledge) (t : ℕ) (r : Rest s κ t) where
         → ((u : ℕ) → (s .phase ≡ late u → p ≡ late u) × (p ≡ late u → s .phase ≡ late u)) → Rest (inMemory s (store m b C 1) p) κ t
     restC p is-p lates = record {
       apart = r .apart;
+      unheld = r .unheld;
       rivals = r .rivals;
       current = let k = r .current in record { low = k .low; P-some = k .P-some; v-some = k .v-some; decided-inactive = λ d. not-zero (m .c) b (m .current) (k .decided-inactive d); decision = k .decision; phase-is = is-p };
       tasks = λ u ne. let k = r .tasks u ne in record {
@@ -112,8 +115,8 @@ module _ (s : View) (κ : Knowledge) (t : ℕ) (i : Inv s κ) (a : Access) (n w 
   abbrev next : Record
   next = at (counted q a) n w (q .held) (q .taken) (q .loaded)
 
-  far : T (holding (line s t)) → (u : ℕ) → u ≢ t → T (is 30 (line s u)) → s .task u .taken ≢ q .held
-  far h u ne c = not-taken s κ i u t c h
+  far : T (holding (line s t)) → (u : ℕ) → u ≢ t → T (taking (line s u)) → s .task u .taken ≢ q .held
+  far h u ne c = i .unheld u t c h
 
   pub keeps16 : line s t ≡ l16 → lineOf next ≡ l17 → Inv (moved (inMemory s (store (s .cell) (q .held) X t) (s .phase)) t next) κ
   keeps16 e e′ = finish (inMemory s (store (s .cell) (q .held) X t) (s .phase)) κ t l17 next e′ (restX s κ t (forget s κ t i) (q .held))

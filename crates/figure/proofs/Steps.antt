@@ -12,7 +12,7 @@ use Rattle.lines.specs.declared.Field.the-variants.{C, D}
 use Rattle.lines.specs.declared.Access.{Access}
 use Rattle.lines.specs.Answers.{Next, Go, Done}
 use Rattle.lines.specs.Record.{idle}
-use Rattle.lines.specs.Lines.{Wanted, for13, for25, for28, Line, l1, l2, l3, l10, l11, l12, l15, l16, l17, l18, l19, l20, l21, l22, l23, l24, l26, l27, l29, l30, nowhere, lineAt, lineOf, accessAt, at, counted, nextAt, answer, readAnswer}
+use Rattle.lines.specs.Lines.{Wanted, for13, for25, for28, Line, l1, l2, l3, l4, l5, l6, l7, l8, l10, l11, l12, l15, l16, l17, l18, l19, l20, l21, l22, l23, l24, l26, l27, l30, nowhere, lineAt, lineOf, accessAt, at, counted, nextAt, answer, readAnswer}
 use Rattle.history.specs.Basics.{upd}
 use Rattle.history.specs.History.{Response, Yes, No}
 use Rattle.history.proofs.Basics.{either, upd-at, upd-off}
@@ -330,8 +330,13 @@ module _ (s : View) (κ : Knowledge) (κ⁺ : Phase → ℕ → Knowledge) (t : 
   each (l3 for28) e b =
       let k = known (l3 for28) e .task in
       by-test (Out s κ κ⁺ t m) (eqb (m .d (q .held)) (q .expected)) _ _
-      (λ z. looks l29 _ refl (from3-28 s κ₁ i⁺ t (accessAt (l3 for28) t q) 29 (q .wanted) (at-line (l3 for28) e) (eqb-true _ _ z)))
+      (λ z. looks l4 _ refl (from3-28 s κ₁ i⁺ t (accessAt (l3 for28) t q) 4 (q .wanted) (at-line (l3 for28) e) (eqb-true _ _ z)))
       (λ z. (leaves (unawaited (l3 for28) e (λ x. x)), declines-it (l3 for28) e tt tt (λ x. x) (m .d (q .held)) (decided28 (k .seen .decision tt (k .decided .decided tt))) (eqb-false _ _ z)))
+  each l4 e b = record { change = still; can = tt; kept = Replacing.kept-taken s κ₁ t i⁺ e (accessAt l4 t q) 5 (q .wanted) refl; current = λ n. refl }
+  each l5 e b = record { change = still; can = tt; kept = Replacing.kept5 s κ₁ t i⁺ (accessAt l5 t q) 6 (q .wanted) e refl; current = λ n. refl }
+  each l6 e b = record { change = still; can = tt; kept = Replacing.kept6 s κ₁ t i⁺ (accessAt l6 t q) 7 (q .wanted) e refl; current = λ n. refl }
+  each l7 e b = record { change = still; can = tt; kept = Replacing.kept7 s κ₁ t i⁺ (accessAt l7 t q) 8 (q .wanted) e refl; current = λ n. refl }
+  each l8 e b = record { change = still; can = tt; kept = Replacing.kept8 s κ₁ t i⁺ (accessAt l8 t q) 30 (q .wanted) e refl; current = λ n. refl }
   each l10 e b = looks l11 _ refl (from10 s κ₁ i⁺ t (accessAt l10 t q) 11 (q .wanted) (unawaited l10 e (λ x. x)) (F .at-hold (rw e tt) (s .phase) (s .value)) (at-line l10 e))
   each l11 e b = looks l12 _ refl (from11 s κ₁ i⁺ t (accessAt l11 t q) 12 (q .wanted) (unawaited l11 e (λ x. x)) (F .at-load (rw e tt) (s .phase) (s .value)) e (at-line l11 e))
   each l12 e b =
@@ -373,7 +378,6 @@ module _ (s : View) (κ : Knowledge) (κ⁺ : Phase → ℕ → Knowledge) (t : 
         acted (k .self .yes-placed tt) (rw e tt) refl (inr (rw e refl, k .store .yes-active tt)),
       )
   each l27 e b = freezes e
-  each l29 e b = record { change = still; can = tt; kept = Replacing.kept-grown s κ₁ t i⁺ e (accessAt l29 t q) 30 (q .wanted) refl; current = λ n. refl }
   each l30 e b = go (either (m .current) (q .held))
     where
       go : (m .current ≡ q .held) ⊎ (m .current ≢ q .held) → Does l30 (accessCell m (accessAt l30 t q))

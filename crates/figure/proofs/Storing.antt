@@ -12,9 +12,9 @@ use Rattle.history.specs.Basics.{upd}
 use Rattle.history.proofs.Basics.{upd-at, upd-same, upd-off, upd-cases}
 use Rattle.history.proofs.Simulation.{Phase, settled, late}
 use Rattle.figure.specs.Figure.{store}
-use Rattle.figure.proofs.Classes.{is, holding, won, loaded, stored, contended, lies-in, are-apart}
+use Rattle.figure.proofs.Classes.{is, holding, won, loaded, stored, contended, taking, lies-in, are-apart}
 use Rattle.figure.proofs.Invariant.{none, View, Knowledge, Value, Fresh, Owner, Rival, PhaseIs, line, held, Inv}
-use Rattle.figure.proofs.Frame.{moved, Rest, Mine, finish, was, undecided, active-undecided, active-current, one-winner, not-taken, decided-with}
+use Rattle.figure.proofs.Frame.{moved, Rest, Mine, finish, was, undecided, active-undecided, active-current, one-winner, decided-with}
 use Rattle.figure.proofs.Looking.{off, same-wins, same-loses, active-settled, active-value}
 
 module _ (s : View) (κ : Knowledge) (t : ℕ) (i : Inv s κ) (e : line s t ≡ l23) (a : Access) (n w : ℕ) where
@@ -48,8 +48,8 @@ module _ (s : View) (κ : Knowledge) (t : ℕ) (i : Inv s κ) (e : line s t ≡ 
     still-stored = λ b. upd-cases (λ x. x ≡ s .task u .new) (s .cell .v) (q .held) (q .new) (held s u) (λ h. absurd (nobody u ne h (lies-in stored won tt (line s u) b))) (λ h. r .still-stored b);
   }
 
-  fresh′ : (u : ℕ) → T (is 30 (line s u)) → Fresh (s .task u .taken) (s .task u .new) (s .cell .next) (V′ (s .task u .taken)) (s .cell .d (s .task u .taken)) (s .cell .y (s .task u .taken)) (s .cell .c (s .task u .taken)) L
-  fresh′ u b = rw (upd-off (s .cell .v) (q .held) (q .new) (s .task u .taken) (not-taken s κ i u t b (rw e tt))) (i .tasks u .fresh b)
+  fresh′ : (u : ℕ) → T (taking (line s u)) → Fresh (line s u) (s .task u .taken) (s .task u .new) (s .cell .next) (V′ (s .task u .taken)) (s .cell .d (s .task u .taken)) (s .cell .y (s .task u .taken)) (s .cell .c (s .task u .taken)) L
+  fresh′ u b = rw (upd-off (s .cell .v) (q .held) (q .new) (s .task u .taken) (i .unheld u t b (rw e tt))) (i .tasks u .fresh b)
 
   v-some′ : V′ L ≢ none
   v-some′ = upd-cases (λ x. x ≢ none) (s .cell .v) (q .held) (q .new) L (λ h. here .task .self .nv-some tt) (λ h. i .current .v-some)
@@ -99,6 +99,7 @@ module _ (s : View) (κ : Knowledge) (t : ℕ) (i : Inv s κ) (e : line s t ≡ 
     rest-live = record {
       rivals = λ u w ne ne′. i .rivals u w;
       apart = λ u w ne ne′. i .apart u w;
+      unheld = λ u w ne ne′. i .unheld u w;
       current = let k = i .current in record {
         low = k .low;
         P-some = here .task .self .nv-some tt;
@@ -149,6 +150,7 @@ module _ (s : View) (κ : Knowledge) (t : ℕ) (i : Inv s κ) (e : line s t ≡ 
     rest-delayed = record {
       rivals = λ u w ne ne′. i .rivals u w;
       apart = λ u w ne ne′. i .apart u w;
+      unheld = λ u w ne ne′. i .unheld u w;
       current = let k = i .current in record { low = k .low; P-some = k .P-some; v-some = v-some′; decided-inactive = k .decided-inactive; decision = k .decision; phase-is = is-p };
       tasks = λ u ne. let k = i .tasks u in record {
         self = k .self;

@@ -68,7 +68,7 @@ busy-or-not ℓ = go (busy ℓ) refl
 
 pub placed-changed : (s : View) (κ : Knowledge) (placed : ℕ → Bool) → ((u : ℕ) → T (busy (line s u)) → placed u ≡ s .placed u) → ((u : ℕ) → s .phase ≡ late u → T (busy (line s u)))
     → Inv s κ → Inv (record { cell = s .cell; task = s .task; value = s .value; placed = placed; phase = s .phase }) κ
-placed-changed s κ placed same lates i = record { current = i .current; rivals = i .rivals; apart = i .apart; tasks = λ u. go u (busy-or-not (line s u)) }
+placed-changed s κ placed same lates i = record { current = i .current; rivals = i .rivals; apart = i .apart; unheld = i .unheld; tasks = λ u. go u (busy-or-not (line s u)) }
   where
     go : (u : ℕ) → T (busy (line s u)) ⊎ (line s u ≡ nowhere) → Task (s .cell) (s .value) (placed u) (s .phase) κ u (line s u) (s .task u)
     go u (inl b) = rw (same u b) (i .tasks u)
