@@ -51,14 +51,15 @@ module _ (old : State) (words : List ℕ) (tasks cells blocks : ℕ) (values : L
   -- DEMAND 3. For every list of begins and steps from a fresh opening, with any numbers, refused ones included, wherever tasks halt: the
   -- calls can be put one after another on sequential cells, every finished call once with its own answer and some pending ones once each,
   -- every one after its begin and no later than its last step; a read ends within 6 own steps with at most 1 hardware CAS, a swap within
-  -- 17 with at most 3; and a call attempts none if its cell's block was active at its begin and no other swap of unequal values is
-  -- pending on that cell from its begin to its end.
+  -- 21 with at most 3; and a call attempts none if its cell's block was active at its begin and no other swap of unequal values is
+  -- pending on that cell from its begin to its end. The list is any list, so a task may halt between any two of the five stores that fill a
+  -- new block (lines 4 to 8), and before line 30.
   pub cells-meet-demand-3 : Meets pool (start old words tasks cells blocks values) (clearAfter figure (opening tasks cells values) clear) cells (λ k. getD values k 0)
   cells-meet-demand-3 actions =
       subst (λ (h : List (Action × Event)). Demand3 (clearAfter figure (opening tasks cells values) clear) cells (λ k. getD values k 0) h) (sym (same-history old words tasks cells blocks values allowed actions))
       (figure-meets-demand-3 tasks cells values starting-values actions)
 
-  -- From anywhere in any list, at most 6 further steps of its task finish a read, and at most 17 a swap.
+  -- From anywhere in any list, at most 6 further steps of its task finish a read, and at most 21 a swap.
   pub every-call-ends : (actions : List Action) (task : ℕ) (call : Call) → callsOf (history pool (start old words tasks cells blocks values) actions) .pending task ≡ some call
       → Finishes pool (start old words tasks cells blocks values) actions task call (most (call .start .op))
   every-call-ends = ends-within pool (start old words tasks cells blocks values) cells-meet-demand-3

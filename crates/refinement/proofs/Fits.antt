@@ -5,24 +5,26 @@ use mathlib.Core.Logic.{inl, inr}
 use mathlib.Core.List.{List}
 use Prim.Native.Nat.{ℕ, _<_}
 use native.Mathlib.Omega.{arith}
-use lib.Dec.{eqb, ltb, T, eqb→eq}
+use lib.Dec.{eqb, ltb, T}
 use borrow.Author.Tests.{eqb-false, lt-ltb, le-leb}
 use Rattle.lines.specs.declared.Record.{Record}
+use Rattle.lines.specs.declared.Field.{Field}
+use Rattle.lines.specs.declared.Field.the-variants.{X}
 use Rattle.questions.specs.declared.State.{State}
 use Rattle.lines.specs.Basics.{ands}
 use Rattle.lines.specs.Record.{isIdle, recordAt}
-use Rattle.questions.specs.Questions.{holds, installs, busyTests, recordFit, cellsFit, recordsFit, fit}
+use Rattle.questions.specs.Questions.{holds, hasTaken, busyTests, recordFit, cellsFit, recordsFit, fit}
 use Rattle.blocks.specs.Blocks.{isCurrent, usedByTask, used, usesBlock}
 use Rattle.cells.specs.Step.{current}
 use Rattle.questions.proofs.Tests.{both, implied, or-left, or-right, all-from, none-of}
 use Rattle.figure.specs.Figure.{World}
 use Rattle.refinement.specs.Terms.{named}
 use Rattle.figure.proofs.Records.{WellRecord}
-use Rattle.refinement.proofs.Agree.{Links, Agree, Task}
+use Rattle.refinement.proofs.Agree.{Links, Agree, Task, took, took-holds}
 
 -- FIT
 
-record-fits : (R : Links) (v b : ℕ) (r q : Record) → Task R r q → ((k i c : ℕ) → R k i c → c < b) → WellRecord v q → recordFit r v b ≡ true
+record-fits : (R : Links) (v b : ℕ) (r q : Record) → Task R r q → ((k i c : ℕ) (f : Field) → R k i c f → c < b) → WellRecord v q → recordFit r v b ≡ true
 unfolding recordFit
 record-fits R v b r q x below (inl e) = rw (x .same, e)
 record-fits R v b r q x below (inr y) = rw (x .same) (go (isIdle q) refl)
@@ -30,9 +32,9 @@ record-fits R v b r q x below (inr y) = rw (x .same) (go (isIdle q) refl)
     go : (i : Bool) → isIdle q ≡ i → (i || ands (busyTests (named q (r .held) (r .taken)) v b)) ≡ true
     go true e = refl
     go false e =
-        let held : holds q ≡ true → ltb (r .held) b ≡ true = λ h. lt-ltb _ _ (below _ _ _ (x .held (rw (e, h) tt))) in
-        let taken : installs q ≡ true → ltb (r .taken) b ≡ true = λ h. lt-ltb _ _ (below _ _ _ (x .taken (rw h tt))) in
-        let blocks = both (implied (holds q) (ltb (r .held) b) held) (implied (installs q) (ltb (r .taken) b) taken) in
+        let held : holds q ≡ true → ltb (r .held) b ≡ true = λ h. lt-ltb _ _ (below _ _ _ X (x .held (rw (e, h) tt) X)) in
+        let taken : hasTaken q ≡ true → ltb (r .taken) b ≡ true = λ h. lt-ltb _ _ (below _ _ _ X (x .taken X (rw h tt))) in
+        let blocks = both (implied (holds q) (ltb (r .held) b) held) (implied (hasTaken q) (ltb (r .taken) b) taken) in
         both (lt-ltb _ _ (y .cell)) (both (y .line) (both blocks (both (y .values) (both (le-leb _ _ (y .steps)) (both (le-leb _ _ (y .hard)) refl)))))
 
 -- question 6 is answered yes
@@ -45,7 +47,7 @@ fits {n} {v} {R} {s} {p} {w} a well =
     (both (z .tasks-ok)
     (both (z .cells-ok)
     (both (z .blocks-ok)
-    (both (all-from _ 0 v (λ k l h. lt-ltb _ _ (below k (w .cell k .current) (current s k) (a .current k (omega arith)))))
+    (both (all-from _ 0 v (λ k l h. lt-ltb _ _ (below k (w .cell k .current) (current s k) X (a .current k (omega arith) X))))
     (both (lt-ltb _ _ (a .last))
     (both (all-from _ 0 n (λ t l h. record-fits R v (s .blocks) (recordAt (s .records) t) (w .records t) (a .records t (omega arith)) below (well t)))
     refl))))))
@@ -57,6 +59,12 @@ not-held true holding at other e h = absurd h
 not-held false true at other e h = or-left at other e
 not-held false false at other e h = absurd h
 
+not-taken : (idle holding at taking at′ : Bool) → (not idle && ((holding && at) || (taking && at′))) ≡ false → T (not idle && holding) → T taking → at′ ≡ false
+not-taken true holding at taking at′ e h k = absurd h
+not-taken false true at true at′ e h k = or-right at at′ e
+not-taken false true at false at′ e h k = absurd k
+not-taken false false at taking at′ e h k = absurd h
+
 module _ {n v : ℕ} {R : Links} {s : State} {p : List ℕ} {w : World} (a : Agree n v R s p w) (u : ℕ) (e : used s u ≡ false) where
   pub not-current : (k : ℕ) → k < v → current s k ≡ u → ⊥
   unfolding used isCurrent
@@ -67,7 +75,7 @@ module _ {n v : ℕ} {R : Links} {s : State} {p : List ℕ} {w : World} (a : Agr
   not-used t l = none-of (λ t. usesBlock (recordAt (s .records) t) u) 0 (s .tasks) (or-right (isCurrent s u) (usedByTask s u) e) t (omega arith) (omega (arith, a .sizes .same-tasks))
 
   -- each task's links are to other blocks
-  pub other-blocks : (S : Links) → ((k i b : ℕ) → R k i b → (b ≡ u → ⊥) → S k i b) → (t : ℕ) → t < n → Task S (recordAt (s .records) t) (w .records t)
+  pub other-blocks : (S : Links) → ((k i b : ℕ) (f : Field) → R k i b f → (b ≡ u → ⊥) → S k i b f) → (t : ℕ) → t < n → Task S (recordAt (s .records) t) (w .records t)
   other-blocks S up t l =
       let r = recordAt (s .records) t in
       let q = w .records t in
@@ -75,8 +83,6 @@ module _ {n v : ℕ} {R : Links} {s : State} {p : List ℕ} {w : World} (a : Agr
       let free : usesBlock (named q (r .held) (r .taken)) u ≡ false = sym (ap (λ (r : Record). usesBlock r u) (x .same)) ∙ not-used t l in
       record {
         same = x .same;
-        held = λ h. up _ _ _ (x .held h) (eqb-false _ _ (not-held (isIdle q) (holds q) (eqb (r .held) u) (installs q && eqb (r .taken) u) free h));
-        taken = λ h.
-            let line : q .line ≡ 30 = eqb→eq _ _ h in
-            up _ _ _ (x .taken h) (eqb-false _ _ (or-right (eqb (r .held) u) (eqb (r .taken) u) (rw line at free)));
+        held = λ h f. up _ _ _ f (x .held h f) (eqb-false _ _ (not-held (isIdle q) (holds q) (eqb (r .held) u) (hasTaken q && eqb (r .taken) u) free h));
+        taken = λ f h. let k = took (q .line) f h in up _ _ _ f (x .taken f h) (eqb-false _ _ (not-taken (isIdle q) (holds q) (eqb (r .held) u) (hasTaken q) (eqb (r .taken) u) free (took-holds (q .line) k) k));
       }

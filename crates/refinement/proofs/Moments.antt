@@ -29,6 +29,7 @@ use Rattle.figure.proofs.Simulation.{moments-linearize, moments-answers, never-
 use Rattle.cells.specs.Machine.{Pool, pool}
 use Rattle.refinement.specs.Terms.{start, named}
 use Rattle.refinement.specs.Moments.{seesPool, poolMoments}
+use Rattle.refinement.proofs.Agree.{Whole}
 use Rattle.refinement.proofs.Memory as Memory
 use Rattle.refinement.proofs.Refines.{Together, together, same-history}
 use Rattle.refinement.proofs.Demand3.{starting-values}
@@ -86,11 +87,11 @@ module _ {n v : ℕ} {x : Pool} {w : World} (g : Together n v x w) where
     same-holds : holdsBlock (r t) ≡ holdsBlock (q t)
     same-holds = ap holdsBlock same
 
-    linked : T (holdsBlock (q t)) → g .R (q t .cell) (q t .held) (r t .held)
+    linked : T (holdsBlock (q t)) → Whole (g .R) (q t .cell) (q t .held) (r t .held)
     linked = g .agree .records t l .held
 
     same-word : (f : Field) → T (holdsBlock (q t)) → word (x .1) (r t .held) f ≡ wordOf (w .cell (q t .cell)) (q t .held) f
-    same-word f h = g .agree .blocks .words (q t .cell) (q t .held) (r t .held) f (linked h)
+    same-word f h = g .agree .blocks .words (q t .cell) (q t .held) (r t .held) f (linked h f)
 
     same-current : T (holdsBlock (q t)) → eqb (current (x .0) (r t .cell)) (r t .held) ≡ eqb (w .cell (q t .cell) .current) (q t .held)
     same-current h = rw same-cell (Memory.names (g .agree) (q t .cell) (q t .held) (r t .held) (cell-below t h) (linked h))
@@ -99,7 +100,7 @@ module _ {n v : ℕ} {x : Pool} {w : World} (g : Together n v x w) where
   same-held : (t u : ℕ) (l : t < n) (m : u < n) → T (holdsBlock (q t)) → T (holdsBlock (q u))
       → (eqb (r u .cell) (r t .cell) && eqb (r u .held) (r t .held)) ≡ (eqb (q u .cell) (q t .cell) && eqb (q u .held) (q t .held))
   same-held t u l m h i = guarded (ap₂ eqb (same-cell u m) (same-cell t l))
-      (λ e. Memory.one-block (g .agree) (q t .cell) (q u .held) (r u .held) (q t .held) (r t .held) (rw (eqb→eq (q u .cell) (q t .cell) e) at (linked u m i)) (linked t l h))
+      (λ e. Memory.one-block (g .agree) (q t .cell) (q u .held) (r u .held) (q t .held) (r t .held) C C (rw (eqb→eq (q u .cell) (q t .cell) e) at (linked u m i C)) (linked t l h C))
 
   same-sight : (t u : ℕ) → t < n → u < n → sightOf u (seesPool x t) ≡ sightOf u (sees w t)
   same-sight t u l m =

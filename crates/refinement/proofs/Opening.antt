@@ -18,7 +18,8 @@ use Rattle.cells.proofs.Words.{fields, length-filled, filled-word}
 use Rattle.figure.specs.Figure.{wordOf, opening}
 use Rattle.refinement.proofs.Agree.{Agree, no-blocks}
 
-pub record Opened (v k i b : ℕ) : Type 0 where
+-- every word of it is stored
+pub record Opened (v k i b : ℕ) (f : Field) : Type 0 where
   pub cell : k < v
   pub number : i ≡ 0
   pub block : b ≡ k
@@ -41,12 +42,12 @@ opens p n v b vs ok =
       places = cells .1;
       rows = tasks .1;
       blocks = record {
-        numbers = λ k i b r. omega (arith, r .number);
-        below = λ k i b r. omega (arith, r .block, r .cell, blocks .0);
+        numbers = λ k i b f r. omega (arith, r .number);
+        below = λ k i b f r. omega (arith, r .block, r .cell, blocks .0);
         words = λ k i c f r. rw (r .block) (first k f (r .cell) ∙ fields (λ f. fresh (getD vs k 0) f ≡ wordOf (opening n v vs .cell k) i f) refl refl refl refl refl f);
-        same = λ k i b k′ i′ r r′. (sym (r .block) ∙ r′ .block, r .number ∙ sym (r′ .number));
-        back = λ k i b b′ r r′. r .block ∙ sym (r′ .block);
+        same = λ k i b k′ i′ f f′ r r′. (sym (r .block) ∙ r′ .block, r .number ∙ sym (r′ .number));
+        back = λ k i b b′ f f′ r r′. r .block ∙ sym (r′ .block);
       };
-      current = λ k h. record { cell = h; number = refl; block = eqb-true _ _ (all-at (λ k. eqb (getD (openState n v b .current) k 0) k) 0 16 refl k (omega arith) (omega (arith, cells .1))) };
+      current = λ k h f. record { cell = h; number = refl; block = eqb-true _ _ (all-at (λ k. eqb (getD (openState n v b .current) k 0) k) 0 16 refl k (omega arith) (omega (arith, cells .1))) };
       records = λ t h. rw (getD-replicate 32 t idle idle (omega (arith, tasks .1))) (no-blocks idle tt);
     }

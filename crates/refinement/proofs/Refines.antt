@@ -52,7 +52,7 @@ module _ {n v : ℕ} where
   is-fit g = fits (g .agree) (g .well [])
 
   pub same-words : {x : Pool} {w : World} → Together n v x w → (k : ℕ) → k < v → (f : Field) → word (x .1) (current (x .0) k) f ≡ wordOf (w .cell k) (w .cell k .current) f
-  same-words {x} {w} g k h f = g .agree .blocks .words k (w .cell k .current) (current (x .0) k) f (g .agree .current k h)
+  same-words {x} {w} g k h f = g .agree .blocks .words k (w .cell k .current) (current (x .0) k) f (g .agree .current k h f)
 
   pub looks : {x : Pool} {w : World} → Together n v x w → (k : ℕ) → looked (x .0) (x .1) k ≡ figureLooked w k
   unfolding looked figureLooked

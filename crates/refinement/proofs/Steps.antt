@@ -8,6 +8,7 @@ use Prim.Native.Nat.{ℕ, _<_}
 use lib.Dec.{eqb, ltb, T}
 use borrow.Author.Tests.{ltb-true}
 use Rattle.lines.specs.declared.Record.{Record}
+use Rattle.lines.specs.declared.Field.{Field}
 use Rattle.questions.specs.declared.State.{State}
 use Rattle.cells.specs.Answers.{Said, Refused, Acted}
 use Rattle.lines.specs.Answers.{Next}
@@ -30,7 +31,7 @@ use Rattle.cells.specs.Events.{eventOf, tried}
 use Rattle.cells.specs.Machine.{Pool, pool}
 use Rattle.refinement.specs.Terms.{named}
 use Rattle.figure.proofs.Records.{Busy, WellRecord}
-use Rattle.refinement.proofs.Agree.{Links, Agree, Task, holdsAt, installsAt, no-blocks, records-change}
+use Rattle.refinement.proofs.Agree.{Links, Whole, Agree, Task, holdsAt, storedBefore, no-blocks, records-change}
 use Rattle.refinement.proofs.Memory.{withCell}
 use Rattle.refinement.proofs.Fits.{fits}
 use Rattle.refinement.proofs.Access.{performs, same-hardware}
@@ -102,8 +103,8 @@ module _ {n v : ℕ} {R : Links} {s : State} {p : List ℕ} {w : World} (a : Agr
         let at = at-number q (y .line) in
         let task : Task R (named q h k) q = subst (λ (r : Record). Task R r q) e (a .records t l) in
         let has : Has R s q h k (lineOf q) = record {
-          held = subst (λ (n : ℕ). T (holdsAt n) → R (q .cell) (q .held) h) at (task .held);
-          taken = subst (λ (n : ℕ). T (installsAt n) → R (q .cell) (q .taken) k) at (task .taken);
+          held = subst (λ (n : ℕ). T (holdsAt n) → Whole R (q .cell) (q .held) h) at (task .held);
+          taken = subst (λ (n : ℕ). (f : Field) → T (storedBefore n f) → R (q .cell) (q .taken) k f) at (task .taken);
           found = λ g. one-is-unused s p t (fits a well) (rw (a .sizes .same-tasks) l) (ap (λ (r : Record). r .line) e ∙ at ∙ g);
         } in
         let accesses = linked R s q h k t (reads q) (swaps q) (lineOf q) (y .line) has in
@@ -112,9 +113,10 @@ module _ {n v : ℕ} {R : Links} {s : State} {p : List ℕ} {w : World} (a : Agr
         let done = performs a (q .cell) (y .cell) accesses in
         let R⁺ = done .R in
         let task⁺ : Task R⁺ (named q h k) q = subst (λ (r : Record). Task R⁺ r q) e (done .agree .records t l) in
-        let held : T (holdsAt (number (lineOf q))) → R⁺ (q .cell) (q .held) h = subst (λ (n : ℕ). T (holdsAt n) → R⁺ (q .cell) (q .held) h) at (task⁺ .held) in
+        let held : T (holdsAt (number (lineOf q))) → Whole R⁺ (q .cell) (q .held) h = subst (λ (n : ℕ). T (holdsAt n) → Whole R⁺ (q .cell) (q .held) h) at (task⁺ .held) in
+        let taken : (f : Field) → T (storedBefore (number (lineOf q)) f) → R⁺ (q .cell) (q .taken) k f = subst (λ (n : ℕ). (f : Field) → T (storedBefore n f) → R⁺ (q .cell) (q .taken) k f) at (task⁺ .taken) in
         rw (same-hardware accesses)
-        (finishes s m w (q .cell) t (hardware (accessOf t q)) (m′ .cell) (done .agree) l (nexts R⁺ (counted q (accessOf t q)) h k q t (m .value) (m′ .value) (reads q) (swaps q) (lineOf q) (y .line) held (done .answer)))
+        (finishes s m w (q .cell) t (hardware (accessOf t q)) (m′ .cell) (done .agree) l (nexts R⁺ (counted q (accessOf t q)) h k q refl t (m .value) (m′ .value) (reads q) (swaps q) (lineOf q) (y .line) held taken (done .answer)))
 
   busy : WellRecord v q → not (isIdle q) ≡ true → Busy v q
   busy (inl e) g = absurd (false≢true (rw e at g))
