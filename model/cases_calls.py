@@ -145,10 +145,10 @@ P_START = ["(open 2 1 5 (5))", "(swap 0 0 5 7)", "(swap 1 0 5 9)",
 P1 = ["(open 2 1 5 (5))", "(swap 0 0 5 7)", "(again 10 (step 0))",
       "(read 1 0)", "(again 3 (step 1))"]
 P9 = P_START + ["(again 2 (step 0))", "(again 5 (step 1))",
-                "(again 3 (step 0))", "(swap 0 0 9 4)", "(again 9 (step 0))",
+                "(again 3 (step 0))", "(swap 0 0 9 4)", "(again 13 (step 0))",
                 "(swap 0 0 4 6)", "(again 10 (step 0))"]
-P10 = P_START + ["(again 5 (step 0))", "(again 10 (step 1))",
-                 "(again 2 (step 0))"]
+P10 = P_START + ["(again 5 (step 0))", "(again 14 (step 1))",
+                 "(again 6 (step 0))"]
 
 
 def shop_cases(cases):
@@ -227,8 +227,8 @@ REACH = [
     ("28_load_v", (1, 28), reach_27_on(1)),
     ("28_swap_d", (2, 28), reach_27_on(2)),
     ("28_load_d", (3, 28), reach_27_on(3)),
-    ("29", (29, 0), reach_27_on(4)),
-    ("30", (30, 0), reach_27_on(5)),
+    *((str(line), (line, 0), reach_27_on(line)) for line in range(4, 9)),
+    ("30", (30, 0), reach_27_on(9)),
 ]
 
 
@@ -346,10 +346,10 @@ def pool_cases(cases):
 
 def meeting_cases(cases):
     # Reads at each moment of a contended swap.
-    for at in range(0, 13):
+    for at in range(0, 17):
         s = Script(3, 1, 7, [5])
         s.swap(0, 0, 5, 7).swap(1, 0, 5, 9).step(0, 2).step(1, 7)
-        for moment in range(13):
+        for moment in range(17):
             if moment == at:
                 s.read(2, 0).out(2)
             task = 0 if moment < 3 else 1
@@ -381,11 +381,11 @@ def meeting_cases(cases):
         cases.add("meet_in_step_%d" % n, [
             draw.opening_line(n, 1, 1 + 2 * n, [5]),
             *("(swap %d 0 5 %d)" % (t, 6 + t) for t in range(n)),
-            "(again 17 %s)" % " ".join("(step %d)" % t for t in range(n))])
+            "(again 21 %s)" % " ".join("(step %d)" % t for t in range(n))])
         cases.add("meet_in_step_same_new_%d" % n, [
             draw.opening_line(n, 1, 1 + 2 * n, [5]),
             *("(swap %d 0 5 6)" % t for t in range(n)),
-            "(again 11 %s)" % " ".join("(step %d)" % t for t in range(n))])
+            "(again 15 %s)" % " ".join("(step %d)" % t for t in range(n))])
     # The same meeting on two cells at once does not mix.
     s = Script(4, 2, 10, [5, 5])
     for k, p, q in ((0, 0, 1), (1, 2, 3)):
@@ -401,7 +401,7 @@ def rate_cases(cases):
     # hardware swaps of an unfinished call are not counted
     cases.accepted("rate_unfinished_hard", P10[:-3] + ["(again 5 (step 0))"])
     cases.accepted("rate_unfinished_hard_3", P10[:-2] + [
-        "(again 9 (step 1))"])
+        "(again 13 (step 1))"])
     for more in (1, 2, 3, 5, 9, 12, 60, 3995, 3996, 3997):
         lines = P9 + ["(again %d (read 0 0) (again 3 (step 0)))" % more]
         cases.accepted("rate_4_of_%d" % (4 + more), lines)

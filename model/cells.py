@@ -1,8 +1,8 @@
 """The library of cells: pool, blocks, task records, the lines of figure 2.
 
-Written from document 01 ("Shared cells for the milling unit's tasks") and
-source document 003, figure 2, alone.  Sentences of document 01 are quoted in
-the comments where they decide something.
+Written from document 01 ("Shared cells for the milling unit's tasks"), change
+request 2 of document 02 and source document 003, figure 2, alone.  Their
+sentences are quoted in the comments where they decide something.
 """
 
 from typing import NamedTuple
@@ -29,9 +29,10 @@ def least_blocks(n, v):
     return v + 2 * n
 
 
-# "A read ends within 6 own steps with at most 1 hardware swap, a swap within
-# 17 with at most 3" (demand 3), so the fit question allows 16 and 3 so far.
-MOST_STEPS_SO_FAR = 16
+# "The longest swap is 21 steps, and the fit question allows 20 so far" (change
+# request 2); its hardware swaps are at most 3, as before.
+MOST_STEPS = 21
+MOST_STEPS_SO_FAR = 20
 MOST_HARD_SO_FAR = 3
 
 IDLE = 0  # the next line of a task without a call
@@ -42,16 +43,23 @@ SWAP = "swap"
 
 # "Steps are lines 10 to 12 (read), 15 to 24, 26, 27, 29 and 30 (swap), and 1
 # to 3 of the deciding part. Lines 13, 25 and 28 run the deciding part."
+# "Line 29 becomes the figure's lines 4 to 8" (change request 2), so those five
+# are a swap's and 29 is a line of none.
 READ_LINES = frozenset((10, 11, 12))
-SWAP_LINES = frozenset((*range(15, 25), 26, 27, 29, 30))
+FILL_LINES = frozenset((4, 5, 6, 7, 8))
+SWAP_LINES = frozenset((*FILL_LINES, *range(15, 25), 26, 27, 30))
 DECIDING_LINES = frozenset((1, 2, 3))
 READ_WANTS = frozenset((13,))
 SWAP_WANTS = frozenset((25, 28))
 
-# What each line does to memory; line 29, the one-step fill, is "a step and
-# none of the other three".
+# "A taken block counts as used from line 4" (change request 2): whoever has
+# done it has one of these lines next.
+TAKEN_LINES = frozenset((5, 6, 7, 8, 30))
+
+# What each line does to memory.  Line 4 "takes the block and sets X", so it is
+# one of the "five stores more".
 LOAD_LINES = frozenset((1, 3, 10, 11, 12, 15, 17, 19, 20, 21, 24))
-STORE_LINES = frozenset((16, 18, 22, 23, 26, 27))
+STORE_LINES = frozenset((4, 5, 6, 7, 8, 16, 18, 22, 23, 26, 27))
 HARD_LINES = frozenset((2, 30))
 
 
@@ -120,8 +128,9 @@ class Record:
 
     @property
     def has_taken_a_block(self):
-        """"taken by a task whose next line is 30"."""
-        return self.line == 30
+        """"taken by a task whose next line is 30"; since change request 2
+        the taking is line 4, so the next line is 5 to 8 or 30."""
+        return self.line in TAKEN_LINES
 
 
 class Cells:
@@ -140,7 +149,10 @@ class Cells:
             pool[word] = 0
         self.current = list(range(v))
         for block, value in enumerate(values):
-            self.fill(block, value)
+            at = WORDS * block
+            pool[at + X] = NO_TASK
+            pool[at + V] = value
+            pool[at + D] = NONE
         # "at opening the last taken is block V - 1."
         self.last_taken = v - 1
         # "It leaves every task's record idle, its other fields 0."
@@ -164,18 +176,10 @@ class Cells:
 
     # ----------------------------------------------------------- the pool
 
-    def fill(self, block, value):
-        """"fills it with X 255, Y 0, C 0, D none, V the new value."""
-        at = WORDS * block
-        self.pool[at + X] = NO_TASK
-        self.pool[at + Y] = 0
-        self.pool[at + C] = 0
-        self.pool[at + V] = value
-        self.pool[at + D] = NONE
-
     def is_used(self, block):
         """"A block is used while it is current, or held by a busy task that
-        has done its first load, or taken by a task whose next line is 30."""
+        has done its first load, or taken by a task whose next line is 30";
+        "A taken block counts as used from line 4" (change request 2)."""
         if block in self.current:
             return True
         for record in self.tasks:
@@ -187,14 +191,15 @@ class Cells:
 
     def take_unused_block(self):
         """"The unused block taken is the first met going upward from the
-        block after the last one taken, going round after B - 1."""
+        block after the last one taken, going round after B - 1."  None where
+        every block is used."""
         for onward in range(1, self.b + 1):
             block = (self.last_taken + onward) % self.b
             if not self.is_used(block):
                 self.last_taken = block
                 return block
-        # "By counting, one is always unused."
-        raise AssertionError("every block is used")
+        # "By counting, one is always unused": no fit state comes here.
+        return None
 
     # ------------------------------------------------- questions 6 to 11
 
@@ -237,7 +242,8 @@ class Cells:
         # "no value equal to none in a swap"
         if record.kind == SWAP and NONE in (record.expected, record.new):
             return False
-        # "at most 16 steps and 3 hardware swaps so far"
+        # "at most 16 steps and 3 hardware swaps so far", and "the fit
+        # question allows 20 so far" (change request 2)
         return (record.steps <= MOST_STEPS_SO_FAR
                 and record.hard <= MOST_HARD_SO_FAR)
 
@@ -329,6 +335,7 @@ class Cells:
         """
         pool = self.pool
         at = WORDS * record.held
+        nb = WORDS * record.installing
         line = record.line
 
         # decide(b); "three steps (load V, hardware swap of D from none to the
@@ -399,12 +406,32 @@ class Cells:
         elif line == 27:
             pool[at + C] = 1
             self.want_decision(record, 28)
-        elif line == 29:
-            # "Line 29 is one step here: it takes an unused block and fills
-            # it".
-            record.installing = self.take_unused_block()
-            self.fill(record.installing, record.new)
+
+        # get_new_block(nv), line 29's call: "line 4 takes the block and sets
+        # X, then one step each for Y, C, D and V" (change request 2), each to
+        # what document 01 fills it with: "X 255, Y 0, C 0, D none, V the new
+        # value".
+        elif line == 4:
+            block = self.take_unused_block()
+            if block is None:
+                record.installing = NONE
+            else:
+                record.installing = block
+                pool[WORDS * block + X] = NO_TASK
+            record.line = 5
+        elif line == 5:
+            pool[nb + Y] = 0
+            record.line = 6
+        elif line == 6:
+            pool[nb + C] = 0
+            record.line = 7
+        elif line == 7:
+            pool[nb + D] = NONE
+            record.line = 8
+        elif line == 8:
+            pool[nb + V] = record.new
             record.line = 30
+
         elif line == 30:
             if self.current[record.cell] != record.held:
                 return False
@@ -432,7 +459,7 @@ class Cells:
             return None
         if decided != record.expected:
             return False
-        record.line = 29
+        record.line = 4
         return None
 
     def end_of_read(self, record, value):
@@ -472,7 +499,9 @@ def open_cells(n, v, b, pool, values, ask_fit=True):
 
 # ------------------------------------------------------------------- paths
 
-# "Steps / loads / stores / hardware swaps of each complete path"
+# "Steps / loads / stores / hardware swaps of each complete path".  "Paths that
+# end at 30 ... take four steps more and count five stores more" (change request
+# 2); steps and hardware swaps then no longer name a row, as 15 and 2 are two.
 PATHS = {
     "read_active": (3, 3, 0, 0),
     "read_decided": (6, 5, 0, 1),
@@ -483,10 +512,10 @@ PATHS = {
     "no_from_28_by_19": (9, 5, 3, 1),
     "no_from_28_by_21": (10, 7, 2, 1),
     "no_from_28_by_25": (15, 10, 3, 2),
-    "end_at_30_by_17": (9, 4, 2, 2),
-    "end_at_30_by_19": (11, 5, 3, 2),
-    "end_at_30_by_21": (12, 7, 2, 2),
-    "end_at_30_by_25": (17, 10, 3, 3),
+    "end_at_30_by_17": (13, 4, 7, 2),
+    "end_at_30_by_19": (15, 5, 8, 2),
+    "end_at_30_by_21": (16, 7, 7, 2),
+    "end_at_30_by_25": (21, 10, 8, 3),
 }
 
 # "'no from 28 by 25' is a path of the lines that no fresh opening reaches"

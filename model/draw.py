@@ -68,7 +68,8 @@ def draw_actions(draw, model, style):
     for _ in range(min(style.halts, model.n - 1)):
         task = tasks.pop(draw.below(len(tasks)))
         # halts once it has done this many steps of some call
-        halting[task] = (draw.between(0, 16), draw.below(style.length))
+        halting[task] = (draw.between(0, cells.MOST_STEPS_SO_FAR),
+                         draw.below(style.length))
     hot = min(style.hot_cells, model.v)
     first = draw.below(model.v - hot + 1)
 
@@ -100,7 +101,7 @@ def draw_actions(draw, model, style):
             continue
         burst = draw.between(1, style.burst)
         if draw.percent(style.runs_out):
-            burst = 17
+            burst = cells.MOST_STEPS
         for _ in range(burst):
             if halted(task) or do(("step", task)) is not None:
                 break

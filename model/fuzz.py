@@ -102,14 +102,14 @@ def few_steps_apart(d):
             p = d.below(n)
             q = (p + 1) % n
             lines += ["(again 2 (step %d))" % q, "(again 7 (step %d))" % p,
-                      "(again %d (step %d))" % (d.between(1, 7), q),
-                      "(again %d (step %d))" % (d.between(1, 10), p)]
+                      "(again %d (step %d))" % (d.between(1, 11), q),
+                      "(again %d (step %d))" % (d.between(1, 14), p)]
         for _ in range(d.between(2, 10)):
             lines.append("(again %d (step %d))" % (
                 d.pick((1, 2, 2, 3, 3, 4, 5, 6, 7, 7, 9)), d.below(n)))
         if d.percent(80):
             for t in range(n):
-                lines.append("(again 17 (step %d))" % t)
+                lines.append("(again 21 (step %d))" % t)
     return draw.text(lines)
 
 
@@ -134,7 +134,7 @@ def blocks_turn(d):
             if d.percent(50):  # the two meet the task at its block
                 s.swap(q, cell, s.value(cell), 80 + d.below(4))
                 s.steps(q, d.pick((2, 4, 7)))
-                s.steps(task, d.between(1, 9))
+                s.steps(task, d.between(1, 15))
                 s.out(q)
             else:
                 s.steps(task, d.between(1, 9))
@@ -147,13 +147,14 @@ def blocks_turn(d):
 
 
 def taken_block_waits(d, s, task, helper):
-    """The task comes to line 30 with its held block current, and waits there
-    while the pool is gone round on the other cell."""
+    """The task comes to line 30, or to one of the lines 5 to 8 before it, with
+    its held block current, and waits there while the pool is gone round on the
+    other cell."""
     if s.model.tasks[task].busy or s.model.tasks[helper].busy:
         return
     value = s.value(0)
     s.swap(task, 0, value, 90).swap(helper, 0, value, 91)
-    s.steps(task, 3).steps(helper, 2).steps(task, 7)
+    s.steps(task, 3).steps(helper, 2).steps(task, d.between(7, 11))
     turn_blocks(s, s.model.n - 2, s.model.n - 1,
                 d.between(s.model.b // 2, s.model.b), 1)
     s.out(task)
@@ -199,7 +200,7 @@ def any_form(d, depth):
         return "(swap %s %s %s %s)" % (number(d), number(d), expected, new)
     if depth <= 1:
         return "(step %d)" % d.below(2)
-    count = d.pick(("0", "1", "2", "3", "5", "17", number(d, 40)))
+    count = d.pick(("0", "1", "2", "3", "5", "21", number(d, 40)))
     inner = [any_form(d, depth - 1) for _ in range(d.pick((0, 1, 1, 2, 3)))]
     return "(%s)" % " ".join(["again", count] + inner)
 

@@ -17,6 +17,7 @@ import draw
 import session
 from cases_calls import (contention_cases, halt_cases, meeting_cases,
                          path_cases, pool_cases, rate_cases, shop_cases)
+from cases_fill import fill_cases
 from cases_files import again_cases, bracket_cases, form_cases
 from cases_refusals import (action_refusals, file_refusals, open_edges,
                             open_refusals)
@@ -66,6 +67,7 @@ def make():
     again_cases(cases)
     halt_cases(cases)
     pool_cases(cases)
+    fill_cases(cases)
     meeting_cases(cases)
     rate_cases(cases)
     contention_cases(cases)

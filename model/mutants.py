@@ -3,7 +3,9 @@
 the model, must print something else for at least one case.
 
 Prints for each wrong reading how many cases tell it, and ends with 1 if some
-reading is told by none.
+reading is told by none.  A session shows of a block only what its cell has once
+it is current, so the fill's order and the search's are told by the self test's
+states instead.
 """
 
 import os
@@ -11,10 +13,14 @@ import resource
 import sys
 import types
 
+import cells
 import cells_cases
 import make_cases
+import selftest
 
 HERE = os.path.dirname(os.path.abspath(__file__))
+
+TAKEN_USED = "if record.has_taken_a_block and record.installing == block:"
 
 # What is misread; the file; the text replaced; the text put there.
 MISREADINGS = [
@@ -31,8 +37,7 @@ MISREADINGS = [
      "return self.kind == READ"),
     # the pool
     ("a taken block is not used", "cells",
-     "if record.has_taken_a_block and record.installing == block:",
-     "if False:"),
+     TAKEN_USED, "if False:"),
     ("a current block is not used", "cells",
      "if block in self.current:", "if False:"),
     ("only cell 0's block is current", "cells",
@@ -40,17 +45,76 @@ MISREADINGS = [
     ("only tasks 0 to 15 hold blocks", "cells",
      "for record in self.tasks:\n            if record.holds_a_block",
      "for record in self.tasks[:16]:\n            if record.holds_a_block"),
-    ("the fill leaves C", "cells",
-     "self.pool[at + C] = 0\n        self.pool[at + V]",
-     "self.pool[at + V]"),
-    ("the fill leaves Y", "cells",
-     "self.pool[at + Y] = 0\n        self.pool[at + C]",
-     "self.pool[at + C]"),
-    ("the fill leaves D", "cells",
-     "self.pool[at + D] = NONE\n\n", "pass\n\n"),
+    # change request 2: the fill
+    ("the fill leaves Y", "cells", "pool[nb + Y] = 0", "pass"),
+    ("the fill leaves C", "cells", "pool[nb + C] = 0", "pass"),
+    ("the fill leaves D", "cells", "pool[nb + D] = NONE", "pass"),
+    ("the fill leaves V", "cells", "pool[nb + V] = record.new", "pass"),
     ("the fill puts V the expected value", "cells",
-     "self.fill(record.installing, record.new)",
-     "self.fill(record.installing, record.expected)"),
+     "pool[nb + V] = record.new", "pool[nb + V] = record.expected"),
+    ("the fill puts D the new value", "cells",
+     "pool[nb + D] = NONE", "pool[nb + D] = record.new"),
+    ("the fill puts C true", "cells", "pool[nb + C] = 0", "pool[nb + C] = 1"),
+    ("the fill puts Y true", "cells", "pool[nb + Y] = 0", "pool[nb + Y] = 1"),
+    ("the fill is of the held block", "cells",
+     "nb = WORDS * record.installing", "nb = WORDS * record.held"),
+    ("the fill is still one step", "cells",
+     "pool[WORDS * block + X] = NO_TASK\n            record.line = 5",
+     "pool[WORDS * block:WORDS * block + WORDS] ="
+     " NO_TASK, 0, 0, record.new, NONE\n            record.line = 30"),
+    ("the fill is the figure's four stores", "cells",
+     "pool[WORDS * block + X] = NO_TASK\n            record.line = 5",
+     "pool[WORDS * block:WORDS * block + 2] = NO_TASK, 0\n"
+     "            record.line = 6"),
+    ("line 4 leaves the taken block", "cells", "record.installing = block\n",
+     "pass\n"),
+    ("line 30 after 7", "cells", "record.line = 8\n", "record.line = 30\n"),
+    ("line 30 after 7, where V is stored", "cells",
+     "pool[nb + D] = NONE\n            record.line = 8\n",
+     "pool[nb + D] = NONE\n            pool[nb + V] = record.new\n"
+     "            record.line = 30\n"),
+    ("line 5 after 28's test", "cells", "record.line = 4\n",
+     "record.installing = self.take_unused_block()\n"
+     "        record.line = 5\n"),
+    ("line 4 after 8 where another has replaced the block", "cells",
+     "record.line = 30\n", "record.line = (30 if"
+     " self.current[record.cell] == record.held else 4)\n"),
+    ("line 4 ends a call whose block is replaced", "cells",
+     "            block = self.take_unused_block()\n",
+     "            if self.current[record.cell] != record.held:\n"
+     "                return False\n"
+     "            block = self.take_unused_block()\n"),
+    ("line 4 is a hardware swap", "cells", "HARD_LINES = frozenset((2, 30))",
+     "HARD_LINES = frozenset((2, 4, 30))"),
+    ("line 30 makes the new block inactive", "cells",
+     "self.current[record.cell] = record.installing",
+     "self.current[record.cell] = record.installing\n"
+     "            pool[nb + C] = 1"),
+    # change request 2: from when on a taken block counts as used
+    ("a taken block is used at line 30 alone", "cells", TAKEN_USED,
+     TAKEN_USED.replace("record.has_taken_a_block", "record.line == 30")),
+    ("a taken block is used until line 30", "cells", TAKEN_USED,
+     TAKEN_USED.replace("if ", "if record.line != 30 and ")),
+    ("a taken block is used from line 5", "cells", TAKEN_USED,
+     TAKEN_USED.replace("if ", "if record.line != 5 and ")),
+    ("a taken block is used from line 6", "cells", TAKEN_USED,
+     TAKEN_USED.replace("if ", "if record.line not in (5, 6) and ")),
+    ("a taken block is not used after line 5", "cells", TAKEN_USED,
+     TAKEN_USED.replace("if ", "if record.line != 6 and ")),
+    ("a taken block is not used after line 6", "cells", TAKEN_USED,
+     TAKEN_USED.replace("if ", "if record.line != 7 and ")),
+    ("a taken block is not used after line 7", "cells", TAKEN_USED,
+     TAKEN_USED.replace("if ", "if record.line != 8 and ")),
+    ("only tasks 0 to 15 have taken blocks", "cells", TAKEN_USED,
+     TAKEN_USED.replace("if ", "if record not in self.tasks[16:] and ")),
+    ("a filling task does not hold its block", "cells",
+     "if record.holds_a_block and record.held == block:",
+     "if (record.holds_a_block and not 4 <= record.line <= 8\n"
+     "                    and record.held == block):"),
+    ("a task from line 4 on does not hold its block", "cells",
+     "if record.holds_a_block and record.held == block:",
+     "if (record.holds_a_block and record.line not in (4, 5, 6, 7, 8, 30)\n"
+     "                    and record.held == block):"),
     # the lines
     ("17 goes on to 18", "cells",
      "record.line = 27 if pool[at + Y] != 0 else 18", "record.line = 18"),
@@ -93,7 +157,7 @@ MISREADINGS = [
      " self.current[record.cell] == record.held):"),
     ("25 failing decides no more", "cells",
      "self.want_decision(record, 28)\n            return None",
-     "record.line = 29\n            return None"),
+     "record.line = 4\n            return None"),
     ("a finished call leaves the hardware swaps", "cells",
      "        self.hard = 0\n\n    def words", "        self.hard = getattr("
      "self, 'hard', 0)\n\n    def words"),
@@ -211,6 +275,7 @@ MISREADINGS = [
 FIT = "open_refusal(self.n, self.v, self.b, self.pool, None)"
 UNFIT_LINE = "elif record.line not in lines:"
 HELD = "if record.holds_a_block and record.held >= self.b:"
+TAKEN_FIT = "if record.has_taken_a_block and record.installing >= self.b:"
 SO_FAR = ("return (record.steps <= MOST_STEPS_SO_FAR\n"
           "                and record.hard <= MOST_HARD_SO_FAR)")
 IDLE_IS_FIT = "if not record.busy:\n            return True"
@@ -239,7 +304,7 @@ FIT_MISREADINGS = [
     ("idle records asked their blocks", IDLE_IS_FIT, "if not record.busy:\n"
      "            return max(record.held, record.installing) < self.b"),
     ("idle records asked their steps", IDLE_IS_FIT,
-     "if not record.busy:\n            return record.steps < 17"),
+     "if not record.busy:\n            return record.steps < 21"),
     ("idle records asked their hardware swaps", IDLE_IS_FIT,
      "if not record.busy:\n            return record.hard < 4"),
     ("a third kind", "record.kind not in (READ, SWAP)",
@@ -270,8 +335,25 @@ FIT_MISREADINGS = [
      "elif record.line not in lines and record.line != 28:"),
     ("line 31", UNFIT_LINE,
      "elif record.line not in lines and record.line != 31:"),
-    ("the deciding part's line 4", UNFIT_LINE,
+    ("a read's line 4", UNFIT_LINE,
      "elif record.line not in lines and record.line != 4:"),
+    ("a read may fill", UNFIT_LINE,
+     "elif record.line not in lines | FILL_LINES:"),
+    ("a read's line 8", UNFIT_LINE,
+     "elif record.line not in lines and record.line != 8:"),
+    ("an equal swap may fill", UNFIT_LINE,
+     "elif (record.line not in lines and not\n"
+     "              (record.kind == SWAP and record.line in FILL_LINES)):"),
+    ("line 29 is still a line", "26, 27, 30))\nDECIDING",
+     "26, 27, 29, 30))\nDECIDING"),
+    ("line 29 is still a line, and it is alone",
+     "(*FILL_LINES, *range(15, 25), 26, 27, 30)",
+     "(*range(15, 25), 26, 27, 29, 30)"),
+    *(("line %d is no line" % line, "FILL_LINES = frozenset((4, 5, 6, 7, 8))",
+       "FILL_LINES = frozenset((4, 5, 6, 7, 8)) - {%d}" % line)
+      for line in (4, 5, 6, 7, 8)),
+    ("line 9 is a line", "FILL_LINES = frozenset((4, 5, 6, 7, 8))",
+     "FILL_LINES = frozenset((4, 5, 6, 7, 8, 9))"),
     ("no wanted line is asked", "if record.wanted_by not in wants:",
      "if False:"),
     ("either's wanted lines", "if record.wanted_by not in wants:",
@@ -303,17 +385,25 @@ FIT_MISREADINGS = [
      HELD.replace("if ", "if record.kind == SWAP and ")),
     ("the held block is not asked while deciding", HELD,
      HELD.replace("if ", "if record.line > 3 and ")),
-    ("the held block is not asked at 30", HELD,
-     HELD.replace("if ", "if record.line != 30 and ")),
+    *(("the held block is not asked at %d" % line, HELD,
+       HELD.replace("if ", "if record.line != %d and " % line))
+      for line in (4, 5, 6, 7, 8, 30)),
     ("the taken block is not asked",
-     "if record.has_taken_a_block and record.installing >= self.b:",
-     "if False:"),
-    ("the taken block before 30",
-     "if record.has_taken_a_block and record.installing >= self.b:",
+     TAKEN_FIT, "if False:"),
+    ("the taken block before it is taken", TAKEN_FIT,
      "if record.installing >= self.b:"),
-    ("the taken block at 29",
-     "if record.has_taken_a_block and record.installing >= self.b:",
-     "if record.line > 28 and record.installing >= self.b:"),
+    ("the taken block at 4", TAKEN_FIT,
+     TAKEN_FIT.replace("record.has", "(record.line == 4 or record.has")
+     .replace("block and", "block) and")),
+    ("the taken block at 30 alone", TAKEN_FIT,
+     TAKEN_FIT.replace("record.has_taken_a_block", "record.line == 30")),
+    ("the taken block B", TAKEN_FIT, TAKEN_FIT.replace(">=", ">")),
+    ("the taken block B - 1", TAKEN_FIT, TAKEN_FIT.replace("b:", "b - 1:")),
+    ("the taken block may be none", TAKEN_FIT,
+     TAKEN_FIT.replace(":", " and record.installing != NONE:")),
+    *(("the taken block is not asked at %d" % line, TAKEN_FIT,
+       TAKEN_FIT.replace("if ", "if record.line != %d and " % line))
+      for line in (5, 6, 7, 8, 30)),
     ("none is not asked", "if record.kind == SWAP and NONE in (",
      "if False and NONE in ("),
     ("none in a read", "if record.kind == SWAP and NONE in (",
@@ -325,8 +415,17 @@ FIT_MISREADINGS = [
      "NONE == record.expected"),
     ("none asked of new alone", "NONE in (record.expected, record.new)",
      "NONE == record.new"),
-    ("17 steps so far", SO_FAR, SO_FAR.replace("<= MOST_S", "- 1 <= MOST_S")),
-    ("15 steps so far", SO_FAR, SO_FAR.replace("<= MOST_S", "< MOST_S")),
+    ("21 steps so far", SO_FAR, SO_FAR.replace("<= MOST_S", "- 1 <= MOST_S")),
+    ("19 steps so far", SO_FAR, SO_FAR.replace("<= MOST_S", "< MOST_S")),
+    ("16 steps so far, as before", "MOST_STEPS_SO_FAR = 20",
+     "MOST_STEPS_SO_FAR = 16"),
+    ("17 steps so far", "MOST_STEPS_SO_FAR = 20", "MOST_STEPS_SO_FAR = 17"),
+    ("20 steps so far in the fill alone", SO_FAR,
+     SO_FAR.replace("MOST_STEPS_SO_FAR",
+                    "(20 if record.line in FILL_LINES | {30} else 16)")),
+    ("16 steps so far before line 30", SO_FAR,
+     SO_FAR.replace("MOST_STEPS_SO_FAR",
+                    "(20 if record.line == 30 else 16)")),
     ("4 hardware swaps", SO_FAR, SO_FAR.replace("<= MOST_H", "- 1 <= MOST_H")),
     ("2 hardware swaps", SO_FAR, SO_FAR.replace("<= MOST_H", "< MOST_H")),
     ("a read's steps are not asked", SO_FAR,
@@ -346,6 +445,66 @@ FIT_MISREADINGS = [
      "task is not None and cell is not None and not cell < self.v"),
     ("a refused begin clears the record", "            return 9\n",
      "            self.tasks[task].clear()\n            return 9\n"),
+]
+
+# The same of the fill's order and the search's, which no session and no line of
+# that input shows: each must change what a step does in one of selftest.py's
+# states.
+TO_Y, TO_C, TO_D, TO_V = ("pool[nb + Y] = 0", "pool[nb + C] = 0",
+                          "pool[nb + D] = NONE", "pool[nb + V] = record.new")
+SETS_X = "pool[WORDS * block + X] = NO_TASK"
+
+
+def lines_5_to_8(*stores):
+    """The text of lines 5 to 8 with these stores."""
+    return """            %s
+            record.line = 6
+        elif line == 6:
+            %s
+            record.line = 7
+        elif line == 7:
+            %s
+            record.line = 8
+        elif line == 8:
+            %s
+""" % stores
+
+
+FILL_5_TO_8 = lines_5_to_8(TO_Y, TO_C, TO_D, TO_V)
+FILL_MISREADINGS = [
+    ("V is stored first, at 5", FILL_5_TO_8,
+     lines_5_to_8(TO_V, TO_Y, TO_C, TO_D)),
+    ("V is stored at 4 already", SETS_X, SETS_X + "\n"
+     "                pool[WORDS * block + V] = record.new"),
+    ("V is stored before D, as the words lie", FILL_5_TO_8,
+     lines_5_to_8(TO_Y, TO_C, TO_V, TO_D)),
+    ("C is stored before Y", FILL_5_TO_8,
+     lines_5_to_8(TO_C, TO_Y, TO_D, TO_V)),
+    ("D is stored before C", FILL_5_TO_8,
+     lines_5_to_8(TO_Y, TO_D, TO_C, TO_V)),
+    ("8 stores all of them", TO_V,
+     "pool[nb:nb + WORDS] = NO_TASK, 0, 0, record.new, NONE"),
+    ("4 clears the block", SETS_X,
+     "pool[WORDS * block:WORDS * block + WORDS] = NO_TASK, 0, 0, 0, 0"),
+    ("4 leaves X", SETS_X, "pass"),
+    ("4 puts X the task", SETS_X, SETS_X.replace("NO_TASK", "task")),
+    ("5 stores X too", TO_Y, TO_Y + "\n            pool[nb + X] = 1"),
+    ("the last taken stays", "self.last_taken = block\n", "pass\n"),
+    ("the search is done anew at 5",
+     "            pool[nb + Y] = 0\n",
+     "            record.installing = self.take_unused_block()\n"
+     "            pool[WORDS * record.installing + Y] = 0\n"),
+    ("the search starts with the last taken", "range(1, self.b + 1)",
+     "range(self.b)"),
+    ("the search starts with block 0",
+     "block = (self.last_taken + onward) % self.b",
+     "block = onward - 1"),
+    ("the search goes downward",
+     "block = (self.last_taken + onward) % self.b",
+     "block = (self.last_taken - onward) % self.b"),
+    ("a block is taken before line 4", TAKEN_USED,
+     TAKEN_USED.replace("record.has", "(record.line == 4 or record.has")
+     .replace("block and", "block) and")),
 ]
 
 
@@ -413,10 +572,19 @@ def main():
         lines = {line: line for line in file.read().splitlines()}
     answers = {line: cells_cases.run(line) for line in lines}
 
+    fills = {name: selftest.fill_answers(cells, *state)
+             for name, state in selftest.FILLS.items()}
+
+    def fill_answers(edit):
+        module = edited(("cells",), "cells", *edit)["cells"]
+        return lambda state: selftest.fill_answers(module, *state)
+
     found = [(what, tellers(misread(*edit)[0], sessions, cases.prints))
              for what, *edit in MISREADINGS]
     found += [(what, tellers(misread("cells", *edit)[1], lines, answers))
               for what, *edit in FIT_MISREADINGS]
+    found += [(what, tellers(fill_answers(edit), selftest.FILLS, fills))
+              for what, *edit in FILL_MISREADINGS]
     return report(found)
 
 

@@ -47,7 +47,7 @@ class Script:
 
     def out(self, task):
         """Runs the task's call out."""
-        return self.steps(task, 17)
+        return self.steps(task, cells.MOST_STEPS)
 
     def until(self, task, line):
         """Steps the task until this line is its next."""

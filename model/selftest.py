@@ -1,5 +1,5 @@
 #!/usr/bin/env python3
-"""Self test of the model: P1 to P10, and the papers' claims on drawn lists.
+"""Self test of the model: P1 to P10, the fill, and claims on drawn lists.
 
 The drawn lists check what documents 00 and 01 say of every list: counts by
 path, the figure with a new block each time, the bounds, the promise of no
@@ -82,16 +82,16 @@ def cases_from_the_shop():
                                    (again 5 (step 1))
                                    (again 3 (step 0))
                                    (swap 0 0 9 4)
-                                   (again 9 (step 0))
+                                   (again 13 (step 0))
                                    (swap 0 0 4 6)
                                    (again 10 (step 0))"""),
           ["(done 1 swap 0 yes 12 1)", "(done 0 swap 0 no 7 1)",
-           "(done 0 swap 0 yes 9 2)", "(done 0 swap 0 yes 10 0)",
+           "(done 0 swap 0 yes 13 2)", "(done 0 swap 0 yes 10 0)",
            "(cell 0 6)", "(end 4 0 4 1000)"])
     check("P10", printed(start + """(again 5 (step 0))
-                                    (again 10 (step 1))
-                                    (again 2 (step 0))"""),
-          ["(done 1 swap 0 yes 17 3)", "(done 0 swap 0 no 9 2)",
+                                    (again 14 (step 1))
+                                    (again 6 (step 0))"""),
+          ["(done 1 swap 0 yes 21 3)", "(done 0 swap 0 no 13 2)",
            "(cell 0 9)", "(end 2 0 5 2500)"])
 
 
@@ -199,11 +199,12 @@ def unfit_states_are_refused():
         lambda m: setattr(m.tasks[0], "line", 13),
         lambda m: setattr(m.tasks[0], "line", 25),
         lambda m: setattr(m.tasks[0], "line", 28),
+        lambda m: setattr(m.tasks[0], "line", 29),
         lambda m: setattr(m.tasks[0], "line", 1),
         lambda m: setattr(m.tasks[0], "held", m.b),
         lambda m: setattr(m.tasks[0], "expected", NONE),
         lambda m: setattr(m.tasks[0], "new", NONE),
-        lambda m: setattr(m.tasks[0], "steps", 17),
+        lambda m: setattr(m.tasks[0], "steps", 21),
         lambda m: setattr(m.tasks[0], "hard", 4),
     ]
     for damage in damages:
@@ -217,13 +218,137 @@ def unfit_states_are_refused():
               (cells.Refused(6),) * 4)
 
 
+# ---------------------------------------------------- the fill's five turns
+
+# Lines 4 to 8 and 30 in states of three tasks, two cells and eight blocks,
+# whose pool holds 77 beyond the opening's two blocks.  Task 0 swaps 5 for 9 on
+# cell 0; its next line, the block it has taken, its steps so far; the last
+# block taken; task 1's next line and the block that one has taken.
+FILLS = {}
+for _line in (4, 5, 6, 7, 8, 30):
+    for _taken in (0, 5, 7, 8):
+        FILLS["at_%d_taken_%d" % (_line, _taken)] = (_line, _taken, 9, 2, 0, 0)
+for _line in (0, 4, 5, 6, 7, 8, 30):
+    FILLS["at_4_other_at_%d" % _line] = (4, 0, 9, 4, _line, 5)
+    FILLS["at_4_round_other_at_%d" % _line] = (4, 0, 9, 7, _line, 2)
+for _line in (3, 4, 5, 8, 29, 30):
+    for _steps in (16, 20, 21):
+        FILLS["at_%d_steps_%d" % (_line, _steps)] = (_line, 5, _steps, 2, 0, 0)
+
+
+def fill_state(module, line, taken, steps, last, other, other_taken):
+    model = module.open_cells(3, 2, 8, [0] * 40, [5, 6])
+    model.pool[10:] = [77] * 30
+    model.last_taken = last
+    for task, next_line, block, new in ((0, line, taken, 9),
+                                        (1, other, other_taken, 8)):
+        if next_line:
+            record = model.tasks[task]
+            record.line, record.kind = next_line, module.SWAP
+            record.wanted_by = 28 if next_line == 3 else 0
+            record.expected, record.new = 5, new
+            record.installing, record.steps = block, steps
+            record.hard = 1
+    return model
+
+
+def fill_answers(module, *state):
+    """Task 0's step in this state: its answer, the pool's words that it
+    changed, the blocks of the cells, the last taken, task 0's next line, taken
+    block and steps."""
+    model = fill_state(module, *state)
+    before = list(model.pool)
+    result = model.step(0)
+    changed = {at: word for at, word in enumerate(model.pool)
+               if word != before[at]}
+    record = model.tasks[0]
+    return (result and tuple(result), changed, list(model.current),
+            model.last_taken, record.line, record.installing, record.steps)
+
+
+def fills_by_the_papers():
+    """What each of these states answers, by document 01 and change request 2:
+    "line 4 takes the block and sets X, then one step each for Y, C, D and V".
+    """
+    words = {5: (1, 0), 6: (2, 0), 7: (4, NONE), 8: (3, 9)}
+    for name, (line, taken, steps, last, other, other_taken) in FILLS.items():
+        unchanged = ({}, [0, 1], last, line, taken, steps)
+        if line == 29 or steps > 20 or (line in (5, 6, 7, 8, 30)
+                                        and taken == 8):
+            yield name, ((6,), *unchanged)
+        elif line == 30:
+            yield name, (("swap", 0, True, steps + 1, 2), {}, [taken, 1],
+                         last, 0, 0, 0)
+        elif line == 3:
+            # task 0's held block has D none, so it was not decided as 5
+            yield name, (("swap", 0, False, steps + 1, 1), {}, [0, 1], last,
+                         0, 0, 0)
+        elif line == 4:
+            used = {0, 1} | ({other_taken} if other in (5, 6, 7, 8, 30)
+                             else set())
+            block = next(block % 8 for block in range(last + 1, last + 9)
+                         if block % 8 not in used)
+            yield name, (None, {5 * block: 255}, [0, 1], block, 5, block,
+                         steps + 1)
+        else:
+            at, word = words[line]
+            # the opening's block 0 has Y 0, C 0, D none and V 5 already
+            changed = {5 * taken + at: word}
+            if taken == 0 and line != 8:
+                changed = {}
+            yield name, (None, changed, [0, 1], last,
+                         line + 1 if line < 8 else 30, taken, steps + 1)
+
+
+def every_block_is_used():
+    """"By counting, one is always unused": in the fullest fit states the one
+    that is left is found, wherever it is.  Where none is, which no fit state
+    has, line 4 stores nothing and the taken block is none."""
+    for n, v in ((1, 1), (2, 1), (3, 2), (32, 16)):
+        b = cells.least_blocks(n, v)
+        for left in {0, 1, v, b // 2, b - 1}:
+            model = cells.open_cells(n, v, b, [7] * (5 * b), [5] * v)
+            blocks = [block for block in range(b) if block != left]
+            model.current = [blocks.pop() for _ in range(v)]
+            for task, record in enumerate(model.tasks):
+                record.kind, record.expected, record.new = cells.SWAP, 5, 6
+                record.held = blocks.pop()
+                record.line = (5, 6, 7, 8, 30)[task % 5] if task else 4
+                if task:
+                    record.installing = blocks.pop()
+            check("all but one are used", (blocks, model.is_fit()), ([], True))
+            check("one is left", (model.step(0), model.tasks[0].installing,
+                                  model.last_taken, model.is_fit()),
+                  (None, left, left, True))
+    for n, v, b in ((1, 1, 1), (2, 1, 4)):
+        model = cells.open_cells(2, 1, 5, [7] * 25, [5])
+        model.n, model.b, model.ask_fit = n, b, False
+        del model.tasks[n:], model.pool[5 * b:]
+        for task, record in enumerate(model.tasks):
+            record.kind, record.expected, record.new = cells.SWAP, 5, 6
+            record.held, record.installing = 2 * task, 3
+            record.line = 5 if task else 4
+        if b > 1:
+            model.tasks[0].held = 1
+        before = list(model.pool), model.last_taken
+        check("fit", model.is_fit(), False)
+        check("none is unused", (model.step(0), model.pool, model.last_taken,
+                                 model.tasks[0].line,
+                                 model.tasks[0].installing,
+                                 model.tasks[0].steps),
+              (None, *before, 5, NONE, 1))
+        model.ask_fit = True
+        check("refused", model.step(0), cells.Refused(6))
+
+
 # --------------------------------------------------------- the drawn lists
 
 class NewBlockEachTime(cells.Cells):
     """The figure itself: "with a new block each time"."""
 
     def take_unused_block(self):
-        self.pool.extend([0] * cells.WORDS)
+        # what a new block holds is seen by nobody
+        self.pool.extend([77] * cells.WORDS)
         return len(self.pool) // cells.WORDS - 1
 
 
@@ -323,6 +448,7 @@ def can_be_told(calls, start):
 
 def drawn_lists(count):
     seen = session.Trace()
+    halted = set()
     drawn = draw.Draw(2003)
     for number in range(count):
         n = drawn.pick((2, 2, 3, 3, 4, 6))
@@ -352,6 +478,7 @@ def drawn_lists(count):
                   (cells.PATHS[path][0], cells.PATHS[path][3]))
         seen.paths.update(trace.paths)
         seen.refusals.update(trace.refusals)
+        halted.update(line for line, _ in trace.next_lines)
         check(name + "question 6", trace.refusals[6], 0)
 
         model = cells.open_cells(n, v, b, [9] * (5 * b), values)
@@ -364,6 +491,9 @@ def drawn_lists(count):
                 [c for c in calls if c.cell == cell], values[cell]), True)
     missing = set(cells.PATHS) - {cells.UNREACHED} - set(seen.paths)
     check("paths not come by", missing, set())
+    if count >= 400:
+        check("lines of the fill that none halted at",
+              (cells.FILL_LINES | {30}) - halted, set())
     check(cells.UNREACHED, seen.paths[cells.UNREACHED], 0)
     return sum(seen.paths.values())
 
@@ -401,6 +531,10 @@ def main():
     tellings_are_judged()
     every_refusal_changes_nothing()
     unfit_states_are_refused()
+    check("the fill's states", {name: fill_answers(cells, *state)
+                                for name, state in FILLS.items()},
+          {name: answers for name, answers in fills_by_the_papers()})
+    every_block_is_used()
     count = int(sys.argv[1]) if len(sys.argv) > 1 else 400
     calls = drawn_lists(count)
     print("selftest: P1 to P10 and %d drawn lists with %d calls agree"

@@ -58,19 +58,23 @@ impl Record {
                 _ => false,
             },
             10..=12 => reads,
-            15..=24 | 26 | 27 | 29 | 30 => swaps,
+            4..=8 | 15..=24 | 26 | 27 | 30 => swaps,
             _ => false,
         };
         line && self.cell < cells
             && (self.line == 10 || self.line == 15 || self.held < blocks)
-            && (self.line != 30 || self.taken < blocks)
+            && (!self.has_taken() || self.taken < blocks)
             && (self.kind == 1 || self.expected != NONE && self.new != NONE)
-            && self.steps <= 16
+            && self.steps <= 20
             && self.hard <= 3
     }
 
+    fn has_taken(&self) -> bool {
+        matches!(self.line, 5..=8 | 30)
+    }
+
     fn uses(&self, b: u32) -> bool {
-        self.line != 0 && (self.line != 10 && self.line != 15 && self.held == b || self.line == 30 && self.taken == b)
+        self.line != 0 && (self.line != 10 && self.line != 15 && self.held == b || self.has_taken() && self.taken == b)
     }
 }
 
@@ -145,6 +149,7 @@ impl State {
         }
         r.steps += 1;
         let at = 5 * r.held as usize;
+        let to = 5 * r.taken as usize;
         let mut ended = None;
         let read = |r: &Record, v: u32| match r.kind {
             2 if v == r.expected => Answer::Yes,
@@ -166,10 +171,20 @@ impl State {
                     13 => ended = Some(read(&r, d)),
                     25 if d == r.new => ended = Some(Answer::Yes),
                     25 => (r.line, r.wanted) = (1, 28),
-                    _ if d == r.expected => r.line = 29,
+                    _ if d == r.expected => r.line = 4,
                     _ => ended = Some(Answer::No),
                 }
             }
+            4 => {
+                let b = self.unused();
+                pool[5 * b as usize + X] = 255;
+                self.last = b;
+                (r.taken, r.line) = (b, 5);
+            }
+            5 => (pool[to + Y], r.line) = (0, 6),
+            6 => (pool[to + C], r.line) = (0, 7),
+            7 => (pool[to + D], r.line) = (NONE, 8),
+            8 => (pool[to + V], r.line) = (r.new, 30),
             10 | 15 => (r.held, r.line) = (self.current[r.cell as usize], r.line + 1),
             11 | 20 => (r.loaded, r.line) = (pool[at + V], r.line + 1),
             12 if pool[at + C] == 0 => ended = Some(read(&r, r.loaded)),
@@ -199,12 +214,6 @@ impl State {
             27 => {
                 pool[at + C] = 1;
                 (r.line, r.wanted) = (1, 28);
-            }
-            29 => {
-                let b = self.unused();
-                pool[5 * b as usize..5 * b as usize + 5].copy_from_slice(&[255, 0, 0, r.new, NONE]);
-                self.last = b;
-                (r.taken, r.line) = (b, 30);
             }
             _ => {
                 r.hard += 1;

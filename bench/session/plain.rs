@@ -3,6 +3,8 @@
 use std::io::{self, Read, Write};
 
 const NONE: u32 = u32::MAX;
+// X where no task has written it.
+const NO_TASK: u32 = 255;
 const MOST_BYTES: usize = 65_536;
 const MOST_DEPTH: u32 = 8;
 const MOST_ACTIONS: u64 = 65_535;
@@ -232,6 +234,10 @@ impl Record {
         !matches!(self.line, 0 | 10 | 15)
     }
 
+    fn has_taken(&self) -> bool {
+        matches!(self.line, 5..=8 | 30)
+    }
+
     fn read_line_fits(&self) -> bool {
         match self.line {
             1..=3 => self.wanted == 13,
@@ -242,7 +248,7 @@ impl Record {
     fn swap_line_fits(&self) -> bool {
         match self.line {
             1..=3 => self.wanted == 28 || self.wanted == 25,
-            line => matches!(line, 15..=24 | 26 | 27 | 29 | 30),
+            line => matches!(line, 4..=8 | 15..=24 | 26 | 27 | 30),
         }
     }
 
@@ -258,11 +264,11 @@ impl Record {
     // An idle record leaves first; of two tests, the one that mostly decides stands first.
     fn fits(&self, cells: u32, blocks: u32) -> bool {
         self.line == 0
-            || self.steps <= 16
+            || self.steps <= 20
                 && self.hard <= 3
                 && self.cell < cells
                 && (self.held < blocks || !self.holds())
-                && (self.taken < blocks || self.line != 30)
+                && (self.taken < blocks || !self.has_taken())
                 && self.call_fits()
     }
 
@@ -286,12 +292,22 @@ impl Record {
             25 if decided == self.new => return Some(Answer::Yes),
             25 => self.want_decision(28),
             _ if decided != self.expected => return Some(Answer::No),
-            _ => self.line = 29,
+            _ => self.line = 4,
         }
         None
     }
 
-    // A line on the held block: all but 10, 15, 29 and 30.
+    // A line on the taken block.
+    fn fill_line(&mut self, block: &mut Block) {
+        match self.line {
+            5 => (block.y, self.line) = (0, 6),
+            6 => (block.c, self.line) = (0, 7),
+            7 => (block.d, self.line) = (NONE, 8),
+            _ => (block.v, self.line) = (self.new, 30),
+        }
+    }
+
+    // A line on the held block: all but 4 to 8, 10, 15 and 30.
     fn do_line(&mut self, task: u32, block: &mut Block) -> Option<Answer> {
         match self.line {
             1 | 11 | 20 => (self.loaded, self.line) = (block.v, self.line + 1),
@@ -329,7 +345,7 @@ impl Record {
 
 impl Block {
     fn fresh(value: u32) -> Block {
-        Block { x: 255, y: 0, c: 0, v: value, d: NONE }
+        Block { x: NO_TASK, y: 0, c: 0, v: value, d: NONE }
     }
 
     fn shown(&self) -> u32 {
@@ -395,7 +411,7 @@ impl Cells {
             if record.holds() {
                 used[record.held as usize] = true;
             }
-            if record.line == 30 {
+            if record.has_taken() {
                 used[record.taken as usize] = true;
             }
         }
@@ -409,13 +425,13 @@ impl Cells {
         record.steps += 1;
         match record.line {
             10 | 15 => (record.held, record.line) = (*current, record.line + 1),
-            29 => {
-                let fresh = Block::fresh(record.new);
+            4 => {
                 self.last = self.unused_block();
-                self.pool[self.last as usize] = fresh;
+                self.pool[self.last as usize].x = NO_TASK;
                 let record = &mut self.records[task as usize];
-                (record.taken, record.line) = (self.last, 30);
+                (record.taken, record.line) = (self.last, 5);
             }
+            5..=8 => record.fill_line(&mut self.pool[record.taken as usize]),
             30 => {
                 record.hard += 1;
                 if *current != record.held {

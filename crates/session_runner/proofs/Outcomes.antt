@@ -38,7 +38,7 @@ module _ (t : ℕ) where
   ended m l r x (goes f) h i j k = tt
   ended m l r x (ends f) h i j k = (h, i, j, k)
 
-  turns : (p : List ℕ) (r : Record) (c l : ℕ) (f : Option ℕ) → lineFit r ≡ true → t < 100 → r .cell < 100 → r .steps ≤ 16 → r .hard ≤ 3 → Small t (eventOf 0 (turn p t r c l f .outcome))
+  turns : (p : List ℕ) (r : Record) (c l : ℕ) (f : Option ℕ) → lineFit r ≡ true → t < 100 → r .cell < 100 → r .steps ≤ 20 → r .hard ≤ 3 → Small t (eventOf 0 (turn p t r c l f .outcome))
   turns p r c l f e h i j k =
       let m = performed p c l f (accessOf t r) in
       let q = counted r (accessOf t r) in

@@ -150,8 +150,8 @@ pub fn play(
         let t = slot(task, s.tasks);
         let r = s.records[t];
         let k = slot(r.cell, s.cells);
-        // Only line 29 asks for a block.
-        let free = if r.line == 29 {
+        // Only line 4 asks for a block.
+        let free = if r.line == 4 {
             unused_block(s)
         } else {
             Found::Nowhere

@@ -41,9 +41,9 @@ prints :
     -- P8
     ("(open 2 1 5 (5))\n(read 2 1)\n(swap 2 1 5 7)\n", "(no 0 7)\n(no 1 7)\n(cell 0 5)\n(end 0 0 0 0)\n") ∷
     -- P9
-    ("(open 2 1 5 (5))\n(swap 0 0 5 7)\n(swap 1 0 5 9)\n(again 2 (step 0))\n(again 7 (step 1))\n(again 2 (step 0))\n(again 5 (step 1))\n(again 3 (step 0))\n(swap 0 0 9 4)\n(again 9 (step 0))\n(swap 0 0 4 6)\n(again 10 (step 0))\n", "(done 1 swap 0 yes 12 1)\n(done 0 swap 0 no 7 1)\n(done 0 swap 0 yes 9 2)\n(done 0 swap 0 yes 10 0)\n(cell 0 6)\n(end 4 0 4 1000)\n") ∷
+    ("(open 2 1 5 (5))\n(swap 0 0 5 7)\n(swap 1 0 5 9)\n(again 2 (step 0))\n(again 7 (step 1))\n(again 2 (step 0))\n(again 5 (step 1))\n(again 3 (step 0))\n(swap 0 0 9 4)\n(again 13 (step 0))\n(swap 0 0 4 6)\n(again 10 (step 0))\n", "(done 1 swap 0 yes 12 1)\n(done 0 swap 0 no 7 1)\n(done 0 swap 0 yes 13 2)\n(done 0 swap 0 yes 10 0)\n(cell 0 6)\n(end 4 0 4 1000)\n") ∷
     -- P10
-    ("(open 2 1 5 (5))\n(swap 0 0 5 7)\n(swap 1 0 5 9)\n(again 2 (step 0))\n(again 7 (step 1))\n(again 5 (step 0))\n(again 10 (step 1))\n(again 2 (step 0))\n", "(done 1 swap 0 yes 17 3)\n(done 0 swap 0 no 9 2)\n(cell 0 9)\n(end 2 0 5 2500)\n") ∷
+    ("(open 2 1 5 (5))\n(swap 0 0 5 7)\n(swap 1 0 5 9)\n(again 2 (step 0))\n(again 7 (step 1))\n(again 5 (step 0))\n(again 14 (step 1))\n(again 6 (step 0))\n", "(done 1 swap 0 yes 21 3)\n(done 0 swap 0 no 13 2)\n(cell 0 9)\n(end 2 0 5 2500)\n") ∷
     -- a file that is none, a refused action and an unfinished call
     ("(open 2 1 5 (5))", "(bad 13)\n") ∷
     ("(open 2 1 5 (5))\n(read 1 0)\n(step 0)\n(step 1)\n", "(no 1 11)\n(cell 0 5)\n(end 0 1 0 0)\n") ∷
