@@ -1,4 +1,4 @@
--- Document 01's P5, P6, P9 and P10, run in the figure with a new block each time: the events that its calls end with.
+-- Document 01's P5, P6, P9 and P10, and a task that halts while it fills a block, run in the figure with a new block each time: the events that its calls end with.
 use mathlib.Core.Path.{_≡_, refl}
 use mathlib.Core.List.{List, [], _∷_, _++_}
 use Prim.Native.Nat.{ℕ}
@@ -48,3 +48,8 @@ p9 = refl
 pub p10 : five (meeting ++ steps 5 0 ++ steps 14 1 ++ steps 6 0) ≡ swapped 1 Yes 21 3 ∷ swapped 1 No 13 2 ∷ []
 unfolding upd figureRan figureStepped figureBegun
 p10 = refl
+
+-- as P10, but task 1 halts between lines 6 and 7, its new block half filled: task 0 replaces the block, swaps again alone, and finishes
+pub halted-filling : five (meeting ++ steps 5 0 ++ steps 11 1 ++ steps 6 0 ++ alone (swap 0 7 4) 10) ≡ swapped 1 Yes 13 2 ∷ swapped 0 Yes 10 0 ∷ []
+unfolding upd figureRan figureStepped figureBegun
+halted-filling = refl
