@@ -507,6 +507,16 @@ fn put_done(out: &mut Vec<u8>, f: &Finished) {
     }
 }
 
+// To the nearest whole number, an exact half to the even neighbour.
+fn rate(hard: u64, finished: u64) -> u64 {
+    if finished == 0 {
+        return 0;
+    }
+    let (whole, rest) = (hard * 1000 / finished, hard * 1000 % finished);
+    let up = 2 * rest > finished || 2 * rest == finished && whole % 2 == 1;
+    whole + u64::from(up)
+}
+
 fn put_end(out: &mut Vec<u8>, cells: &Cells, finished: u64, hard: u64) {
     for k in 0..cells.cells {
         if let Ok(value) = cells.look(k) {
@@ -514,8 +524,7 @@ fn put_end(out: &mut Vec<u8>, cells: &Cells, finished: u64, hard: u64) {
         }
     }
     let unfinished = cells.records.iter().filter(|record| record.line != 0).count() as u64;
-    let rate = (hard * 1000).checked_div(finished).unwrap_or(0);
-    put_line(out, b"(end", &[finished, unfinished, hard, rate]);
+    put_line(out, b"(end", &[finished, unfinished, hard, rate(hard, finished)]);
 }
 
 fn play(out: &mut Vec<u8>, opening: &Opening, forms: &[Action], actions: &[u16]) -> Result<(), u32> {

@@ -5,3 +5,4 @@ mod Acting
 mod Playing
 pub mod Turning
 pub mod Outcomes
+pub mod Counting

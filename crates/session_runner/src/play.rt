@@ -22,11 +22,12 @@ ghost use Rattle.cells.specs.Events.{eventOf};
 ghost use Rattle.session_text.specs.Lines.{eventLine, Small};
 ghost use Rattle.session_text.specs.Printed.{addEvent, lookLine, cellLines, pendingTasks, endText, played};
 ghost use Rattle.session_runner.specs.Actions.{totalsOf};
+ghost use Rattle.session_runner.specs.Loop.{Few};
 
 // Finished calls, and their hardware CAS attempts.
 pub struct Tally {
-    pub finished: u64,
-    pub hard: u64,
+    pub finished: u32,
+    pub hard: u32,
 }
 
 // The action's line, where it has one.
@@ -42,18 +43,18 @@ fn report(out: &mut [u8], at: usize, i: u32, task: u32, outcome: Outcome) -> usi
     }
 }
 
-// At most 65,535 calls, each of a 32-bit count: no sum wraps.
+// At most 65,535 calls, each of fewer than 100 hardware CAS attempts: no sum wraps.
 fn count(z: Tally, outcome: Outcome) -> Tally
-    requires { ⌜ (z .finished ≤ 65535) × (z .hard ≤ 65535 * 4294967295) ⌝ }
+    requires { ⌜ (z .finished ≤ 65535) × (z .hard ≤ 65535 * 100) × Few (eventOf 0 (said outcome)) ⌝ }
     ensures { λ r. ⌜ totalsOf r ≡ addEvent (totalsOf z) (eventOf 0 (said outcome)) ⌝ }
-    ensures { λ r. ⌜ (r .finished ≤ z .finished + 1) × (r .hard ≤ z .hard + 4294967295) ⌝ }
+    ensures { λ r. ⌜ (r .finished ≤ z .finished + 1) × (r .hard ≤ z .hard + 100) ⌝ }
 {
     match outcome {
         Outcome::Refused(_) => z,
         Outcome::Acted => z,
         Outcome::Ended(f) => Tally {
             finished: z.finished + 1,
-            hard: z.hard + printing::wide(f.hard),
+            hard: z.hard + f.hard,
         },
     }
 }
@@ -112,7 +113,6 @@ fn finish(
 ) -> usize
     requires { ⌜ (tasks ≤ 32) × (cells ≤ 16) ⌝ }
     requires { ⌜ at + 2000 ≤ length (now out) ⌝ }
-    requires { ⌜ z .hard ≤ 65535 * 4294967295 ⌝ }
     ensures { λ r. ⌜ Appended (now (out .entry)) (now (out .exit)) at r (endText tasks cells (totalsOf z) s (now (pool .entry))) ⌝ }
 {
     let a = put_cells(out, at, s, pool, cells);

@@ -2,16 +2,17 @@
 // the line of an action takes at most 36.
 ghost use mathlib.Core.Path.{_≡_};
 ghost use mathlib.Core.List.{[], _∷_};
-ghost use Prim.Native.Nat.{_+_, _*_, _≤_};
+ghost use Prim.Native.Nat.{_+_, _≤_};
 ghost use lib.ListN.{length};
 ghost use Rattle.lines.specs.Answers.{answerOf, result};
 ghost use Rattle.cells.specs.Answers.{Ended};
 ghost use Rattle.cells.specs.Events.{kindAt, reportOf, eventOf};
 ghost use Rattle.text.specs.Append.{Appended};
 ghost use Rattle.text.specs.Bytes.{decimal};
-ghost use Rattle.session_text.specs.Lines.{line, numbers as «numbersOf», badLine, noLine, cellLine, kindWord, answerWord, doneStart, doneLine, rate as «rateOf», endLine, Small};
+ghost use Rattle.session_text.specs.Lines.{line, numbers as «numbersOf», badLine, noLine, cellLine, kindWord, answerWord, doneStart, doneLine, endLine, Small};
 use lines::Answer;
 use lines::Finished;
+use rate::lisqotay_rate;
 
 pub fn wide(x: u32) -> u64
     ensures { λ r. ⌜ (r ≡ x) × (r ≤ 4294967295) ⌝ }
@@ -131,25 +132,15 @@ pub fn put_done(out: &mut [u8], at: usize, task: u32, f: Finished) -> usize
     text::put(out, b, b")\n")
 }
 
-fn rate(hard: u64, finished: u64) -> u64
-    requires { ⌜ hard * 1000 ≤ 18446744073709551615 ⌝ }
-    ensures { λ r. ⌜ r ≡ «rateOf» hard finished ⌝ }
-{
-    if finished == 0 {
-        return 0;
-    }
-    hard * 1000 / finished
-}
-
-pub fn put_end(out: &mut [u8], at: usize, finished: u64, unfinished: u64, hard: u64) -> usize
+pub fn put_end(out: &mut [u8], at: usize, finished: u32, unfinished: u64, hard: u32) -> usize
     requires { ⌜ at + 90 ≤ length (now out) ⌝ }
-    requires { ⌜ hard * 1000 ≤ 18446744073709551615 ⌝ }
     ensures { λ r. ⌜ Appended (now (out .entry)) (now (out .exit)) at r (endLine finished unfinished hard) ⌝ }
 {
+    let rate = lisqotay_rate(hard, finished);
     put_line(
         out,
         at,
         b"(end",
-        &[finished, unfinished, hard, rate(hard, finished)],
+        &[wide(finished), unfinished, wide(hard), rate],
     )
 }

@@ -4,6 +4,7 @@ use mathlib.Core.List.{List, [], _∷_}
 use Prim.Native.String.{String}
 use Rattle.text.specs.Bytes.{bytes, digits}
 use Rattle.text.specs.Readers.{word, digitsAfter, number}
+use Rattle.rate.specs.Rate.{rate}
 use Rattle.questions.specs.Questions.{fit, recordFit, cellsFit, recordsFit, hasNone, openQuestions}
 use Rattle.blocks.specs.Blocks.{isCurrent, usedByTask, used, unused}
 use Rattle.cells.specs.Open.{opened}
@@ -44,10 +45,12 @@ prints :
     ("(open 2 1 5 (5))\n(swap 0 0 5 7)\n(swap 1 0 5 9)\n(again 2 (step 0))\n(again 7 (step 1))\n(again 2 (step 0))\n(again 5 (step 1))\n(again 3 (step 0))\n(swap 0 0 9 4)\n(again 13 (step 0))\n(swap 0 0 4 6)\n(again 10 (step 0))\n", "(done 1 swap 0 yes 12 1)\n(done 0 swap 0 no 7 1)\n(done 0 swap 0 yes 13 2)\n(done 0 swap 0 yes 10 0)\n(cell 0 6)\n(end 4 0 4 1000)\n") ∷
     -- P10
     ("(open 2 1 5 (5))\n(swap 0 0 5 7)\n(swap 1 0 5 9)\n(again 2 (step 0))\n(again 7 (step 1))\n(again 5 (step 0))\n(again 14 (step 1))\n(again 6 (step 0))\n", "(done 1 swap 0 yes 21 3)\n(done 0 swap 0 no 13 2)\n(cell 0 9)\n(end 2 0 5 2500)\n") ∷
+    -- P10 and a read: a rate that is rounded up
+    ("(open 2 1 5 (5))\n(swap 0 0 5 7)\n(swap 1 0 5 9)\n(again 2 (step 0))\n(again 7 (step 1))\n(again 5 (step 0))\n(again 14 (step 1))\n(again 6 (step 0))\n(read 0 0)\n(again 3 (step 0))\n", "(done 1 swap 0 yes 21 3)\n(done 0 swap 0 no 13 2)\n(done 0 read 0 9 3 0)\n(cell 0 9)\n(end 3 0 5 1667)\n") ∷
     -- a file that is none, a refused action and an unfinished call
     ("(open 2 1 5 (5))", "(bad 13)\n") ∷
     ("(open 2 1 5 (5))\n(read 1 0)\n(step 0)\n(step 1)\n", "(no 1 11)\n(cell 0 5)\n(end 0 1 0 0)\n") ∷
     []
     )
-unfolding digits word digitsAfter number fit recordFit cellsFit recordsFit hasNone openQuestions isCurrent usedByTask used unused opened readBegun swapBegun ran stepped looked fits deeper shapedAfter reader.numbers reader.manyWithin reader.values reader.opening reader.keyword reader.head reader.body reader.form reader.line reader.count reader.times reader.actions reader.asked14 reader.formed reader.verdict numbers doneStart eventLine eventLines cellLines pendingTasks endText played afterOpen printed reader.asked15
-prints = (refl, (refl, (refl, (refl, (refl, (refl, (refl, (refl, (refl, (refl, (refl, (refl, (refl, (refl, (refl, tt)))))))))))))))
+unfolding digits rate word digitsAfter number fit recordFit cellsFit recordsFit hasNone openQuestions isCurrent usedByTask used unused opened readBegun swapBegun ran stepped looked fits deeper shapedAfter reader.numbers reader.manyWithin reader.values reader.opening reader.keyword reader.head reader.body reader.form reader.line reader.count reader.times reader.actions reader.asked14 reader.formed reader.verdict numbers doneStart eventLine eventLines cellLines pendingTasks endText played afterOpen printed reader.asked15
+prints = (refl, (refl, (refl, (refl, (refl, (refl, (refl, (refl, (refl, (refl, (refl, (refl, (refl, (refl, (refl, (refl, tt))))))))))))))))

@@ -1,9 +1,8 @@
 -- The lines that a session prints, after document 01's "Sessions in brackets".
-use mathlib.Core.Bool.{cond}
 use mathlib.Core.List.{List, [], _∷_, _++_}
-use Prim.Native.Nat.{ℕ, _*_, _/_, _<_}
-use lib.Dec.{eqb}
+use Prim.Native.Nat.{ℕ, _<_}
 use Rattle.text.specs.Bytes.{bytes, decimal}
+use Rattle.rate.specs.Rate.{rate}
 use Rattle.history.specs.History.{Kind, aRead, aSwap, Response, Value, Yes, No, Report, Event, refused, accepted, answered}
 
 -- numbers, each after a space
@@ -45,10 +44,6 @@ unfoldable pub eventLine : (i t : ℕ) → Event → List ℕ
 eventLine i t (refused n) = noLine i n
 eventLine i t (accepted x) = []
 eventLine i t (answered x r) = doneLine t r
-
--- hardware CAS attempts for each thousand calls
-abbrev pub rate : (hard finished : ℕ) → ℕ
-rate h f = cond (eqb f 0) 0 (h * 1000 / f)
 
 abbrev pub endLine : (finished unfinished hard : ℕ) → List ℕ
 endLine f u h = line (bytes "(end") (f ∷ u ∷ h ∷ rate h f ∷ [])

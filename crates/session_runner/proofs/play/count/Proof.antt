@@ -3,6 +3,12 @@ use borrow.Author.Needs.{needs}
 use Rattle.session_runner.proofs.play.count.Statement.{statement}
 use Rattle.session_runner.proofs.play.count.Tie as tie
 
+add-t6 : tie.Need-add-t6
+add-t6 c =
+    let p = c .before .before .before .before .before .before .pre in
+    let few = rw (c .before .before .before .before .outcome .given .1) at (p .2) in
+    record { fits = omega (arith, p .1, few) }
+
 returns : tie.Need-returns
 returns c = (rw (c .enum-told .given .1), (search needs, search needs))
 
@@ -10,7 +16,10 @@ returns-2 : tie.Need-returns-2
 returns-2 c = (rw (c .enum-told2 .given .1), (search needs, search needs))
 
 returns-3 : tie.Need-returns-3
-returns-3 c = let w = c .before .wide in (rw (c .before .before .before .before .outcome .given .1, w .ensures .0), (search needs, omega (arith, w .ensures)))
+returns-3 c =
+    let ended = c .before .before .before .before .outcome .given .1 in
+    let few = rw ended at (c .before .before .before .before .before .before .pre .2) in
+    (rw ended, (search needs, omega (arith, few)))
 
 pub count-spec : {M : Type 1} → statement M
 count-spec =
@@ -20,8 +29,7 @@ count-spec =
     (λ c. search needs)
     (λ c. search needs)
     (λ c. search needs)
-    (λ c κs. search needs)
-    (λ c. search needs)
+    add-t6
     returns
     returns-2
     returns-3)

@@ -11,7 +11,7 @@ use Rattle.cells.proofs.Stepping.{Free}
 use Rattle.refinement.specs.Reached.{Reached}
 use Rattle.session_reader.specs.Reading.{actAt}
 use Rattle.session_text.specs.Printed.{played}
-use Rattle.session_runner.specs.Loop.{playedOn}
+use Rattle.session_runner.specs.Loop.{playedOn, Few}
 use Rattle.session_runner.specs.Actions.{actOf, totalsOf}
 use Rattle.session_runner.proofs.Toward.{Toward, toward-start, toward-more, toward-last}
 use Rattle.session_runner.proofs.Playing.{one-action, no-action}
@@ -19,12 +19,13 @@ use Rattle.cells.specs.Open.{After}
 use Rattle.cells.specs.Events.{eventOf}
 use Rattle.session_text.specs.Lines.{Small}
 use Rattle.session_runner.proofs.Outcomes.{small}
+use Rattle.session_runner.proofs.Counting.{few}
 use Rattle.session_runner.proofs.Turning.{task-below, cell-below, reached-small, finds-unused, reached-then, is-prepared, is-done}
 use Rattle.session_runner.proofs.play.play.Statement.{statement}
 use Rattle.session_runner.proofs.play.play.Tie as tie
 
 abbrev Inv-loop : tie.InvT-loop
-Inv-loop out₀ tasks cells pool₀ forms kept i₀ at₀ s₀ z₀ out pool i at s z = Toward out₀ out 0 at (playedOn tasks cells i (totalsOf z) (s, pool) (drop i (map (actAt forms) kept))) (played tasks cells (s₀, pool₀) (map (actAt forms) kept)) × (i ≤ length kept) × (at ≤ 36 * i) × (z .finished ≤ i) × (z .hard ≤ i * 4294967295) × (length pool ≡ length pool₀) × Reached tasks cells s pool
+Inv-loop out₀ tasks cells pool₀ forms kept i₀ at₀ s₀ z₀ out pool i at s z = Toward out₀ out 0 at (playedOn tasks cells i (totalsOf z) (s, pool) (drop i (map (actAt forms) kept))) (played tasks cells (s₀, pool₀) (map (actAt forms) kept)) × (i ≤ length kept) × (at ≤ 36 * i) × (z .finished ≤ i) × (z .hard ≤ i * 100) × (length pool ≡ length pool₀) × Reached tasks cells s pool
 
 abbrev μ-loop : tie.MeasureT-loop
 μ-loop out₀ tasks cells pool₀ forms kept i₀ at₀ s₀ z₀ out pool i at s z = length kept - i
@@ -74,7 +75,13 @@ report-requires : tie.Need-report-requires Inv-loop μ-loop
 report-requires c κs = let l = c .before .before .before .before .before .before .before .before .before .before .before .before .before .before .before .before .loop in omega (arith, l .inv .0 .same, l .inv .2, c .before .before .before .before .before .before .before .before .before .before .before .before .before .before .before .loop-test .taken, c .before .before .before .before .before .before .before .before .before .before .before .before .before .before .before .before .before .before .before .before .before .pre .1 .0, c .before .before .before .before .before .before .before .before .before .before .before .before .before .before .before .before .before .before .before .before .before .pre .1 .1 .1)
 
 count-requires : tie.Need-count-requires Inv-loop μ-loop
-count-requires c κs = let l = c .before .before .before .before .before .before .before .before .before .before .before .before .before .before .before .before .before .before .before .loop in (omega (arith, l .inv .3, c .before .before .before .before .before .before .before .before .before .before .before .before .before .before .before .before .before .before .loop-test .taken, c .before .before .before .before .before .before .before .before .before .before .before .before .before .before .before .before .before .before .before .before .before .before .before .before .pre .1 .0), omega (arith, l .inv .4, c .before .before .before .before .before .before .before .before .before .before .before .before .before .before .before .before .before .before .loop-test .taken, c .before .before .before .before .before .before .before .before .before .before .before .before .before .before .before .before .before .before .before .before .before .before .before .before .pre .1 .0))
+count-requires c κs =
+    let l = c .before .before .before .before .before .before .before .before .before .before .before .before .before .before .before .before .before .before .before .loop in
+    let x = actOf (c .before .before .before .before .before .before .before .before .before .before .before .before .before .before .before .before .action-at .result) in
+    let h = c .before .before .before .before .before .before .before .before .before .before .before .before .before .before .before .before .before .before .loop-test .taken in
+    let m = c .before .before .before .before .before .before .before .before .before .before .before .before .before .before .before .before .before .before .before .before .before .before .before .before .pre .1 .0 in
+    let d = is-done (l .inv .6) x (c .before .before .before .before .before .before .before .before .before .before .before .before .before .before .slot .result) (c .before .before .before .before .before .before .before .before .before .before .before .before .slot2 .result) (c .before .before .before .before .before .before .before .before .before .before .before .before .before .before .before .task-of .result) (foundOf (c .before .before .before .before .before .before .before .before .before .before .if1 .free)) (c .before .before .before .before .before .before .before .before .before .before .before .before .before .before .before .task-of .ensures) (c .before .before .before .before .before .before .before .before .before .before .before .before .before .before .slot .ensures) (c .before .before .before .before .before .before .before .before .before .before .before .before .slot2 .ensures) (free (c .before .before .before .before .before .before .before .before .before .before)) (c .before .before .before .before .before .before .before .act .ensures) in
+    (omega (arith, l .inv .3, h, m), omega (arith, l .inv .4, h, m), subst (λ (y : After). Few (eventOf 0 (y .outcome))) (sym d) (few l.s l.pool x))
 
 add-i : tie.Need-add-i Inv-loop μ-loop
 add-i c = record { fits = omega (arith, c .before .before .before .before .before .before .before .before .before .before .before .before .before .before .before .before .before .before .before .loop-test .taken, c .before .before .before .before .before .before .before .before .before .before .before .before .before .before .before .before .before .before .before .before .before .before .before .before .before .pre .1 .0) }
@@ -94,7 +101,7 @@ loop-again c =
     (toward-more (l .inv .0) (r .0) (search needs) (one-action a.tasks a.cells (actAt a.forms.now) a.kept.now l.i (totalsOf l.z) l.s l.pool h (c .before .before .before .before .before .before .before .before .before .before .before .before .before .before .before .before .before .action-at .ensures) d (c .before .before .before .before .before .before .before .before .before .before .before .before .before .before .before .before .task-of .ensures) (k .0)), omega (arith, h), omega (arith, l .inv .2, r .1 (subst (λ (y : After). Small (c .before .before .before .before .before .before .before .before .before .before .before .before .before .before .before .before .task-of .result) (eventOf 0 (y .outcome))) (sym d) (rw (c .before .before .before .before .before .before .before .before .before .before .before .before .before .before .before .before .task-of .ensures) (small l.s l.pool x)))), omega (arith, l .inv .3, k .1 .0), omega (arith, l .inv .4, k .1 .1), search needs, reached-then (l .inv .6) x d)
 
 finish-requires : tie.Need-finish-requires Inv-loop μ-loop
-finish-requires c κs = let l = c .before .before .before .loop in (reached-small (l .inv .6), (omega (arith, l .inv .0 .same, l .inv .2, l .inv .1, c .before .before .before .before .before .before .before .before .pre .1 .0, c .before .before .before .before .before .before .before .before .pre .1 .1 .1), omega (arith, l .inv .4, l .inv .1, c .before .before .before .before .before .before .before .before .pre .1 .0)))
+finish-requires c κs = let l = c .before .before .before .loop in (reached-small (l .inv .6), omega (arith, l .inv .0 .same, l .inv .2, l .inv .1, c .before .before .before .before .before .before .before .before .pre .1 .0, c .before .before .before .before .before .before .before .before .pre .1 .1 .1))
 
 returns : tie.Need-returns Inv-loop μ-loop
 returns c = let l = c .before .before .before .before .before .before .loop in let a = c .before .before .before .before .before .before .before .before .before .before .before .args in toward-last (l .inv .0) (rw (no-action a.tasks a.cells (actAt a.forms.now) a.kept.now l.i (totalsOf l.z) l.s l.pool (omega arith)) (c .before .before .finish .ensures))

@@ -1,0 +1,3 @@
+pub mod Rate
+pub mod Nearest
+pub mod Examples
