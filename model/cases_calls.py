@@ -2,7 +2,7 @@
 
 import cells
 import draw
-from script import Script, contend, turn_blocks
+from script import Script, contend, counted, turn_blocks
 
 
 # ------------------------------------------------------------ table's paths
@@ -417,6 +417,46 @@ def rate_cases(cases):
         s.swap(2, 0, 9, 9).out(2).swap(2, 0, 8, 8).out(2)
     s.swap(2, 0, 9, 4).out(2).read(2, 0).out(2)
     cases.accepted("rate_reads_of_decided_then_replaced", s.lines)
+    rounded_cases(cases)
+
+
+# Hardware swaps and finished calls for which 1000 h / f is a whole and a half;
+# 1 and 3 in 2,000 are those of change request 4.
+HALVES = [(h, 16) for h in range(1, 32, 2)] + [
+    (2, 32), (6, 32), (10, 32), (46, 32), (3, 48), (9, 48), (1, 80), (3, 80),
+    (7, 80), (7, 112), (21, 112), (2, 160), (6, 160), (1, 400), (3, 400),
+    (401, 400), (403, 400), (1, 2000), (3, 2000)]
+
+
+def next_to_halves():
+    """1000 h / f is as near to a half as f lets it, from below and above."""
+    for f in (3, 7, 9, 11, 13, 17, 19, 21, 23, 27, 29, 31, 33, 18, 26, 34, 399,
+              401):
+        beside = 1 + (f % 2 == 0)
+        for off in (-beside, beside):
+            yield next((h, f) for h in range(1, f)
+                       if 2 * (1000 * h % f) == f + off)
+    # by one finished call more or less
+    yield from ((h, f) for h in (1, 3) for f in (1999, 2001))
+
+
+def rounded_cases(cases):
+    """Rates at a half and on both sides of it, each with an even and with an
+    odd whole below it."""
+    kinds = set()
+    for h, f in dict.fromkeys([*HALVES, *next_to_halves()]):
+        whole, rest = divmod(1000 * h, f)
+        kind = ("half" if 2 * rest == f else
+                "below_half" if 2 * rest < f else "above_half",
+                ("even", "odd")[whole % 2])
+        assert rest and (kind[0] == "half") == ((h, f) in HALVES), (h, f)
+        kinds.add(kind)
+        name = "rate_%s_after_%s_%d_of_%d" % (*kind, h, f)
+        cases.accepted(name, counted(h, f))
+        up = kind[0] == "above_half" or kind == ("half", "odd")
+        assert cases.prints[name].endswith(
+            b"\n(end %d 0 %d %d)\n" % (f, h, whole + up)), name
+    assert len(kinds) == 6, kinds
 
 
 def contention_cases(cases):

@@ -1,8 +1,9 @@
 #!/bin/sh
 # Makes the cases of sessions and of the once-only cells anew from the model and
 # compares them with the ones kept in crates/session_cases and crates/once_cases,
-# and likewise what crates/cells_cases prints.
-# Ends with 1, naming the first difference, if data, args or a stdout differ.
+# and likewise what crates/cells_cases prints and the pairs in examples/c.
+# Ends with 1, naming the first difference, if data, args, a stdout or the pairs
+# differ.
 set -u
 here=$(cd "$(dirname "$0")" && pwd) || exit 1
 all=$(mktemp -d) || exit 1
@@ -40,6 +41,14 @@ compare() {
 compare make_cases.py session_cases
 compare make_once_cases.py once_cases
 
+# the pairs of counts that are asked from C
+kept=$here/../examples/c/pairs
+python3 -B "$here/make_rate_pairs.py" "$all/pairs" || exit 1
+if ! first=$(cmp "$all/pairs" "$kept" 2>&1); then
+    echo "check_cases: pairs of examples/c differ: $first"
+    exit 1
+fi
+
 # what the entries answer to wrong numbers and unfit states
 made=$all/cells
 kept=$here/../crates/cells_cases
@@ -59,4 +68,4 @@ if ! cmp -s "$made" "$kept/stdout"; then
     echo "  kept:  $(sed -n "${line}p" "$kept/stdout")"
     exit 1
 fi
-echo "check_cases: data, args and every stdout are the model's"
+echo "check_cases: data, args, every stdout and the pairs are the model's"

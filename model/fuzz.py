@@ -19,7 +19,7 @@ from collections import Counter
 import cells
 import draw
 import session
-from script import Script, turn_blocks
+from script import Script, counted, turn_blocks
 
 LIMIT_SECONDS = 20
 
@@ -159,6 +159,14 @@ def taken_block_waits(d, s, task, helper):
                 d.between(s.model.b // 2, s.model.b), 1)
     s.out(task)
     turn_blocks(s, s.model.n - 2, s.model.n - 1, 1, d.below(2))
+
+
+def rate_near_half(d):
+    """The end line's rate is a half or next to one."""
+    f = 16 * d.pick((1, 2, 3, 5, 7, 25))
+    h = f // 16 * (1 + 2 * d.below(15))
+    return draw.text(counted(h + d.pick((0, 0, 0, 1)),
+                             f + d.pick((0, 0, 0, 1))))
 
 
 def deep(d):
@@ -336,9 +344,10 @@ def damaged(d):
 
 
 # What is drawn, and how often in a thousand.
-MAKERS = ((contention, 250), (few_steps_apart, 220), (blocks_turn, 80),
-          (any_forms, 90), (any_open, 60), (deep, 60), (token_soup, 30),
-          (damaged, 194), (many_bytes, 6), (many_actions, 10))
+MAKERS = ((contention, 230), (rate_near_half, 20), (few_steps_apart, 220),
+          (blocks_turn, 80), (any_forms, 90), (any_open, 60), (deep, 60),
+          (token_soup, 30), (damaged, 194), (many_bytes, 6),
+          (many_actions, 10))
 
 
 def make(d):

@@ -5,7 +5,8 @@ the model, must print something else for at least one case.
 Prints for each wrong reading how many cases tell it, and ends with 1 if some
 reading is told by none.  A session shows of a block only what its cell has once
 it is current, so the fill's order and the search's are told by the self test's
-states instead.
+states instead.  Readings of the rate are told by sessions and by the pairs of
+the C example; those of wide numbers, which no session reaches, by the pairs.
 """
 
 import os
@@ -16,6 +17,8 @@ import types
 import cells
 import cells_cases
 import make_cases
+import make_rate_pairs
+import rate
 import selftest
 
 HERE = os.path.dirname(os.path.abspath(__file__))
@@ -254,12 +257,13 @@ MISREADINGS = [
     ("an equal swap is printed as a read", "session",
      "task, result.kind, result.cell",
      "task, 'read' if result.steps == 3 else result.kind, result.cell"),
-    ("the rate is rounded up", "session",
-     "return hard * 1000 // finished if finished else 0",
-     "return -(-hard * 1000 // finished) if finished else 0"),
-    ("the rate is rounded to nearest", "session",
-     "return hard * 1000 // finished if finished else 0",
-     "return (hard * 2000 + finished) // (2 * finished) if finished else 0"),
+    ("the end line's rate has its counts exchanged", "session",
+     "rate(self.hard, self.finished)", "rate(self.finished, self.hard)"),
+    ("the end line's rate is 1000 more", "session",
+     "rate(self.hard, self.finished)", "1000 + rate(self.hard, self.finished)"),
+    ("the rate is for each begun call", "session",
+     "rate(self.hard, self.finished)",
+     "rate(self.hard, self.finished + unfinished)"),
     ("unfinished hardware swaps count", "session",
      "self.finished, unfinished, self.hard,",
      "self.finished, unfinished, self.hard"
@@ -268,6 +272,58 @@ MISREADINGS = [
      "            self.refused(0, self.cells.number)\n            return\n",
      "            self.refused(0, self.cells.number)\n"
      "            self.out.append('(end 0 0 0 0)')\n            return\n"),
+]
+
+# The same of change request 4, in rate.py: each must be told by a session, and
+# by a pair.
+TO_EVEN = "return below if below % 2 == 0 else above"
+NEARER_BELOW = "if to_below < to_above:\n        return below"
+NEARER_ABOVE = "if to_above < to_below:\n        return above"
+TIMES_1000 = "thousands = h * 1000"
+RATE_MISREADINGS = [
+    ("a half goes up", TO_EVEN, "return above"),
+    ("a half goes down", TO_EVEN, "return below"),
+    ("a half goes to the odd neighbour", TO_EVEN,
+     "return above if below % 2 == 0 else below"),
+    ("a half goes by the hardware swaps' evenness", TO_EVEN,
+     "return below if h % 2 == 0 else above"),
+    ("the rate is rounded down", NEARER_BELOW, "return below"),
+    ("the rate is rounded up", NEARER_BELOW,
+     "return above if to_below else below"),
+    ("the rate is rounded to the even neighbour", NEARER_BELOW,
+     "if to_below == 0:\n        return below\n"
+     "    return below if below % 2 == 0 else above"),
+    ("above a half goes to the even neighbour", NEARER_ABOVE, "pass"),
+    ("1000 is added", TIMES_1000, "thousands = h + 1000"),
+    ("the rate is of 100 calls", TIMES_1000, "thousands = h * 100"),
+    ("the rate is of 1024 calls", TIMES_1000, "thousands = h * 1024"),
+    ("the rate is of one call", TIMES_1000, "thousands = h"),
+    ("the counts are exchanged", "def rate(h, f):", "def rate(f, h):"),
+    ("tenths are cut before rounding", TIMES_1000,
+     "thousands, f = h * 10000 // f, 10"),
+    ("no finished call gives 1000", "return 0", "return 1000"),
+]
+
+# No session comes to these numbers: each must be told by a pair.
+WIDE_MISREADINGS = [
+    ("no finished call gives the hardware swaps", "return 0", "return h"),
+    ("no finished call is an error", "if f == 0:", "if f == h == 0:"),
+    ("1000 h wraps at 32 bits", TIMES_1000,
+     "thousands = h * 1000 % 2 ** 32"),
+    ("1000 h stops at 32 bits", TIMES_1000,
+     "thousands = min(h * 1000, MOST)"),
+    ("the rate wraps at 32 bits", "def rate(h, f):",
+     "def rate(h, f):\n    return wide(h, f) % 2 ** 32\n\n\ndef wide(h, f):"),
+    ("the rate stops at 32 bits", "def rate(h, f):",
+     "def rate(h, f):\n    return min(wide(h, f), MOST)\n\n\ndef wide(h, f):"),
+    ("twice the rest wraps at 32 bits", "to_above = above * f - thousands",
+     "to_above = to_below + f - 2 * to_below % 2 ** 32"),
+    ("the hardware swaps are signed", TIMES_1000,
+     "thousands = (h - 2 ** 32 * (h >= 2 ** 31)) * 1000"),
+    ("the finished calls have 31 bits", TIMES_1000,
+     "thousands, f = h * 1000, f % 2 ** 31 or 1"),
+    ("the finished calls have 16 bits", TIMES_1000,
+     "thousands, f = h * 1000, f % 2 ** 16 or 1"),
 ]
 
 # The same of question 6, which no session breaks: each must print something
@@ -528,7 +584,7 @@ def edited(names, where, old, new):
 
 def misread(where, old, new):
     """A session's and cells_cases' runs in a model with this one edit."""
-    modules = edited(("cells", "reader", "session", "cells_cases"),
+    modules = edited(("cells", "reader", "rate", "session", "cells_cases"),
                      where, old, new)
     return modules["session"].run, modules["cells_cases"].run
 
@@ -572,6 +628,13 @@ def main():
         lines = {line: line for line in file.read().splitlines()}
     answers = {line: cells_cases.run(line) for line in lines}
 
+    pairs = {line: line for line in
+             make_rate_pairs.text(make_rate_pairs.pairs()).splitlines()}
+    rates = {line: rate.run(line) for line in pairs}
+
+    def rate_run(edit):
+        return edited(("rate",), "rate", *edit)["rate"].run
+
     fills = {name: selftest.fill_answers(cells, *state)
              for name, state in selftest.FILLS.items()}
 
@@ -581,6 +644,11 @@ def main():
 
     found = [(what, tellers(misread(*edit)[0], sessions, cases.prints))
              for what, *edit in MISREADINGS]
+    found += [(what, tellers(misread("rate", *edit)[0], sessions,
+                             cases.prints))
+              for what, *edit in RATE_MISREADINGS]
+    found += [(what + ", in C", tellers(rate_run(edit), pairs, rates))
+              for what, *edit in RATE_MISREADINGS + WIDE_MISREADINGS]
     found += [(what, tellers(misread("cells", *edit)[1], lines, answers))
               for what, *edit in FIT_MISREADINGS]
     found += [(what, tellers(fill_answers(edit), selftest.FILLS, fills))

@@ -1,5 +1,6 @@
-"""Sessions written action by action while the model runs them, and the
-meetings of two tasks that the cases and the drawn sessions are made of.
+"""Sessions written action by action while the model runs them, the meetings of
+two tasks that the cases and the drawn sessions are made of, and sessions that
+end with wanted counts.
 """
 
 import cells
@@ -79,3 +80,27 @@ def turn_blocks(s, p, q, times, cell=0):
         value = s.value(cell)
         s.swap(p, cell, value, 30 + i).swap(q, cell, value, 60 + i)
         s.step(p, 3).step(q, 2).out(p).out(q)
+
+
+def counted(h, f):
+    """The lines of a session in which f calls finish, with h hardware swaps,
+    and none is left unfinished.  f is above h, or h is at most about 2 x f."""
+    s = Script(2, 2, 6, [5, 5])
+    while h >= f > 0:  # P10's meeting: two calls, five hardware swaps
+        assert h >= 5 and f >= 2, (h, f)
+        value = s.value(1)
+        s.swap(0, 1, value, value + 2).swap(1, 1, value, value + 4)
+        s.step(0, 2).step(1, 7).step(0, 5).out(1).out(0)
+        h, f = h - 5, f - 2
+    if h > 0:
+        # A late comer answers no by one hardware swap, the other had none.
+        # The block is decided then, so each read of the cell has one.
+        value = s.value(1)
+        s.swap(0, 1, value, 7).step(0, 2).swap(1, 1, value, 8).out(1).out(0)
+        h, f = h - 1, f - 2
+        if h > 0:
+            s.lines.append("(again %d (read 0 1) (again 6 (step 0)))" % h)
+    # The other cell's block stays active.
+    if f > h:
+        s.lines.append("(again %d (read 1 0) (again 3 (step 1)))" % (f - h))
+    return s.lines

@@ -7,12 +7,16 @@ hardware swap, and that the calls can be told one after another on plain cells.
 """
 
 import sys
+from fractions import Fraction
 
 import cells
 import draw
 import fuzz
+import make_rate_pairs
+import rate
 import reader
 import session
+from script import counted
 
 NONE = cells.NONE
 
@@ -93,6 +97,28 @@ def cases_from_the_shop():
                                     (again 6 (step 0))"""),
           ["(done 1 swap 0 yes 21 3)", "(done 0 swap 0 no 13 2)",
            "(cell 0 9)", "(end 2 0 5 2500)"])
+
+
+# ------------------------------------------------------------------ the rate
+
+def rates_two_ways():
+    """Change request 4's own numbers, then rate.py against the rounding of
+    Python's fractions, which also takes a half to the even neighbour."""
+    check("1 in 2,000", rate.rate(1, 2000), 0)
+    check("3 in 2,000", rate.rate(3, 2000), 2)
+    small = [(h, f) for f in range(81) for h in range(200)]
+    for h, f in make_rate_pairs.pairs() + small:
+        wanted = round(Fraction(1000 * h, f)) if f else 0
+        check("the rate of %d and %d" % (h, f), rate.rate(h, f), wanted)
+        check("64 bits", wanted < 2 ** 64, True)
+    check("rates as a program", rate.run("1 2000\n3 2000\n7 0\n"),
+          "0\n2\n0\n")
+    for h, f in ((0, 0), (0, 3), (1, 2), (1, 16), (3, 16), (19, 16), (5, 2),
+                 (30, 33), (9, 80)):
+        end = session.run(draw.text(counted(h, f)), ask_fit=True)
+        check("the end line of %d and %d" % (h, f),
+              end.split(b"\n")[-2],
+              b"(end %d 0 %d %d)" % (f, h, rate.rate(h, f)))
 
 
 # --------------------------------------------------- reading of the papers
@@ -526,6 +552,7 @@ def tellings_are_judged():
 
 def main():
     cases_from_the_shop()
+    rates_two_ways()
     session_file_questions()
     question_13_two_ways(3000)
     tellings_are_judged()

@@ -11,6 +11,7 @@ from collections import Counter
 
 import cells
 import reader
+from rate import rate
 
 
 class Trace:
@@ -114,11 +115,6 @@ class Session:
         if self.trace is not None:
             self.trace.next_lines = [(record.line, record.wanted_by)
                                      for record in self.cells.tasks]
-
-
-def rate(hard, finished):
-    """"h x 1000 / f rounded down, 0 if f is 0"."""
-    return hard * 1000 // finished if finished else 0
 
 
 def run(data, trace=None, ask_fit=False, open_cells=cells.open_cells):
