@@ -1,11 +1,11 @@
--- Document 01's P5, P6, P9 and P10, and a task that halts while it fills a block, run in the figure with a new block each time: the events that its calls end with.
+-- Document 01's P5, P6, P9 and P10 (P9 and P10 with CR 2's counts), and a task that halts while it fills a block, run in the figure with a new block each time: the events that its calls end with.
 use mathlib.Core.Path.{_≡_, refl}
 use mathlib.Core.List.{List, [], _∷_, _++_}
 use Prim.Native.Nat.{ℕ}
-use lib.ListN.{replicate}
 use Rattle.history.specs.Basics.{upd}
-use Rattle.history.specs.History.{Op, swap, aSwap, Action, begin, step, Response, Yes, No, Event, refused, accepted, answered, history}
+use Rattle.history.specs.History.{Op, swap, aSwap, Action, begin, Response, Yes, No, Event, refused, accepted, answered, history}
 use Rattle.figure.specs.Figure.{opening, figureRan, figureStepped, figureBegun, figure}
+use Rattle.figure.specs.MomentExamples.{steps, meeting}
 
 abbrev ends : List (Action × Event) → List Event
 ends [] = []
@@ -19,13 +19,6 @@ swapped x a n h = answered x (record { kind = aSwap; cell = 0; answer = a; steps
 -- two tasks and a cell that holds 5
 abbrev five : List Action → List Event
 five l = ends (history figure (opening 2 1 (5 ∷ [])) l)
-
-abbrev steps : (count task : ℕ) → List Action
-steps n t = replicate n (step t)
-
--- task 0 swaps 5 to 7 and takes two steps, task 1 swaps 5 to 9 and takes seven
-abbrev meeting : List Action
-meeting = begin 0 (swap 0 5 7) ∷ begin 1 (swap 0 5 9) ∷ steps 2 0 ++ steps 7 1
 
 abbrev alone : Op → ℕ → List Action
 alone op n = begin 0 op ∷ steps n 0

@@ -22,14 +22,14 @@ brief m = record { moment = m .spot .moment; side = m .spot .side; task = m .cal
 abbrev entry : ℕ → Side → ℕ → Rule → Brief
 entry n s t r = record { moment = n; side = s; task = t; rule = r }
 
-abbrev steps : (count task : ℕ) → List Action
+abbrev pub steps : (count task : ℕ) → List Action
 steps n t = replicate n (step t)
 
 abbrev alone : ℕ → Op → ℕ → List Action
 alone t op n = begin t op ∷ steps n t
 
 -- task 0 swaps 5 to 7 and takes two steps, task 1 swaps 5 to 9 and takes seven (actions 0 to 10)
-abbrev meeting : List Action
+abbrev pub meeting : List Action
 meeting = begin 0 (swap 0 5 7) ∷ begin 1 (swap 0 5 9) ∷ steps 2 0 ++ steps 7 1
 
 -- then task 0 sets C (action 12), and task 1 stores its new value, late (action 13)
