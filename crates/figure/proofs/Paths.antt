@@ -1,4 +1,4 @@
--- Every finished call did the lines of one of the thirteen paths, so its counts are a row of document 01's table.
+-- Every finished call did the lines of one of the thirteen paths, so its counts are a row of the table.
 use mathlib.Core.Path.{_≡_, refl, sym, ap, _∙_}
 use mathlib.Core.Logic.{inl, inr}
 use mathlib.Core.Bool.{cond}

@@ -65,7 +65,7 @@ pub no-swap-of-four-hardware-CAS : Bounds (callsOf ((begin 0 (swap 0 5 7), accep
 unfolding upd
 no-swap-of-four-hardware-CAS c = omega (arith, c .unended 0 _ refl .1)
 
--- RIGHT: document 01's longest calls, a read that decides and a swap that ends at 30 by 25
+-- RIGHT: the longest calls, a read that decides and a swap that ends at 30 by 25 (21 steps: CR 2)
 abbrev only : FinishedCall → Calls
 only f = record { now = 22; accepted = []; pending = λ t. none; finished = f ∷ [] }
 

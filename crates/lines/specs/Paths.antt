@@ -1,4 +1,5 @@
--- Document 01's table of complete paths, and the row of a finished call.
+-- Document 01's table of complete paths, the last four rows as change request 2 has them (four steps and five stores more), and the row of
+-- a finished call.
 use mathlib.Core.Bool.{_&&_, cond}
 use mathlib.Core.Option.{Option, none, some}
 use mathlib.Core.List.{List, [], _∷_}

@@ -3,7 +3,7 @@ ghost use mathlib.Core.Path.{_≡_};
 ghost use Prim.Native.Nat.{_<_};
 ghost use Rattle.lines.specs.Paths.{entry, rowGives, rowOf};
 
-// Document 01's rows: steps, loads, stores, hardware CAS attempts.
+// Document 01's rows, the last four CR 2's: steps, loads, stores, hardware CAS attempts.
 const PATHS: [[u32; 4]; 13] = [
     [3, 3, 0, 0],
     [6, 5, 0, 1],

@@ -1,4 +1,4 @@
--- Document 01's P1 to P10 as session files with what they print: one table, computed.
+-- Document 01's P1 to P10 (P9 and P10 with CR 2's counts) as session files with what they print: one table, computed.
 use mathlib.Core.Path.{_≡_, refl}
 use mathlib.Core.List.{List, [], _∷_}
 use Prim.Native.String.{String}
