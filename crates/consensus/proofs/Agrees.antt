@@ -12,7 +12,7 @@ use Rattle.questions.specs.Questions.{refusal}
 use Rattle.questions.proofs.Tests.{yes-to}
 use Rattle.history.specs.Basics.{_∈_}
 use Rattle.history.specs.History.{history, run}
-use Rattle.history.proofs.Basics.{either, upd-same, clash}
+use Rattle.history.proofs.Basics.{either, upd-same, clash, history-append}
 use Rattle.history.proofs.OnCell.{on-in}
 use Rattle.consensus.specs.declared.Offer.{Offer}
 use Rattle.consensus.specs.declared.OnceState.{OnceState}
@@ -76,10 +76,6 @@ all-may (a ∷ l) s b size e S = let A = acts s b S a in
     (subst (λ n. May n b a (once s a .1)) e (A .may), all-may l (once s a .0) (tally b a (once s a .1)) size (A .same-size ∙ e) (A .after))
 
 -- FROM ANYWHERE A CALL ENDS
-
-history-append : (s : OnceState) (l m : List Move) → history once s (l ++ m) ≡ history once s l ++ history once (run once s l) m
-history-append s [] m = refl
-history-append s (a ∷ l) m = ap (λ h. (a, once s a .1) ∷ h) (history-append (once s a .0) l m)
 
 tally-append : (b : OnceCalls) (h g : List (Move × MoveEvent)) → tallyAll b (h ++ g) ≡ tallyAll (tallyAll b h) g
 tally-append b [] g = refl
@@ -147,6 +143,6 @@ module _ (old : OnceState) (tasks cells : ℕ) (allowed : refusal (openOnce task
         more = w .more;
         at-most = w .at-most;
         end = w .end;
-        is-finished = subst (λ b. w .end ∈ b .finished) (sym (ap (tallyAll noOffers) (history-append s l (replicate (w .more) (step t))) ∙ tally-append noOffers (history once s l) (history once (run once s l) (replicate (w .more) (step t))))) (w .is-finished);
+        is-finished = subst (λ b. w .end ∈ b .finished) (sym (ap (tallyAll noOffers) (history-append once s l (replicate (w .more) (step t))) ∙ tally-append noOffers (history once s l) (history once (run once s l) (replicate (w .more) (step t))))) (w .is-finished);
         is = w .is;
       }

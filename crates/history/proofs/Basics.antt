@@ -1,13 +1,14 @@
--- Laws of a function changed at one number, which callers use and not its text; of options; a call at a moment.
-use mathlib.Core.Path.{_≡_, refl}
+-- Laws of a function changed at one number, which callers use and not its text; of options; a call at a moment; a history of two lists.
+use mathlib.Core.Path.{_≡_, refl, ap}
 use mathlib.Core.Logic.{_≢_, _⊎_, inl, inr}
 use mathlib.Core.Option.{Option, none, some}
+use mathlib.Core.List.{List, [], _∷_, _++_}
 use Prim.Native.Nat.{ℕ}
 use native.Mathlib.Decide.{ℕ-discrete}
 use native.Mathlib.Omega.{arith}
 use borrow.Author.Tests.{eq-eqb, ne-eqb}
 use Rattle.history.specs.Basics.{upd}
-use Rattle.history.specs.History.{Call}
+use Rattle.history.specs.History.{history, run, Call}
 use Rattle.history.specs.Linearization.{Point}
 
 pub either : (m n : ℕ) → (m ≡ n) ⊎ (m ≢ n)
@@ -44,3 +45,8 @@ some-inj p q = cc
 
 abbrev pub point : Call → ℕ → Point
 point c m = record { moment = m; call = c .start }
+
+-- of one list after another, with any machine
+pub history-append : {S A E : Type 0} (act : S → A → S × E) (s : S) (l m : List A) → history act s (l ++ m) ≡ history act s l ++ history act (run act s l) m
+history-append act s [] m = refl
+history-append act s (a ∷ l) m = ap (λ h. (a, act s a .1) ∷ h) (history-append act (act s a .0) l m)
