@@ -10,3 +10,4 @@ pub mod Moving
 pub mod Opening
 pub mod Acts
 pub mod Agrees
+pub mod Examples
