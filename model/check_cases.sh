@@ -2,8 +2,8 @@
 # Makes the cases of sessions and of the once-only cells anew from the model and
 # compares them with the ones kept in crates/session_cases and crates/once_cases,
 # and likewise what crates/cells_cases prints and the pairs in examples/c.
-# Ends with 1, naming the first difference, if data, args, a stdout or the pairs
-# differ.
+# Ends with 1, naming the first difference, if data, args, a stdin, a stdout or
+# the pairs differ.
 set -u
 here=$(cd "$(dirname "$0")" && pwd) || exit 1
 all=$(mktemp -d) || exit 1
@@ -19,10 +19,12 @@ compare() {
         echo "check_cases: data of $2 differ: $(printf '%s\n' "$first" | head -n 1)"
         exit 1
     fi
-    if ! first=$(cmp "$made/args" "$kept/args" 2>&1); then
-        echo "check_cases: args of $2 differ: $first"
-        exit 1
-    fi
+    for file in args stdin; do
+        if [ -f "$made/$file" ] && ! first=$(cmp "$made/$file" "$kept/$file" 2>&1); then
+            echo "check_cases: $file of $2 differ: $first"
+            exit 1
+        fi
+    done
     if ! cmp -s "$made/stdout" "$kept/stdout"; then
         if [ ! -f "$kept/stdout" ]; then
             echo "check_cases: there is no stdout of $2"
@@ -31,6 +33,7 @@ compare() {
         # the line, and the case it belongs to
         line=$(cmp "$made/stdout" "$kept/stdout" 2>&1 | sed 's/.*line //;s/[^0-9].*//')
         name=$(head -n "${line:-1}" "$made/stdout" | grep '^# ' | tail -n 1)
+        name=${name:-# standard input}
         echo "check_cases: stdout of $2 differs at line ${line:-1}, case ${name#\# }"
         echo "  model: $(sed -n "${line:-1}p" "$made/stdout")"
         echo "  kept:  $(sed -n "${line:-1}p" "$kept/stdout")"
@@ -68,4 +71,4 @@ if ! cmp -s "$made" "$kept/stdout"; then
     echo "  kept:  $(sed -n "${line}p" "$kept/stdout")"
     exit 1
 fi
-echo "check_cases: data, args, every stdout and the pairs are the model's"
+echo "check_cases: data, args, stdin, every stdout and the pairs are the model's"

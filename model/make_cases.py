@@ -5,6 +5,8 @@
 
 FOLDER/data/NAME are the session files, FOLDER/args their names, one to a line,
 and FOLDER/stdout holds for each a line `# NAME` and then what the model prints.
+Where a program plays standard input first, that is FOLDER/stdin, and its answers
+stand first in FOLDER/stdout.
 Everything is the same on every run.  Where a name promises a refusal, a path
 or a line, the case is checked to keep it.
 """
@@ -32,6 +34,7 @@ class Cases:
         self.program = program
         self.files = {}
         self.prints = {}
+        self.stdin = None
 
     def add(self, name, data):
         """One case; hands back the trace of its run."""
@@ -85,7 +88,12 @@ def write(cases, folder):
             file.write(content)
     with open(os.path.join(folder, "args"), "w") as file:
         file.writelines(name + "\n" for name in cases.files)
+    if cases.stdin is not None:
+        with open(os.path.join(folder, "stdin"), "wb") as file:
+            file.write(cases.stdin)
     with open(os.path.join(folder, "stdout"), "wb") as file:
+        if cases.stdin is not None:
+            file.write(cases.program.run(cases.stdin))
         for name in cases.files:
             file.write(b"# %s\n%s" % (name.encode(), cases.prints[name]))
 

@@ -4,7 +4,7 @@ model prints.
 
     make_once_cases.py [FOLDER]    (FOLDER is ../crates/once_cases if left out)
 
-The layout is make_cases.py's.  An input with a good end holds several lists,
+The layout is make_cases.py's; standard input has the eleven paths.  An input with a good end holds several lists,
 one after another; each bad line has an input of its own, since nothing is
 printed after it.  Everything is the same on every run.  Where a name promises
 a refusal or a path, the case is checked to keep it.
@@ -18,9 +18,6 @@ from once_lists import Script, Style, draw_list, form
 
 MOST = once.MOST_NUMBER
 
-# "The input is at most 65,536 bytes."
-MOST_BYTES = 65536
-
 
 class Cases(make_cases.Cases):
     def __init__(self):
@@ -29,7 +26,6 @@ class Cases(make_cases.Cases):
 
     def add(self, name, data):
         trace = super().add(name, data)
-        assert len(self.files[name]) <= MOST_BYTES, name
         self.seen.lists += trace.lists
         self.seen.refusals += trace.refusals
         self.seen.halted += trace.halted
@@ -602,9 +598,37 @@ def good_forms(cases):
         [form("open", 1, 1), form("offer", 0, 0, value)] + ["(step 0)"] * 7
         for value in [0] + [int("1234567890"[:n]) for n in range(1, 11)]
         + [10 ** n for n in range(1, 10)]), []))
-    full = [form("open", 1, 1)] * ((MOST_BYTES - 9) // 11) + ["(step 0)"]
-    assert len(draw.text(full)) == MOST_BYTES
-    cases.add("most_bytes", full)
+
+
+def skipped(size):
+    """Lines of so many bytes together, of every length that a form may have."""
+    lines = []
+    digits = 0
+    while size > 100:
+        digits = digits % 10 + 1
+        number = str(MOST)[:digits]
+        for line in (form("step", number), form("offer", *[number] * 3)):
+            lines.append(line)
+            size -= len(line) + 1
+    while size:
+        length = size if size <= 18 else min(18, size - 9)
+        lines.append(form("step", str(MOST)[:length - 8]))
+        size -= length
+    return lines
+
+
+def length_cases(cases):
+    """Inputs of so many bytes, since there is no limit: lines that are skipped,
+    and then a call; the shorter ones also without the last line's end."""
+    refused = ["(open 0 1)"]
+    call = ["(open 1 1)", "(offer 0 0 5)"] + ["(step 0)"] * 7
+    for size in (4095, 4096, 4097, 65536, 100000):
+        lines = skipped(size - len(draw.text(refused + call)))
+        data = draw.text(refused + lines + call)
+        assert len(data) == size
+        cases.add("bytes_%d" % size, data)
+        if size < 5000:
+            cases.add("bytes_%d_without_end" % (size - 1), data[:-1])
 
 
 def make():
@@ -618,9 +642,12 @@ def make():
     many_cases(cases)
     drawn_cases(cases)
     good_forms(cases)
+    length_cases(cases)
     bad_cases(cases)
     assert set(cases.seen.refusals) == {1, 2, 7, 8, 9, 16, 10, 11, 14}
     assert set(cases.seen.paths()) == set(once.PATHS)
+    cases.stdin = b"".join(cases.files["path_%s_t0_k0" % path]
+                           for path in once.PATHS)
     return cases
 
 

@@ -2,7 +2,6 @@
 ghost use mathlib.Core.Path.{_≡_};
 ghost use lib.ListN.{length};
 ghost use Rattle.io.specs.Counts.{Counts};
-use libc::STDIN_FILENO;
 use libc::STDOUT_FILENO;
 use report::Input;
 
@@ -13,23 +12,20 @@ pub fn file_space() -> [u8; 65537]
     [0; 65537]
 }
 
-// Writes # and the i-th argument, and reads the file of that name; 0 stands for standard input. What fails is said on
-// standard error.
-pub fn read_case(i: usize, file: &mut [u8]) -> Input
-    ensures { λ r. ⌜ Counts (r .count) (now (file .exit)) ⌝ }
+// A file open for reading, negative where that failed, and how long its name is.
+pub struct Case {
+    pub fd: i32,
+    pub length: usize,
+}
+
+// Writes # and the i-th argument, and opens the file of that name. What fails is said on standard error.
+pub fn open_case(i: usize, name: &mut [u8]) -> Case
+    ensures { λ r. ⌜ Counts (r .length) (now (name .exit)) ⌝ }
 {
-    if i == 0 {
-        return report::read_all(STDIN_FILENO, file, b"standard input");
-    }
-    let nothing = Input {
-        count: 0,
-        whole: false,
-    };
-    let mut name = io::buffer();
-    let length = os::arg(i, &mut name);
+    let length = os::arg(i, name);
     if os::errno() != 0 {
         os::fail(b"argument");
-        return nothing;
+        return Case { fd: -1, length };
     }
     io::write_all(STDOUT_FILENO, b"# ");
     io::write_all(STDOUT_FILENO, &name[..length]);
@@ -37,7 +33,23 @@ pub fn read_case(i: usize, file: &mut [u8]) -> Input
     let fd = os::open_read(&name[..length]);
     if fd < 0 {
         os::fail(&name[..length]);
-        return nothing;
+    }
+    Case { fd, length }
+}
+
+// The same, and reads the file.
+pub fn read_case(i: usize, file: &mut [u8]) -> Input
+    ensures { λ r. ⌜ Counts (r .count) (now (file .exit)) ⌝ }
+{
+    let mut name = io::buffer();
+    let case = open_case(i, &mut name);
+    let fd = case.fd;
+    let length = case.length;
+    if fd < 0 {
+        return Input {
+            count: 0,
+            whole: false,
+        };
     }
     let read = report::read_all(fd, file, &name[..length]);
     libc::close(fd);

@@ -1,19 +1,21 @@
-// Runs lists of moves on once-only cells: standard input, or each file that an argument names. A line is one of
+// Runs lists of moves on once-only cells: standard input, then each file that an argument names. A line is one of
 // (open N V), (offer T K value), (step T); each open starts a list. Prints (no i R) for a refused move, i counted from 0
 // after its open, and (done T K value steps hard) for a finished call. After a refused open, moves are skipped. A line that
-// is no form, a first one that is no open, and input of more than 65,536 bytes give (bad 14), and end.
+// is no form and a first one that is no open give (bad 14), and end.
 ghost use mathlib.Core.Path.{_≡_};
 ghost use Prim.Native.Nat.{_≤_, _<_};
 ghost use lib.ListN.{length};
-use case_files::file_space;
-use case_files::read_case;
+ghost use Rattle.io.specs.Counts.{Counts};
+use case_files::open_case;
 use consensus::Agreement;
 use consensus::Offer;
 use consensus::OnceCell;
 use consensus::OnceState;
 use consensus::Progress;
+use libc::STDIN_FILENO;
 use libc::STDOUT_FILENO;
 use once::OnceReply;
+use report::Input;
 use session_reader::items;
 use std::num::wrapping_add_u32;
 use text::Place;
@@ -117,13 +119,15 @@ fn read_line(s: &[u8], at: usize) -> Line
     bad(s.len())
 }
 
-// RUNNING
+// PLAYING
 
 struct Standing {
     state: OnceState,
-    // Whether the last open acted, and whether all was printed.
+    // Whether there was an open, and whether the last one acted.
+    begun: bool,
     open: bool,
-    printed: bool,
+    // Whether to go on: no line was bad, and all was printed.
+    goes: bool,
     // The next move's number.
     action: u32,
 }
@@ -153,8 +157,9 @@ fn blank() -> Standing {
     };
     Standing {
         state,
+        begun: false,
         open: false,
-        printed: true,
+        goes: true,
         action: 0,
     }
 }
@@ -174,8 +179,9 @@ fn open(p: Standing, tasks: u32, cells: u32) -> Standing {
     let progress = r.progress;
     Standing {
         state,
+        begun: true,
         open: !is_refused(progress),
-        printed: print_progress(0, 0, progress),
+        goes: print_progress(0, 0, progress),
         action: 0,
     }
 }
@@ -185,16 +191,27 @@ fn moved(p: Standing, task: u32, r: OnceReply) -> Standing {
     let progress = r.progress;
     Standing {
         state,
+        begun: true,
         open: true,
-        printed: print_progress(p.action, task, progress),
+        goes: print_progress(p.action, task, progress),
         action: wrapping_add_u32(p.action, 1),
     }
+}
+
+fn halted(p: Standing) -> Standing {
+    let mut q = p;
+    q.goes = false;
+    q
 }
 
 fn play(p: Standing, l: Line) -> Standing {
     let n = l.numbers;
     if l.form == OPEN {
         return open(p, n[0], n[1]);
+    }
+    if (l.form == BAD) | !p.begun {
+        print(b"(bad 14)\n");
+        return halted(p);
     }
     if !p.open {
         return p;
@@ -206,42 +223,119 @@ fn play(p: Standing, l: Line) -> Standing {
     }
 }
 
-fn run(s: &[u8]) {
-    if s.len() > 65536 {
-        print(b"(bad 14)\n");
-        return;
-    }
-    let mut p = blank();
+// INPUT OF ANY LENGTH, a buffer at a time
+
+// The longest line of a form: (offer 4294967295 4294967295 4294967295) and its end.
+const LONGEST: usize = 41;
+
+// How many bytes were played, or stand at the buffer's start to be played.
+struct Played {
+    standing: Standing,
+    count: usize,
+}
+
+// The lines of a part of the input. Of less than the longest line, what comes next is waited for.
+fn play_lines(s: &[u8], before: Standing, ended: bool) -> Played
+    ensures { λ r. ⌜ r .count ≤ length (now (s .entry)) ⌝ }
+{
+    let mut p = before;
     let mut at: usize = 0;
     while at < s.len() {
+        if !p.goes | (!ended & (s.len() - at < LONGEST)) {
+            break;
+        }
         let l = read_line(s, at);
-        if (l.form == BAD) | ((at == 0) & (l.form != OPEN)) {
-            print(b"(bad 14)\n");
-            return;
-        }
         p = play(p, l);
-        if !p.printed {
-            return;
-        }
         at = l.next;
+    }
+    Played {
+        standing: p,
+        count: at,
+    }
+}
+
+// Moves the bytes from a place up to an end to the start, and answers how many these are.
+fn keep(buf: &mut [u8], from: usize, end: usize) -> usize
+    requires { ⌜ (from ≤ end) × (end ≤ length (now buf)) ⌝ }
+    ensures { λ r. ⌜ r ≤ length (now (buf .exit)) ⌝ }
+{
+    let mut i: usize = 0;
+    while i < end - from {
+        buf[i] = buf[from + i];
+        i += 1;
+    }
+    i
+}
+
+// Reads behind what the buffer holds until it is full or the input ends; the count is then of all that it holds.
+fn fill(fd: i32, name: &[u8], buf: &mut [u8], held: usize) -> Input
+    requires { ⌜ held ≤ length (now buf) ⌝ }
+    ensures { λ r. ⌜ Counts (r .count) (now (buf .exit)) ⌝ }
+{
+    let read = report::read_all(fd, &mut buf[held..], name);
+    Input {
+        count: held + read.count,
+        whole: read.whole,
+    }
+}
+
+fn play_part(fd: i32, name: &[u8], buf: &mut [u8], before: Standing, held: usize) -> Played
+    requires { ⌜ held ≤ length (now buf) ⌝ }
+    ensures { λ r. ⌜ r .count ≤ length (now (buf .exit)) ⌝ }
+{
+    let read = fill(fd, name, buf, held);
+    let end = read.count;
+    let last = end < buf.len();
+    if !read.whole {
+        return Played {
+            standing: halted(before),
+            count: 0,
+        };
+    }
+    let played = play_lines(&buf[..end], before, last);
+    let standing = played.standing;
+    if last {
+        return Played {
+            standing: halted(standing),
+            count: 0,
+        };
+    }
+    let count = keep(buf, played.count, end);
+    Played { standing, count }
+}
+
+// A program has to end: so many parts are more than any input has.
+fn run(fd: i32, name: &[u8]) {
+    let mut buf = io::buffer();
+    let mut p = blank();
+    let mut held: usize = 0;
+    let mut parts: usize = usize::MAX;
+    while parts > 0 {
+        let part = play_part(fd, name, &mut buf, p, held);
+        p = part.standing;
+        held = part.count;
+        if !p.goes {
+            break;
+        }
+        parts -= 1;
     }
 }
 
 fn run_case(i: usize) {
-    let mut file = file_space();
-    let read = read_case(i, &mut file);
-    if read.whole {
-        let n = read.count;
-        run(&file[..n]);
+    let mut name = io::buffer();
+    let case = open_case(i, &mut name);
+    let fd = case.fd;
+    let length = case.length;
+    if fd >= 0 {
+        run(fd, &name[..length]);
+        libc::close(fd);
     }
 }
 
 fn main() {
+    run(STDIN_FILENO, b"standard input");
     let count = os::arg_count();
     let mut i: usize = 1;
-    if count <= 1 {
-        run_case(0);
-    }
     while i < count {
         run_case(i);
         i += 1;

@@ -1,15 +1,16 @@
--- Each line leaves fewer bytes.
-use Prim.Native.Nat.{_≤_, _-_}
+-- Each part leaves fewer.
+use mathlib.Core.Path.{_≡_}
+use Prim.Native.Nat.{_≤_}
 use lib.ListN.{length}
 use borrow.Author.Needs.{needs}
 use Rattle.once_cases.proofs.run.Statement.{statement}
 use Rattle.once_cases.proofs.run.Tie as tie
 
 abbrev Inv-loop : tie.InvT-loop
-Inv-loop s p₀ at₀ t6 p at = at ≤ length s
+Inv-loop fd name buf₀ p₀ held₀ parts₀ buf p held parts = (held ≤ 4096) × (4096 ≡ length buf)
 
 abbrev μ-loop : tie.MeasureT-loop
-μ-loop s p₀ at₀ t6 p at = length s - at
+μ-loop fd name buf₀ p₀ held₀ parts₀ buf p held parts = parts
 
 pub run-spec : {M : Type 1} → statement M
 run-spec =
@@ -17,16 +18,12 @@ run-spec =
     (tie.spec
     Inv-loop
     μ-loop
+    (λ c κs. search needs)
+    (λ c κs. search needs)
+    (λ c. search needs)
     (λ c. search needs)
     (λ c κs. search needs)
     (λ c. search needs)
-    (λ c κs. search needs)
-    (λ c. search needs)
-    (λ c κs. search needs)
-    (λ c. search needs)
-    (λ c κs. search needs)
-    (λ c. search needs)
-    (λ c κs. search needs)
     (λ c. search needs)
     (λ c. search needs)
     (λ c. search needs)
