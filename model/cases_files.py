@@ -152,6 +152,7 @@ def form_cases(cases):
                        ("agai", b"(agai 1 (step 0))"),
                        ("look", b"(look 0)"), ("done", b"(done 0)"),
                        ("drop", b"(drop 0)"), ("add", b"(add 0 0 1 1)"),
+                       ("offer", b"(offer 0 0 5)"),
                        ("cell", b"(cell 0 5)"), ("end", b"(end)"),
                        ("quoted", b'("step" 0)'), ("s", b"(s 0)")):
         bad("word_" + name, OPEN + form + b"\n")
