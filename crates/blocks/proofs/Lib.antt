@@ -1,3 +1,4 @@
 pub mod Counting
 pub mod Unused
+pub mod Holders
 pub mod Search

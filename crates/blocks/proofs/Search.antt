@@ -1,27 +1,59 @@
--- The search for an unused block, step by step: what is left from b on decides the whole, o.
+-- The search for an unused block: block by block; that it finds what the definition does; what it finds; which states are searched.
 use mathlib.Core.Path.{_≡_, refl, sym, ap, _∙_}
-use mathlib.Core.Bool.{Bool, true, false, and-eq-true-iff}
+use mathlib.Core.Bool.{Bool, true, false, cond, and-eq-true-iff}
 use mathlib.Core.Option.{Option, none, some}
 use Prim.Native.Nat.{ℕ, zero, suc, _-_, _≤_, _<_}
 use native.Mathlib.Omega.{arith}
 use lib.Dec.{leb}
 use borrow.Author.Tests.{le-leb, lt-ltb, leb-true, ltb-true}
 use Rattle.questions.specs.declared.State.{State}
-use Rattle.blocks.specs.Blocks.{used, after, unusedFrom, unused, searchable, found}
+use Rattle.blocks.specs.Blocks.{used, after, unusedFrom, unused, blockSearch, asked, searchable, found}
 use Rattle.blocks.proofs.Unused.{after-below}
+use Rattle.blocks.proofs.Holders.{asked-is-used}
 
 less : (k : ℕ) → 0 < k → k ≡ suc (k - 1)
 less k h = omega arith
 
-module _ (s : State) (b k : ℕ) {o : Option ℕ} (left : unusedFrom s b k ≡ o) where
-  pub here : 0 < k → used s b ≡ false → some b ≡ o
-  here h e = sym (ap (unusedFrom s b) (less k h) ∙ rw e) ∙ left
+-- BLOCK BY BLOCK
 
-  pub onward : 0 < k → used s b ≡ true → unusedFrom s (after (s .blocks) b) (k - 1) ≡ o
-  onward h e = sym (ap (unusedFrom s b) (less k h) ∙ rw e) ∙ left
+module _ (s : State) (cells b : ℕ) where
+  ends-here : (k : ℕ) → blockSearch s cells b .0 ≡ false → asked s cells b k ≡ (b, blockSearch s cells b)
+  ends-here zero e = refl
+  ends-here (suc k) e = rw e
 
-  pub over : k ≡ 0 → none ≡ o
-  over e = sym (ap (unusedFrom s b) e) ∙ left
+  -- what is left from b on decides the whole, w
+  module _ (k n : ℕ) {w : ℕ × (Bool × ℕ)} (left : asked s cells b k ≡ w) where
+    pub unused-here : (false, n) ≡ blockSearch s cells b → (b, (false, n)) ≡ w
+    unused-here e = ap (λ (p : Bool × ℕ). (b, p)) e ∙ (sym (ends-here k (ap (λ (p : Bool × ℕ). p .0) (sym e))) ∙ left)
+
+    pub used-last : (true, n) ≡ blockSearch s cells b → k ≡ 0 → (b, (true, n)) ≡ w
+    used-last e q = ap (λ (p : Bool × ℕ). (b, p)) e ∙ (sym (ap (asked s cells b) q) ∙ left)
+
+    pub asks-on : (true, n) ≡ blockSearch s cells b → 0 < k → asked s cells (after (s .blocks) b) (k - 1) ≡ w
+    asks-on e h = sym (ap (asked s cells b) (less k h) ∙ rw (ap (λ (p : Bool × ℕ). p .0) (sym e))) ∙ left
+
+-- LINE 4 TAKES THE BLOCK THAT THE DEFINITION NAMES
+
+-- the block asked about last, if it is unused
+abbrev pub choice : ℕ × (Bool × ℕ) → Option ℕ
+choice a = cond (a .1 .0) none (some (a .0))
+
+module _ (s : State) where
+  same-from : (b k : ℕ) → choice (asked s (s .cells) b k) ≡ unusedFrom s b (suc k)
+  same-from b zero = rw (asked-is-used s b)
+  same-from b (suc k) = go (used s b) refl (same-from (after (s .blocks) b) k)
+    where
+      go : (u : Bool) → used s b ≡ u → choice (asked s (s .cells) (after (s .blocks) b) k) ≡ unusedFrom s (after (s .blocks) b) (suc k)
+          → choice (asked s (s .cells) b (suc k)) ≡ unusedFrom s b (suc (suc k))
+      go true e more = rw (asked-is-used s b ∙ e, e) more
+      go false e more = rw (asked-is-used s b ∙ e, e)
+
+  -- Line 4 takes the first unused block, as it did: no output differs.
+  pub same-choice : s .last < s .blocks → choice (asked s (s .cells) (after (s .blocks) (s .last)) (s .blocks - 1)) ≡ unused s
+  unfolding unused
+  same-choice h = same-from (after (s .blocks) (s .last)) (s .blocks - 1) ∙ ap (unusedFrom s (after (s .blocks) (s .last))) (sym (less (s .blocks) (omega arith)))
+
+-- WHAT IS FOUND IS A BLOCK OF THE POOL
 
 from-below : (s : State) (b k x : ℕ) → b < s .blocks → unusedFrom s b k ≡ some x → x < s .blocks
 from-below s b zero x h e = let z : _≡_ {A = ℕ} 0 1 = cc in omega arith

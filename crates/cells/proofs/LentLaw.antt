@@ -5,11 +5,8 @@ use mathlib.Core.Bool.{true, false, not, cond, false≢true}
 use mathlib.Core.List.{List, [], _∷_}
 use Prim.Native.Nat.{ℕ, _≤_, _<_}
 use native.Mathlib.Omega.{arith}
-use lib.ListN.{length, length-map}
+use lib.ListN.{length}
 use lib.Seq.{set-out, set-getD}
-use mir.Val.{Val}
-use denote.Laws.{Is}
-use denote.Struct.Laws as LL
 use Rattle.lines.specs.declared.Record.{Record}
 use Rattle.questions.specs.declared.State.{State}
 use Rattle.cells.specs.Answers.{Said, Refused, Acted, Ended, acts}
@@ -21,12 +18,6 @@ use Rattle.cells.specs.Lent.{isRefused, Lent, lent, steppedLent}
 use Rattle.cells.proofs.Acts.{acts-iff, step-acts, step-untouched}
 use Rattle.cells.proofs.Replies.{asked-below}
 use Rattle.cells.proofs.Stepping.{asked}
-use Rattle.questions.proofs.State as S
-use Rattle.questions.proofs.State.Laws as S′
-
--- a state has 32 records, by its type
-pub has-32 : (s : State) (vs : List Val) → Is S.the-row s vs → length (s .records) ≡ 32
-has-32 s vs g = sym (length-map (s .records) _) ∙ LL.owed S.the-type S′.the-laws s vs g .1 .1 .1 .1 .1 .0 .1 .0 .1
 
 -- a record beyond them is put nowhere
 pub placed : (s : State) (t : ℕ) (r : Record) (q : State) → length (s .records) ≡ 32 → (q ≡ withRecord s t r) ⊎ ((32 ≤ t) × (q ≡ s)) → q ≡ withRecord s t r

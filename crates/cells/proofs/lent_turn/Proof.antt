@@ -5,7 +5,8 @@ use denote.Ref.{now}
 use Rattle.cells.specs.Answers.{said}
 use Rattle.cells.specs.Open.{leaving}
 use Rattle.cells.specs.Begin.{withRecord}
-use Rattle.cells.proofs.LentLaw.{has-32, placed, below-32, lent-refused, lent-acted}
+use Rattle.blocks.proofs.Holders.{has-32}
+use Rattle.cells.proofs.LentLaw.{placed, below-32, lent-refused, lent-acted}
 use borrow.Author.Needs.{needs}
 use Rattle.cells.proofs.lent_turn.Statement.{statement}
 use Rattle.cells.proofs.lent_turn.Tie as tie
