@@ -238,6 +238,10 @@ impl Record {
         matches!(self.line, 5..=8 | 30)
     }
 
+    fn uses(&self, block: u32) -> bool {
+        self.held == block && self.holds() || self.taken == block && self.has_taken()
+    }
+
     fn read_line_fits(&self) -> bool {
         match self.line {
             1..=3 => self.wanted == 13,
@@ -401,22 +405,20 @@ impl Cells {
         Ok(())
     }
 
+    // Whether a task uses the block, and how many records were read: from task 0 upward, to the first that uses it.
+    fn find_holder(&self, block: u32) -> (bool, usize) {
+        let records = &self.records[..self.tasks as usize];
+        match records.iter().position(|record| record.uses(block)) {
+            Some(task) => (true, task + 1),
+            None => (false, records.len()),
+        }
+    }
+
     // The first unused block after the last one taken; by counting there is one.
     fn unused_block(&self) -> u32 {
-        let mut used = [false; MOST_BLOCKS as usize];
-        for &block in &self.current[..self.cells as usize] {
-            used[block as usize] = true;
-        }
-        for record in &self.records[..self.tasks as usize] {
-            if record.holds() {
-                used[record.held as usize] = true;
-            }
-            if record.has_taken() {
-                used[record.taken as usize] = true;
-            }
-        }
+        let current = &self.current[..self.cells as usize];
         let mut onward = (self.last + 1..self.blocks).chain(0..=self.last);
-        onward.find(|&block| !used[block as usize]).unwrap()
+        onward.find(|block| !current.contains(block) && !self.find_holder(*block).0).unwrap()
     }
 
     fn do_line(&mut self, task: u32) -> Option<Answer> {
