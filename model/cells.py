@@ -1,7 +1,7 @@
 """The library of cells: pool, blocks, task records, the lines of figure 2.
 
 Written from document 01 ("Shared cells for the milling unit's tasks"), change
-request 2 of document 02 and source document 003, figure 2, alone.  Their
+requests 2 and 5 of document 02 and source document 003, figure 2, alone.  Their
 sentences are quoted in the comments where they decide something.
 """
 
@@ -30,7 +30,8 @@ def least_blocks(n, v):
 
 
 # "The longest swap is 21 steps, and the fit question allows 20 so far" (change
-# request 2); its hardware swaps are at most 3, as before.
+# request 2); its hardware swaps, won and lost together, are at most 3, as before
+# ("their sum is the old number", change request 5).
 MOST_STEPS = 21
 MOST_STEPS_SO_FAR = 20
 MOST_HARD_SO_FAR = 3
@@ -76,7 +77,13 @@ class Finished(NamedTuple):
     cell: int
     answer: object  # a value for a read, a bool for a swap
     steps: int
-    hard: int
+    won: int
+    lost: int
+
+    @property
+    def hard(self):
+        """"their sum is the old number" (change request 5)."""
+        return self.won + self.lost
 
 
 class Record:
@@ -85,11 +92,12 @@ class Record:
     "The record also holds cell, kind, both swap values, the held block, the
     block being installed, the value loaded, and steps and hardware swaps so
     far."  The next line is there too, and in the deciding part the line that
-    wanted it.
+    wanted it.  Since change request 5 the hardware swaps are kept as won and
+    lost.
     """
 
     __slots__ = ("line", "wanted_by", "kind", "cell", "expected", "new",
-                 "held", "installing", "loaded", "steps", "hard")
+                 "held", "installing", "loaded", "steps", "won", "lost")
 
     def __init__(self):
         self.clear()
@@ -106,7 +114,8 @@ class Record:
         self.installing = 0
         self.loaded = 0
         self.steps = 0
-        self.hard = 0
+        self.won = 0
+        self.lost = 0
 
     def words(self):
         return tuple(getattr(self, name) for name in self.__slots__)
@@ -114,6 +123,11 @@ class Record:
     @property
     def busy(self):
         return self.line != IDLE
+
+    @property
+    def hard(self):
+        """Hardware swaps so far, won and lost together."""
+        return self.won + self.lost
 
     @property
     def runs_read_lines(self):
@@ -243,9 +257,10 @@ class Cells:
         if record.kind == SWAP and NONE in (record.expected, record.new):
             return False
         # "at most 16 steps and 3 hardware swaps so far", and "the fit
-        # question allows 20 so far" (change request 2)
+        # question allows 20 so far" (change request 2); won and lost "their
+        # sum is the old number" (change request 5)
         return (record.steps <= MOST_STEPS_SO_FAR
-                and record.hard <= MOST_HARD_SO_FAR)
+                and record.won + record.lost <= MOST_HARD_SO_FAR)
 
     def refusal(self, task=None, cell=None, begin=False, swap=None,
                 step=False):
@@ -300,15 +315,12 @@ class Cells:
             return Refused(number)
         record = self.tasks[task]
         record.steps += 1
-        # "A hardware swap counts when attempted, successful or not."
-        if record.line in HARD_LINES:
-            record.hard += 1
         answer = self.do_line(task, record)
         if answer is None:
             return None
         # "A call returns with its last step."
         finished = Finished(record.kind, record.cell, answer, record.steps,
-                            record.hard)
+                            record.won, record.lost)
         record.clear()
         return finished
 
@@ -345,7 +357,11 @@ class Cells:
             record.loaded = pool[at + V]
             record.line = 2
         elif line == 2:
-            if pool[at + D] == NONE:
+            # "whether its own hardware swap found D none, which is won"
+            # (change request 5)
+            won = pool[at + D] == NONE
+            self.count_attempt(record, won)
+            if won:
                 pool[at + D] = record.loaded
             record.line = 3
         elif line == 3:
@@ -433,13 +449,25 @@ class Cells:
             record.line = 30
 
         elif line == 30:
-            if self.current[record.cell] != record.held:
-                return False
-            self.current[record.cell] = record.installing
-            return True
+            # "and line 30 whether it found the held block current" (change
+            # request 5)
+            won = self.current[record.cell] == record.held
+            self.count_attempt(record, won)
+            if won:
+                self.current[record.cell] = record.installing
+            return won
         else:
             raise AssertionError("no such line: %d" % line)
         return None
+
+    def count_attempt(self, record, won):
+        """"A hardware swap counts when attempted, successful or not."  "Each
+        attempt is either won or lost by the memory before it" (change request
+        5)."""
+        if won:
+            record.won += 1
+        else:
+            record.lost += 1
 
     def want_decision(self, record, line):
         record.line = 1

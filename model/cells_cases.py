@@ -6,7 +6,7 @@ states and pools of another length.
 
 writes crates/cells_cases/stdout.  Each line of the input is a case: a letter
 and a number for each word that is not as in the plain case, a colon and the
-case's name.  A case with w prints `NAME N`, what open answers.  The others
+case's name.  A case with x prints `NAME N`, what open answers.  The others
 print `NAME R S T no N` or `NAME R S T shows V`: what begin a read, begin a
 swap, step and look answer, each asked of the case's own state.  100 stands for
 acted, 200 for ended, any other number for that refusal; a `!` after it would
@@ -27,9 +27,10 @@ PLAIN = dict(
     h=0,                    # whose record has these:
     i=0, j=0, k=0, l=0,     # line, wanted, kind, cell
     m=0, n=0,               # expected, new
-    o=0, p=0, q=0, r=0,     # held, taken, steps, hard
-    s=0, t=0, u=5, v=7,     # of the calls: task, cell, expected, new
-    w=0, x=6)               # how many values open is given; the second
+    o=0, p=0, q=0,          # held, taken, steps
+    r=0, s=0,               # hardware swaps won, lost
+    t=0, u=0, v=5, w=7,     # of the calls: task, cell, expected, new
+    x=0, y=6)               # how many values open is given; the second
 
 KINDS = {1: cells.READ, 2: cells.SWAP}
 
@@ -42,7 +43,7 @@ def read_case(line):
     words, colon, name = line.partition(":")
     case = dict(PLAIN)
     for word in words.split(" ") if words else ():
-        if not (colon and re.fullmatch("[a-x](0|[1-9][0-9]*)", word)):
+        if not (colon and re.fullmatch("[a-y](0|[1-9][0-9]*)", word)):
             raise ValueError("not a case: %r" % line)
         case[word[0]] = int(word[1:])
     return case, name
@@ -77,7 +78,8 @@ def state_of(case):
         record.held = case["o"]
         record.installing = case["p"]
         record.steps = case["q"]
-        record.hard = case["r"]
+        record.won = case["r"]
+        record.lost = case["s"]
     return cells.Cells.found(
         case["a"], case["b"], case["c"], pool_of(case),
         current[:case["b"]], case["d"], tasks[:case["a"]])
@@ -107,15 +109,15 @@ def answer(case, entry):
 def look(case, pool):
     state = state_of(case)
     state.pool = pool
-    result = state.look(case["t"])
+    result = state.look(case["u"])
     if isinstance(result, cells.Refused):
         return "no %d" % result.number
     return "shows %d" % result
 
 
 def open_answer(case):
-    values = [5, case["x"], 7, 8][:case["w"]]
-    if len(values) != case["w"]:
+    values = [5, case["y"], 7, 8][:case["x"]]
+    if len(values) != case["x"]:
         raise ValueError("at most four values")
     opened = cells.open_cells(case["a"], case["b"], case["c"],
                               pool_of(case), values)
@@ -126,12 +128,12 @@ def open_answer(case):
 def printed(line):
     """What is printed for one line of the input."""
     case, name = read_case(line)
-    if case["w"]:
+    if case["x"]:
         return "%s %s" % (name, open_answer(case))
-    task, cell = case["s"], case["t"]
+    task, cell = case["t"], case["u"]
     read, _ = answer(case, lambda state: state.begin_read(task, cell))
     swap, _ = answer(case, lambda state: state.begin_swap(
-        task, cell, case["u"], case["v"]))
+        task, cell, case["v"], case["w"]))
     step, pool = answer(case, lambda state: state.step(task))
     looked = look(case, pool_of(case))
     # look comes last, and a case is not to depend on that

@@ -17,6 +17,7 @@ import sys
 
 import draw
 import session
+from cases_attempts import attempt_cases
 from cases_calls import (contention_cases, halt_cases, meeting_cases,
                          path_cases, pool_cases, rate_cases, shop_cases)
 from cases_fill import fill_cases
@@ -73,6 +74,7 @@ def make():
     fill_cases(cases)
     meeting_cases(cases)
     rate_cases(cases)
+    attempt_cases(cases)
     contention_cases(cases)
     return cases
 

@@ -5,7 +5,8 @@ the model, must print something else for at least one case.
 Prints for each wrong reading how many cases tell it, and ends with 1 if some
 reading is told by none.  A session shows of a block only what its cell has once
 it is current, so the fill's order and the search's are told by the self test's
-states instead.  Readings of the rate are told by sessions and by the pairs of
+states instead, and so is what becomes of attempts in states that no opening
+leads to.  Readings of the rate are told by sessions and by the pairs of
 the C example; those of wide numbers, which no session reaches, by the pairs.
 """
 
@@ -24,6 +25,16 @@ import selftest
 HERE = os.path.dirname(os.path.abspath(__file__))
 
 TAKEN_USED = "if record.has_taken_a_block and record.installing == block:"
+
+# What the hardware swaps find, how they count, and the line that says so.
+COUNTS = "\n            self.count_attempt(record, won)"
+FINDS_NONE = "won = pool[at + D] == NONE"
+COUNTS_2 = FINDS_NONE + COUNTS
+FINDS_BLOCK = "won = self.current[record.cell] == record.held"
+COUNTS_30 = FINDS_BLOCK + COUNTS
+DONE = """(done %d %s %d %s %d %d %d)" % (
+            task, result.kind, result.cell, answer, result.steps,
+            result.won, result.lost))"""
 
 # What is misread; the file; the text replaced; the text put there.
 MISREADINGS = [
@@ -87,12 +98,14 @@ MISREADINGS = [
      "            if self.current[record.cell] != record.held:\n"
      "                return False\n"
      "            block = self.take_unused_block()\n"),
-    ("line 4 is a hardware swap", "cells", "HARD_LINES = frozenset((2, 30))",
-     "HARD_LINES = frozenset((2, 4, 30))"),
+    ("line 4 is a hardware swap", "cells",
+     "            block = self.take_unused_block()\n",
+     "            self.count_attempt(record, True)\n"
+     "            block = self.take_unused_block()\n"),
     ("line 30 makes the new block inactive", "cells",
      "self.current[record.cell] = record.installing",
      "self.current[record.cell] = record.installing\n"
-     "            pool[nb + C] = 1"),
+     "                pool[nb + C] = 1"),
     # change request 2: from when on a taken block counts as used
     ("a taken block is used at line 30 alone", "cells", TAKEN_USED,
      TAKEN_USED.replace("record.has_taken_a_block", "record.line == 30")),
@@ -146,24 +159,100 @@ MISREADINGS = [
     ("27 stores nothing", "cells", "pool[at + C] = 1", "pass"),
     ("28 does not test", "cells", "if decided != record.expected:",
      "if False:"),
-    ("2 always stores", "cells", "if pool[at + D] == NONE:\n         "
-     "       pool", "if True:\n                pool"),
-    ("2 never stores", "cells", "if pool[at + D] == NONE:\n         "
-     "       pool", "if False:\n                pool"),
-    ("30 always succeeds", "cells",
-     "if self.current[record.cell] != record.held:", "if False:"),
+    ("2 always stores", "cells", "if won:\n                pool",
+     "if True:\n                pool"),
+    ("2 never stores", "cells", "if won:\n                pool",
+     "if False:\n                pool"),
+    ("30 always succeeds", "cells", FINDS_BLOCK, "won = True"),
     ("30 never installs", "cells",
      "self.current[record.cell] = record.installing", "pass"),
     ("a failed hardware swap is not counted", "cells",
-     "if record.line in HARD_LINES:",
-     "if record.line == 2 or (record.line == 30 and"
-     " self.current[record.cell] == record.held):"),
+     "record.lost += 1", "pass"),
+    ("a failed line 30 is not counted", "cells", COUNTS_30,
+     FINDS_BLOCK + "\n            if won:\n"
+     "                self.count_attempt(record, won)"),
     ("25 failing decides no more", "cells",
      "self.want_decision(record, 28)\n            return None",
      "record.line = 4\n            return None"),
-    ("a finished call leaves the hardware swaps", "cells",
-     "        self.hard = 0\n\n    def words", "        self.hard = getattr("
-     "self, 'hard', 0)\n\n    def words"),
+    # change request 5: won and lost
+    ("always won", "cells", "if won:\n            record.won",
+     "if True:\n            record.won"),
+    ("always lost", "cells", "if won:\n            record.won",
+     "if False:\n            record.won"),
+    ("won and lost exchanged", "cells", "if won:\n            record.won",
+     "if not won:\n            record.won"),
+    ("line 30 counts won when it answers no", "cells", COUNTS_30,
+     FINDS_BLOCK + "\n            self.count_attempt(record, True)"),
+    ("line 30 counts lost when it answers yes", "cells", COUNTS_30,
+     FINDS_BLOCK + "\n            self.count_attempt(record, False)"),
+    ("line 30 counts the other way round", "cells", COUNTS_30,
+     FINDS_BLOCK + "\n            self.count_attempt(record, not won)"),
+    ("line 30 is won where the value is the expected one", "cells", COUNTS_30,
+     FINDS_BLOCK + "\n            self.count_attempt(record,"
+     " self.look(record.cell) == record.expected)"),
+    ("the deciding part always wins", "cells", COUNTS_2,
+     FINDS_NONE + "\n            self.count_attempt(record, True)"),
+    ("the deciding part always loses", "cells", COUNTS_2,
+     FINDS_NONE + "\n            self.count_attempt(record, False)"),
+    ("the deciding part counts the other way round", "cells", COUNTS_2,
+     FINDS_NONE + "\n            self.count_attempt(record, not won)"),
+    ("the deciding part wins where D is its value then", "cells", COUNTS_2,
+     FINDS_NONE + "\n            self.count_attempt(record,"
+     " won or pool[at + D] == record.loaded)"),
+    ("the deciding part wins where D is the task's new value", "cells",
+     COUNTS_2, FINDS_NONE + "\n            self.count_attempt(record,"
+     " won or pool[at + D] == record.new)"),
+    ("the deciding part wins where 28 goes on", "cells", COUNTS_2,
+     FINDS_NONE + "\n            self.count_attempt(record,"
+     " won or pool[at + D] == record.expected)"),
+    ("the deciding part tells whether D is the held block's V", "cells",
+     COUNTS_2, FINDS_NONE + "\n            self.count_attempt(record,"
+     " won or pool[at + D] == pool[at + V])"),
+    *(("the attempt for %d is always %s" % (wanted, word), "cells", COUNTS_2,
+       FINDS_NONE + "\n            self.count_attempt(record, %s)" % (
+           ("won or record.wanted_by == %d" if word == "won" else
+            "won and record.wanted_by != %d") % wanted))
+      for wanted, word in ((13, "won"), (13, "lost"), (25, "won"),
+                           (25, "lost"), (28, "won"), (28, "lost"))),
+    ("a read's attempts are always won", "cells", "if won:\n            record",
+     "if won or record.kind == READ:\n            record"),
+    ("an equal swap's attempts are always won", "cells",
+     "if won:\n            record",
+     "if won or record.runs_read_lines:\n            record"),
+    ("a second attempt is lost if the first was", "cells",
+     "if won:\n            record", "if won and not record.lost:\n"
+     "            record"),
+    ("a call wins at most once", "cells", "record.won += 1",
+     "record.won = 1"),
+    ("a call loses at most once", "cells", "record.lost += 1",
+     "record.lost = 1"),
+    ("a call loses at most twice", "cells", "record.lost += 1",
+     "record.lost = min(record.lost + 1, 2)"),
+    ("a won attempt takes back a lost one", "cells", "record.won += 1",
+     "record.won += 1\n            record.lost = 0"),
+    ("a finished call leaves the won", "cells", "        self.won = 0\n",
+     "        self.won = getattr(self, 'won', 0)\n"),
+    ("a finished call leaves the lost", "cells", "        self.lost = 0\n",
+     "        self.lost = getattr(self, 'lost', 0)\n"),
+    ("lost is printed before won", "session", "result.won, result.lost))",
+     "result.lost, result.won))"),
+    ("the sum is printed for won", "session", "result.won, result.lost))",
+     "result.hard, result.lost))"),
+    ("the sum is printed for lost", "session", "result.won, result.lost))",
+     "result.won, result.hard))"),
+    ("the done line keeps the sum too", "session", DONE,
+     DONE.replace("%d)", "%d %d)").replace("result.won",
+                                           "result.hard, result.won")),
+    ("the done line keeps the sum alone", "session", DONE,
+     DONE.replace(" %d)", ")").replace("result.won, result.lost",
+                                       "result.hard")),
+    ("the end line has the won alone", "session",
+     "self.hard += result.won + result.lost", "self.hard += result.won"),
+    ("the end line has the lost alone", "session",
+     "self.hard += result.won + result.lost", "self.hard += result.lost"),
+    ("the rate is of the won alone", "session",
+     "rate(self.hard, self.finished)", "rate(sum(int(line.split()[-2])"
+     " for line in self.out if line[1] == 'd'), self.finished)"),
     ("look tells V always", "cells",
      "if self.pool[at + C] == 0:\n            return self.pool[at + V]",
      "if True:\n            return self.pool[at + V]"),
@@ -333,7 +422,8 @@ UNFIT_LINE = "elif record.line not in lines:"
 HELD = "if record.holds_a_block and record.held >= self.b:"
 TAKEN_FIT = "if record.has_taken_a_block and record.installing >= self.b:"
 SO_FAR = ("return (record.steps <= MOST_STEPS_SO_FAR\n"
-          "                and record.hard <= MOST_HARD_SO_FAR)")
+          "                and record.won + record.lost <= MOST_HARD_SO_FAR)")
+SUM = "record.won + record.lost <= MOST_HARD_SO_FAR)"
 IDLE_IS_FIT = "if not record.busy:\n            return True"
 FIT_MISREADINGS = [
     ("6 leaves out N", FIT, FIT + " not in (0, 1)"),
@@ -489,6 +579,36 @@ FIT_MISREADINGS = [
      + " and record.hard < 4"),
     ("a read's hardware swaps are not asked", SO_FAR,
      SO_FAR.replace("and rec", "and (record.kind == READ or rec") + ")"),
+    ("won alone is asked", SUM, SUM.replace(" + record.lost", "")),
+    ("lost alone is asked", SUM, SUM.replace("record.won + ", "")),
+    ("won and lost are asked each", SUM,
+     SUM.replace("record.won + record.lost", "max(record.won, record.lost)")),
+    ("won is at most 2", SUM, SUM.replace(")", " and record.won < 3)")),
+    ("lost is at most 2", SUM, SUM.replace(")", " and record.lost < 3)")),
+    ("lost is at most 1 where one is won", SUM,
+     SUM.replace(")", " and (record.won == 0 or record.lost < 2))")),
+    ("the sum wraps at 32 bits", SUM, SUM.replace(
+        "record.won + record.lost", "(record.won + record.lost) % 2 ** 32")),
+    ("the sum wraps at 16 bits", SUM, SUM.replace(
+        "record.won + record.lost", "(record.won + record.lost) % 2 ** 16")),
+    ("the sum wraps at 8 bits", SUM, SUM.replace(
+        "record.won + record.lost", "(record.won + record.lost) % 2 ** 8")),
+    ("won has 8 bits", SUM, SUM.replace("record.won", "record.won % 2 ** 8")),
+    ("lost has 8 bits", SUM,
+     SUM.replace("record.lost", "record.lost % 2 ** 8")),
+    ("the sum is signed", SUM, SUM.replace(
+        "record.won + record.lost", "(record.won + record.lost + 2 ** 31)"
+        " % 2 ** 32 - 2 ** 31")),
+    ("won less lost is asked", SUM, SUM.replace(
+        "record.won + record.lost", "abs(record.won - record.lost)")),
+    ("the lost of an equal swap are not asked", SUM, SUM.replace(
+        "record.lost", "(0 if record.runs_read_lines else record.lost)")),
+    ("idle records asked won and lost", IDLE_IS_FIT,
+     "if not record.busy:\n            return record.won + record.lost < 4"),
+    ("the sum may be 2 at line 2", SUM, SUM.replace(
+        "MOST_HARD_SO_FAR", "(2 if record.line == 2 else 3)")),
+    ("the sum may be 2 at line 30", SUM, SUM.replace(
+        "MOST_HARD_SO_FAR", "(2 if record.line == 30 else 3)")),
     ("a read's steps are at most 5", SO_FAR,
      SO_FAR + " and (record.kind == SWAP or record.steps < 6)"),
     ("a read's hardware swaps are at most 1", SO_FAR,
@@ -561,6 +681,33 @@ FILL_MISREADINGS = [
     ("a block is taken before line 4", TAKEN_USED,
      TAKEN_USED.replace("record.has", "(record.line == 4 or record.has")
      .replace("block and", "block) and")),
+]
+
+# The same of won and lost where no opening leads: each must change what a step
+# counts in one of selftest.py's states.
+ATTEMPT_MISREADINGS = [
+    ("an attempt for none that finds none is lost", COUNTS_2,
+     FINDS_NONE + "\n            self.count_attempt(record,"
+     " won and record.loaded != NONE)"),
+    ("line 30 is lost where the held block is the taken one", COUNTS_30,
+     FINDS_BLOCK + "\n            self.count_attempt(record,"
+     " won and record.held != record.installing)"),
+    ("line 30 is won where the taken block is current", COUNTS_30,
+     FINDS_BLOCK + "\n            self.count_attempt(record, won or"
+     " self.current[record.cell] == record.installing)"),
+    ("line 30 is won where the held block has D none", COUNTS_30,
+     FINDS_BLOCK + "\n            self.count_attempt(record,"
+     " pool[at + D] == NONE)"),
+    ("an attempt for 25 after another is lost", COUNTS_2,
+     FINDS_NONE + "\n            self.count_attempt(record,"
+     " won and (record.wanted_by != 25 or record.hard == 0))"),
+    ("a call wins at most twice", "record.won += 1",
+     "record.won = min(record.won + 1, 2)"),
+    ("a call loses at most three times", "record.lost += 1",
+     "record.lost = min(record.lost + 1, 3)"),
+    ("the third attempt is lost", "if won:\n            record",
+     "if won and record.hard != 2:\n            record"),
+    ("D 0 is none", COUNTS_2, COUNTS_2.replace("== NONE", "in (NONE, 0)")),
 ]
 
 
@@ -642,6 +789,13 @@ def main():
         module = edited(("cells",), "cells", *edit)["cells"]
         return lambda state: selftest.fill_answers(module, *state)
 
+    attempts = {name: selftest.attempt_answers(cells, *state)
+                for name, state in selftest.ATTEMPTS.items()}
+
+    def attempt_answers(edit):
+        module = edited(("cells",), "cells", *edit)["cells"]
+        return lambda state: selftest.attempt_answers(module, *state)
+
     found = [(what, tellers(misread(*edit)[0], sessions, cases.prints))
              for what, *edit in MISREADINGS]
     found += [(what, tellers(misread("rate", *edit)[0], sessions,
@@ -653,6 +807,9 @@ def main():
               for what, *edit in FIT_MISREADINGS]
     found += [(what, tellers(fill_answers(edit), selftest.FILLS, fills))
               for what, *edit in FILL_MISREADINGS]
+    found += [(what, tellers(attempt_answers(edit), selftest.ATTEMPTS,
+                             attempts))
+              for what, *edit in ATTEMPT_MISREADINGS]
     return report(found)
 
 

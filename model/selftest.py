@@ -1,14 +1,17 @@
 #!/usr/bin/env python3
-"""Self test of the model: P1 to P10, the fill, and claims on drawn lists.
+"""Self test of the model: P1 to P10, the fill, hardware swaps won and lost, and
+claims on drawn lists.
 
 The drawn lists check what documents 00 and 01 say of every list: counts by
 path, the figure with a new block each time, the bounds, the promise of no
-hardware swap, and that the calls can be told one after another on plain cells.
+hardware swap, and that the calls can be told one after another on plain cells;
+and that an attempt is won where it changes memory and lost where it does not.
 """
 
 import sys
 from fractions import Fraction
 
+import attempts
 import cells
 import draw
 import fuzz
@@ -41,7 +44,7 @@ def cases_from_the_shop():
                            (again 10 (step 0))
                            (read 1 0)
                            (again 3 (step 1))"""),
-          ["(done 0 swap 0 yes 10 0)", "(done 1 read 0 7 3 0)",
+          ["(done 0 swap 0 yes 10 0 0)", "(done 1 read 0 7 3 0 0)",
            "(cell 0 7)", "(end 2 0 0 0)"])
 
     check("P2, N 32", printed("(open 32 1 65 (5))"),
@@ -59,12 +62,12 @@ def cases_from_the_shop():
     check("P5", printed("""(open 2 1 5 (5))
                            (swap 0 0 5 5)
                            (again 3 (step 0))"""),
-          ["(done 0 swap 0 yes 3 0)", "(cell 0 5)", "(end 1 0 0 0)"])
+          ["(done 0 swap 0 yes 3 0 0)", "(cell 0 5)", "(end 1 0 0 0)"])
 
     check("P6", printed("""(open 2 1 5 (5))
                            (swap 0 0 4 6)
                            (again 8 (step 0))"""),
-          ["(done 0 swap 0 no 8 0)", "(cell 0 5)", "(end 1 0 0 0)"])
+          ["(done 0 swap 0 no 8 0 0)", "(cell 0 5)", "(end 1 0 0 0)"])
 
     check("P7", printed("""(open 2 1 5 (5))
                            (step 0)"""),
@@ -89,13 +92,17 @@ def cases_from_the_shop():
                                    (again 13 (step 0))
                                    (swap 0 0 4 6)
                                    (again 10 (step 0))"""),
-          ["(done 1 swap 0 yes 12 1)", "(done 0 swap 0 no 7 1)",
-           "(done 0 swap 0 yes 13 2)", "(done 0 swap 0 yes 10 0)",
+          # task 1 decides the block at 25, so task 0 finds it decided at 28,
+          # and again in its next call, whose line 30 is alone
+          ["(done 1 swap 0 yes 12 1 0)", "(done 0 swap 0 no 7 0 1)",
+           "(done 0 swap 0 yes 13 1 1)", "(done 0 swap 0 yes 10 0 0)",
            "(cell 0 6)", "(end 4 0 4 1000)"])
     check("P10", printed(start + """(again 5 (step 0))
                                     (again 14 (step 1))
                                     (again 6 (step 0))"""),
-          ["(done 1 swap 0 yes 21 3)", "(done 0 swap 0 no 13 2)",
+          # task 0 decides the block before task 1 at 25 and 28, and loses its
+          # line 30 to task 1
+          ["(done 1 swap 0 yes 21 1 2)", "(done 0 swap 0 no 13 1 1)",
            "(cell 0 9)", "(end 2 0 5 2500)"])
 
 
@@ -231,7 +238,10 @@ def unfit_states_are_refused():
         lambda m: setattr(m.tasks[0], "expected", NONE),
         lambda m: setattr(m.tasks[0], "new", NONE),
         lambda m: setattr(m.tasks[0], "steps", 21),
-        lambda m: setattr(m.tasks[0], "hard", 4),
+        lambda m: setattr(m.tasks[0], "won", 4),
+        lambda m: setattr(m.tasks[0], "lost", 4),
+        lambda m: (setattr(m.tasks[0], "won", 2),
+                   setattr(m.tasks[0], "lost", 2)),
     ]
     for damage in damages:
         model = cells.open_cells(2, 1, 5, [0] * 25, [5])
@@ -274,7 +284,7 @@ def fill_state(module, line, taken, steps, last, other, other_taken):
             record.wanted_by = 28 if next_line == 3 else 0
             record.expected, record.new = 5, new
             record.installing, record.steps = block, steps
-            record.hard = 1
+            record.lost = 1
     return model
 
 
@@ -303,12 +313,12 @@ def fills_by_the_papers():
                                         and taken == 8):
             yield name, ((6,), *unchanged)
         elif line == 30:
-            yield name, (("swap", 0, True, steps + 1, 2), {}, [taken, 1],
+            yield name, (("swap", 0, True, steps + 1, 1, 1), {}, [taken, 1],
                          last, 0, 0, 0)
         elif line == 3:
             # task 0's held block has D none, so it was not decided as 5
-            yield name, (("swap", 0, False, steps + 1, 1), {}, [0, 1], last,
-                         0, 0, 0)
+            yield name, (("swap", 0, False, steps + 1, 0, 1), {}, [0, 1],
+                         last, 0, 0, 0)
         elif line == 4:
             used = {0, 1} | ({other_taken} if other in (5, 6, 7, 8, 30)
                              else set())
@@ -365,6 +375,91 @@ def every_block_is_used():
               (None, *before, 5, NONE, 1))
         model.ask_fit = True
         check("refused", model.step(0), cells.Refused(6))
+
+
+# -------------------------------------------------------- won and lost
+
+# Line 2, for 13, 25 or 28, and line 30 in states of two tasks and one cell: the
+# next line and who wanted it; D of the held block and the value loaded; the
+# cell's block, the block held and the one taken; won and lost so far.  Also
+# states that no opening leads to: there a won attempt may leave memory as it
+# was, and a lost one may find in D what it would have stored.
+ATTEMPTS = {}
+for _won, _lost in ((0, 0), (1, 0), (0, 1), (1, 1), (2, 1), (0, 3), (3, 0)):
+    for _wanted in (13, 25, 28):
+        for _d in (NONE, 0, 5, 6):
+            for _loaded in (5, 6, NONE):
+                ATTEMPTS["at_2_for_%d_d_%d_loaded_%d_after_%d_%d" % (
+                    _wanted, _d, _loaded, _won, _lost)] = (
+                        2, _wanted, _d, _loaded, 0, 0, 0, _won, _lost)
+    for _d in (NONE, 5):
+        for _current, _held, _taken in ((0, 0, 1), (1, 0, 2), (1, 0, 1),
+                                        (0, 2, 1), (3, 3, 3), (0, 0, 0)):
+            ATTEMPTS["at_30_d_%d_%d_%d_%d_after_%d_%d" % (
+                _d, _current, _held, _taken, _won, _lost)] = (
+                    30, 0, _d, 5, _current, _held, _taken, _won, _lost)
+
+
+def attempt_answers(module, line, wanted, d, loaded, current, held, taken, won,
+                    lost):
+    """Task 0's step in this state: won and lost after it, the answer if it ends
+    the call, the blocks, and the pool's words that it changed."""
+    model = module.open_cells(2, 1, 5, [0] * 25, [5])
+    model.current = [current]
+    model.pool[5 * held + 4] = d
+    record = model.tasks[0]
+    record.line, record.wanted_by = line, wanted
+    record.kind = module.READ if wanted == 13 else module.SWAP
+    record.expected, record.new = 5, 6
+    record.held, record.installing, record.loaded = held, taken, loaded
+    record.won, record.lost = won, lost
+    before = list(model.pool)
+    result = model.step(0)
+    after = record if result is None else result
+    return ((after.won, after.lost), result and result.answer, model.current,
+            {at: word for at, word in enumerate(model.pool)
+             if word != before[at]})
+
+
+def attempts_by_the_papers():
+    """"whether its own hardware swap found D none, which is won, and line 30
+    whether it found the held block current" (change request 5)."""
+    for name, (line, _, d, loaded, current, held, taken, won,
+               lost) in ATTEMPTS.items():
+        found = d == NONE if line == 2 else current == held
+        counts = (won + 1, lost) if found else (won, lost + 1)
+        if line == 30:
+            yield name, (counts, found, [taken if found else current], {})
+        else:
+            yield name, (counts, None, [current],
+                         {4: loaded} if found and loaded != NONE else {})
+
+
+def attempts_told_by_memory(model, actions):
+    """Runs the actions.  From a fresh opening an attempt is won exactly if it
+    changes memory: D becomes other than none, or the cell's block another."""
+    def memory():
+        return list(model.pool), list(model.current)
+
+    tries = {}
+    for word, task, *numbers in actions:
+        if word != "step":
+            begin = model.begin_read if word == "read" else model.begin_swap
+            begin(task, *numbers)
+            continue
+        if task >= model.n or not model.tasks[task].busy:
+            continue
+        record = model.tasks[task]
+        line, before = record.line, memory()
+        won, lost = tries.pop(task, (0, 0))
+        result = model.step(task)
+        if line in (2, 30):
+            changed = memory() != before
+            won, lost = won + changed, lost + (not changed)
+        after = record if result is None else result
+        check("won and lost", (after.won, after.lost), (won, lost))
+        if result is None:
+            tries[task] = won, lost
 
 
 # --------------------------------------------------------- the drawn lists
@@ -474,6 +569,7 @@ def can_be_told(calls, start):
 
 def drawn_lists(count):
     seen = session.Trace()
+    patterns = {}
     halted = set()
     drawn = draw.Draw(2003)
     for number in range(count):
@@ -497,16 +593,20 @@ def drawn_lists(count):
         pool_text = session.run(data, trace, ask_fit=True)
         check(name + "the figure with a new block each time", pool_text,
               session.run(data, open_cells=open_figure))
-        for task, finished, lines in trace.calls:
+        for (task, finished, lines), tries in zip(trace.calls, trace.attempts):
             path = cells.path_of(lines)
             check(name + path, cells.counts_of(lines), cells.PATHS[path])
-            check(name + path, (finished.steps, finished.hard),
+            check(name + path, (finished.steps, finished.won + finished.lost),
                   (cells.PATHS[path][0], cells.PATHS[path][3]))
+            patterns.setdefault(attempts.call_key(finished, lines),
+                                set()).add(tries or "-")
         seen.paths.update(trace.paths)
         seen.refusals.update(trace.refusals)
         halted.update(line for line, _ in trace.next_lines)
         check(name + "question 6", trace.refusals[6], 0)
 
+        model = cells.open_cells(n, v, b, [9] * (5 * b), values)
+        attempts_told_by_memory(model, actions)
         model = cells.open_cells(n, v, b, [9] * (5 * b), values)
         calls = calls_of(model, actions)
         for call in calls:
@@ -521,6 +621,12 @@ def drawn_lists(count):
         check("lines of the fill that none halted at",
               (cells.FILL_LINES | {30}) - halted, set())
     check(cells.UNREACHED, seen.paths[cells.UNREACHED], 0)
+    for key, found in patterns.items():
+        check("patterns of %s %s %s that the search has not" % key,
+              found - set(attempts.PATTERNS[key].split(" ")), set())
+    if count >= 400:
+        check("patterns not come by", attempts.joined(patterns),
+              attempts.PATTERNS)
     return sum(seen.paths.values())
 
 
@@ -562,6 +668,10 @@ def main():
                                 for name, state in FILLS.items()},
           {name: answers for name, answers in fills_by_the_papers()})
     every_block_is_used()
+    check("won and lost in edited states",
+          {name: attempt_answers(cells, *state)
+           for name, state in ATTEMPTS.items()},
+          dict(attempts_by_the_papers()))
     count = int(sys.argv[1]) if len(sys.argv) > 1 else 400
     calls = drawn_lists(count)
     print("selftest: P1 to P10 and %d drawn lists with %d calls agree"

@@ -21,11 +21,13 @@ class Trace:
         self.refusals = Counter()  # number -> how often
         self.paths = Counter()     # the table's path -> how often
         self.calls = []            # (task, Finished, lines done), as finished
+        self.attempts = []         # of each of them, w for won, l for lost
         self.next_lines = []       # (line, wanted by) left by each task
 
-    def finished(self, task, finished, lines):
+    def finished(self, task, finished, lines, attempts):
         self.paths[cells.path_of(lines)] += 1
         self.calls.append((task, finished, tuple(lines)))
+        self.attempts.append(attempts)
 
 
 class Session:
@@ -42,7 +44,9 @@ class Session:
                                 opening.values, ask_fit)
         self.finished = 0
         self.hard = 0
-        self.lines = [[] for _ in range(opening.n)] if self.is_open() else []
+        tasks = opening.n if self.is_open() else 0
+        self.lines = [[] for _ in range(tasks)]
+        self.attempts = [""] * tasks
 
     def is_open(self):
         return not isinstance(self.cells, cells.Refused)
@@ -68,17 +72,27 @@ class Session:
     def act(self, action):
         if isinstance(action, reader.Step):
             if self.trace is not None:
-                self.note_line(action.task)
+                return self.traced_step(action.task)
             return self.cells.step(action.task)
         if isinstance(action, reader.Read):
             return self.cells.begin_read(action.task, action.cell)
         return self.cells.begin_swap(action.task, action.cell,
                                      action.expected, action.new)
 
-    def note_line(self, task):
-        if task < self.cells.n and self.cells.tasks[task].busy:
-            record = self.cells.tasks[task]
-            self.lines[task].append((record.line, record.wanted_by))
+    def traced_step(self, task):
+        """The step, with its line and what became of a hardware swap noted."""
+        if task >= self.cells.n or not self.cells.tasks[task].busy:
+            return self.cells.step(task)
+        record = self.cells.tasks[task]
+        self.lines[task].append((record.line, record.wanted_by))
+        won, lost = record.won, record.lost
+        result = self.cells.step(task)
+        if isinstance(result, cells.Refused):
+            return result
+        after = record if result is None else result
+        self.attempts[task] += ("w" * (after.won - won)
+                                + "l" * (after.lost - lost))
+        return result
 
     # ------------------------------------------------------ printed lines
 
@@ -89,19 +103,23 @@ class Session:
 
     def done(self, task, result):
         """"A finished call prints `(done T word K answer steps hard)`; word
-        is read or swap as begun, answer a value or yes/no"."""
+        is read or swap as begun, answer a value or yes/no".  "The done line
+        ends in two numbers, won and lost, where it ended in one; [..] and the
+        end line keeps the sum" (change request 5)."""
         self.finished += 1
-        self.hard += result.hard
+        self.hard += result.won + result.lost
         if result.kind == cells.SWAP:
             answer = "yes" if result.answer else "no"
         else:
             answer = "%d" % result.answer
-        self.out.append("(done %d %s %d %s %d %d)" % (
+        self.out.append("(done %d %s %d %s %d %d %d)" % (
             task, result.kind, result.cell, answer, result.steps,
-            result.hard))
+            result.won, result.lost))
         if self.trace is not None:
-            self.trace.finished(task, result, self.lines[task])
+            self.trace.finished(task, result, self.lines[task],
+                                self.attempts[task])
             self.lines[task] = []
+            self.attempts[task] = ""
 
     def end(self):
         """"At the end, for each cell, `(cell K value)` by look, then `(end f
