@@ -14,7 +14,8 @@ struct Record {
     taken: u32,
     loaded: u32,
     steps: u32,
-    hard: u32,
+    won: u32,
+    lost: u32,
 }
 
 struct State {
@@ -35,7 +36,7 @@ enum Answer {
 enum Outcome {
     Refused(u32),
     Acted,
-    Ended(Answer, u32, u32),
+    Ended(Answer, u32, u32, u32),
 }
 
 const X: usize = 0;
@@ -66,7 +67,7 @@ impl Record {
             && (!self.has_taken() || self.taken < blocks)
             && (self.kind == 1 || self.expected != NONE && self.new != NONE)
             && self.steps <= 20
-            && self.hard <= 3
+            && u64::from(self.won) + u64::from(self.lost) <= 3
     }
 
     fn has_taken(&self) -> bool {
@@ -159,9 +160,11 @@ impl State {
         match r.line {
             1 => (r.loaded, r.line) = (pool[at + V], 2),
             2 => {
-                r.hard += 1;
                 if pool[at + D] == NONE {
                     pool[at + D] = r.loaded;
+                    r.won += 1;
+                } else {
+                    r.lost += 1;
                 }
                 r.line = 3;
             }
@@ -216,8 +219,9 @@ impl State {
                 (r.line, r.wanted) = (1, 28);
             }
             _ => {
-                r.hard += 1;
                 let won = self.current[r.cell as usize] == r.held;
+                r.won += u32::from(won);
+                r.lost += u32::from(!won);
                 if won {
                     self.current[r.cell as usize] = r.taken;
                 }
@@ -231,7 +235,7 @@ impl State {
             }
             Some(a) => {
                 self.records[task as usize] = Record::default();
-                Outcome::Ended(a, r.steps, r.hard)
+                Outcome::Ended(a, r.steps, r.won, r.lost)
             }
         }
     }
@@ -246,7 +250,7 @@ fn main() {
         seed = seed.wrapping_mul(1664525).wrapping_add(1013904223);
         seed / 65536
     };
-    let (mut finished, mut yes, mut steps, mut hard, mut refused, mut sum) = (0u32, 0u32, 0u32, 0u32, 0u32, 0u32);
+    let (mut finished, mut yes, mut steps, mut won, mut lost, mut refused, mut sum) = (0u32, 0u32, 0u32, 0u32, 0u32, 0u32, 0u32);
     for _ in 0..60000 {
         let task = draw() % 32;
         let idle = s.records[task as usize].line == 0;
@@ -261,10 +265,11 @@ fn main() {
         match outcome {
             Outcome::Refused(_) => refused += 1,
             Outcome::Acted => {}
-            Outcome::Ended(a, n, h) => {
+            Outcome::Ended(a, n, w, l) => {
                 finished += 1;
                 steps += n;
-                hard += h;
+                won += w;
+                lost += l;
                 match a {
                     Answer::Value(v) => sum += v,
                     Answer::Yes => yes += 1,
@@ -273,5 +278,5 @@ fn main() {
             }
         }
     }
-    println!("{finished} {yes} {steps} {hard} {sum} {refused}");
+    println!("{finished} {yes} {steps} {won} {lost} {sum} {refused}");
 }

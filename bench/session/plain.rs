@@ -51,7 +51,8 @@ struct Record {
     taken: u32,
     loaded: u32,
     steps: u32,
-    hard: u32,
+    won: u32,
+    lost: u32,
 }
 
 #[derive(Clone, Copy, Default)]
@@ -85,7 +86,8 @@ struct Finished {
     cell: u32,
     answer: Answer,
     steps: u32,
-    hard: u32,
+    won: u32,
+    lost: u32,
 }
 
 // A question's number, where the answer is no.
@@ -269,7 +271,7 @@ impl Record {
     fn fits(&self, cells: u32, blocks: u32) -> bool {
         self.line == 0
             || self.steps <= 20
-                && self.hard <= 3
+                && u64::from(self.won) + u64::from(self.lost) <= 3
                 && self.cell < cells
                 && (self.held < blocks || !self.holds())
                 && (self.taken < blocks || !self.has_taken())
@@ -316,9 +318,11 @@ impl Record {
         match self.line {
             1 | 11 | 20 => (self.loaded, self.line) = (block.v, self.line + 1),
             2 => {
-                self.hard += 1;
                 if block.d == NONE {
                     block.d = self.loaded;
+                    self.won += 1;
+                } else {
+                    self.lost += 1;
                 }
                 self.line = 3;
             }
@@ -435,10 +439,11 @@ impl Cells {
             }
             5..=8 => record.fill_line(&mut self.pool[record.taken as usize]),
             30 => {
-                record.hard += 1;
                 if *current != record.held {
+                    record.lost += 1;
                     return Some(Answer::No);
                 }
+                record.won += 1;
                 *current = record.taken;
                 return Some(Answer::Yes);
             }
@@ -452,8 +457,8 @@ impl Cells {
         ask(task < self.tasks, 7)?;
         ask(self.records[task as usize].line != 0, 11)?;
         Ok(self.do_line(task).map(|answer| {
-            let Record { kind, cell, steps, hard, .. } = std::mem::take(&mut self.records[task as usize]);
-            Finished { task, kind, cell, answer, steps, hard }
+            let Record { kind, cell, steps, won, lost, .. } = std::mem::take(&mut self.records[task as usize]);
+            Finished { task, kind, cell, answer, steps, won, lost }
         }))
     }
 
@@ -503,9 +508,9 @@ fn put_done(out: &mut Vec<u8>, f: &Finished) {
     out.extend_from_slice(if f.kind == Kind::Read { b" read " } else { b" swap " });
     put_number(out, f.cell.into());
     match f.answer {
-        Answer::Value(value) => put_line(out, b"", &[value.into(), f.steps.into(), f.hard.into()]),
-        Answer::Yes => put_line(out, b" yes", &[f.steps.into(), f.hard.into()]),
-        Answer::No => put_line(out, b" no", &[f.steps.into(), f.hard.into()]),
+        Answer::Value(value) => put_line(out, b"", &[value.into(), f.steps.into(), f.won.into(), f.lost.into()]),
+        Answer::Yes => put_line(out, b" yes", &[f.steps.into(), f.won.into(), f.lost.into()]),
+        Answer::No => put_line(out, b" no", &[f.steps.into(), f.won.into(), f.lost.into()]),
     }
 }
 
@@ -537,7 +542,7 @@ fn play(out: &mut Vec<u8>, opening: &Opening, forms: &[Action], actions: &[u16])
             Ok(None) => {}
             Ok(Some(call)) => {
                 finished += 1;
-                hard += u64::from(call.hard);
+                hard += u64::from(call.won + call.lost);
                 put_done(out, &call);
             }
             Err(number) => put_line(out, b"(no", &[i as u64, number.into()]),

@@ -13,7 +13,8 @@ struct Totals {
     pub finished: u32,
     pub yes: u32,
     pub steps: u32,
-    pub hard: u32,
+    pub won: u32,
+    pub lost: u32,
     pub sum: u32,
     pub refused: u32,
 }
@@ -38,7 +39,8 @@ fn with_finished(t: Totals, f: Finished) -> Totals {
     let mut n = t;
     n.finished = wrapping_add_u32(t.finished, 1);
     n.steps = wrapping_add_u32(t.steps, f.steps);
-    n.hard = wrapping_add_u32(t.hard, f.hard);
+    n.won = wrapping_add_u32(t.won, f.won);
+    n.lost = wrapping_add_u32(t.lost, f.lost);
     let a = f.answer;
     match a {
         Answer::Value(v) => {
@@ -139,7 +141,8 @@ fn main() {
         finished: 0,
         yes: 0,
         steps: 0,
-        hard: 0,
+        won: 0,
+        lost: 0,
         sum: 0,
         refused: 0,
     };
@@ -154,7 +157,8 @@ fn main() {
     print(t.finished, b" ");
     print(t.yes, b" ");
     print(t.steps, b" ");
-    print(t.hard, b" ");
+    print(t.won, b" ");
+    print(t.lost, b" ");
     print(t.sum, b" ");
     print(t.refused, b"\n");
 }

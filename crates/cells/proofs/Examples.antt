@@ -27,15 +27,15 @@ start =
 abbrev steps : (count task : ℕ) → List Action
 steps n t = replicate n (step t)
 
-abbrev report : Kind → Response → (steps hard : ℕ) → Report
-report k a s h = record { kind = k; cell = 0; answer = a; steps = s; hard = h }
+abbrev report : Kind → Response → (steps won lost : ℕ) → Report
+report k a s w l = record { kind = k; cell = 0; answer = a; steps = s; won = w; lost = l }
 
 -- tasks 1 and 2 collide on the cell's block: 2 replaces it, putting v2 for v; 1 comes too late
 abbrev round : (v v1 v2 : ℕ) → List Action
 round v v1 v2 = begin 1 (swap 0 v v1) ∷ begin 2 (swap 0 v v2) ∷ steps 4 1 ++ steps 13 2 ++ steps 11 1
 
-abbrev lost : List Report
-lost = report aSwap Yes 13 2 ∷ report aSwap No 15 2 ∷ []
+abbrev rivals : List Report
+rivals = report aSwap Yes 13 2 0 ∷ report aSwap No 15 0 2 ∷ []
 
 abbrev Hold : List (List Action × List Report) → Type 0
 Hold [] = Unit {0}
@@ -46,18 +46,18 @@ examples :
     -- task 0 stores 7 in a block that was decided for 5: a read of that block decides, and does not return its V
     (
       begin 0 (swap 0 5 7) ∷ begin 1 (swap 0 5 9) ∷ begin 2 (read 0) ∷ steps 7 0 ++ steps 1 2 ++ steps 7 1 ++ steps 1 0 ++ steps 5 2,
-      report aRead (Value 5) 6 1 ∷ [],
+      report aRead (Value 5) 6 0 1 ∷ [],
     ) ∷
     -- a task that halts in a read still holds block 0 after the others went through all blocks: it is not taken again
     (
       begin 0 (read 0) ∷ steps 1 0 ++ round 5 15 6 ++ round 6 16 7 ++ round 7 17 8 ++ round 8 18 9 ++ steps 5 0,
-      lost ++ lost ++ lost ++ lost ++ report aRead (Value 5) 6 1 ∷ [],
+      rivals ++ rivals ++ rivals ++ rivals ++ report aRead (Value 5) 6 0 1 ∷ [],
     ) ∷
     -- a task that halts between lines 6 and 7 has taken its block: the others go on through all other blocks and finish, and what it
     -- stores when it goes on is in nobody's block
     (
       begin 0 (swap 0 5 50) ∷ begin 1 (swap 0 5 6) ∷ steps 4 1 ++ steps 10 0 ++ steps 11 1 ++ round 6 16 7 ++ round 7 17 8 ++ round 8 18 9 ++ steps 2 0 ++ begin 1 (read 0) ∷ steps 3 1 ++ steps 1 0,
-      report aSwap Yes 15 2 ∷ lost ++ lost ++ lost ++ report aRead (Value 9) 3 0 ∷ report aSwap No 13 2 ∷ [],
+      report aSwap Yes 15 1 1 ∷ rivals ++ rivals ++ rivals ++ report aRead (Value 9) 3 0 0 ∷ report aSwap No 13 1 1 ∷ [],
     ) ∷ []
     )
 unfolding opened readBegun swapBegun stepped ran fit recordFit cellsFit recordsFit hasNone openQuestions isCurrent usedByTask used unused

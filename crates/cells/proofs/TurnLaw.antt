@@ -12,17 +12,18 @@ use Rattle.lines.specs.declared.Record.{Record}
 use Rattle.lines.specs.declared.Access.{Access}
 use Rattle.lines.specs.declared.Access.the-variants.{LoadCell, Load, Store, DecideCas, InstallCas, Allocate, Nothing}
 use Rattle.lines.specs.Answers.{Next}
-use Rattle.lines.specs.Lines.{lineOf, accessOf, nextAt, nextOf, counted}
+use Rattle.lines.specs.Lines.{lineOf, accessOf, nextAt, nextOf, attempt, counted}
+use Rattle.history.specs.History.{Attempt}
 use Rattle.questions.specs.Questions.{recordFit, holds, hasTaken}
 use Rattle.cells.specs.Turn.{Touched, performed, ending, turn, Reaches, Ready}
 use Rattle.questions.proofs.Fits.{busy-test}
 use Rattle.questions.proofs.Numbers.{number, at-number}
 use Rattle.questions.proofs.Accesses.{Holds, HasTaken, Keeps, keeps}
 
--- ITS PARTS: its access, what memory answers, the counted record, and what follows
-pub turns : (p : List ℕ) (t : ℕ) (r : Record) (c l : ℕ) (f : Option ℕ) (a : Access) (m : Touched) (q : Record) (n : Next)
-    → a ≡ accessOf t r → m ≡ performed p c l f a → q ≡ counted r a → n ≡ nextAt (lineOf q) t q (m .value) → turn p t r c l f ≡ ending m n
-turns p t r c l f a m q n ea em eq en = rw (en, eq, em, ea)
+-- ITS PARTS: its access, what memory answers, what became of a hardware CAS, the counted record, and what follows
+pub turns : (p : List ℕ) (t : ℕ) (r : Record) (c l : ℕ) (f : Option ℕ) (a : Access) (m : Touched) (x : Attempt) (q : Record) (n : Next)
+    → a ≡ accessOf t r → m ≡ performed p c l f a → x ≡ attempt a (m .value) → q ≡ counted r x → n ≡ nextAt (lineOf q) t q (m .value) → turn p t r c l f ≡ ending m n
+turns p t r c l f a m x q n ea em ex eq en = rw (en, eq, ex, em, ea)
 
 -- WHAT IT NEEDS, in a fit state
 module _ (r : Record) (v b words t : ℕ) (fits : recordFit r v b ≡ true) (busy : r .line ≡ 0 → ⊥) (size : words ≡ 5 * b) where

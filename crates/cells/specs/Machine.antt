@@ -5,9 +5,9 @@ use Rattle.questions.specs.declared.State.{State}
 use Rattle.lines.specs.Record.{recordAt}
 use Rattle.cells.specs.Open.{After}
 use Rattle.cells.specs.Begin.{readBegun, swapBegun}
-use Rattle.cells.specs.Step.{stepped}
-use Rattle.cells.specs.Events.{eventOf, tried}
-use Rattle.history.specs.History.{Op, read, swap, Action, begin, step, Event}
+use Rattle.cells.specs.Step.{triedAt, stepped}
+use Rattle.cells.specs.Events.{eventOf}
+use Rattle.history.specs.History.{Op, read, swap, Action, begin, step, Attempt, untried, Event}
 
 -- the state with its records, and the pool
 abbrev pub Pool : Type 0
@@ -22,9 +22,9 @@ does s p (begin t op) = begins s p t op
 does s p (step t) = stepped s p t
 
 -- a begin attempts no hardware CAS
-abbrev pub triedBy : State → Action → ℕ
-triedBy s (begin t op) = 0
-triedBy s (step t) = tried t (recordAt (s .records) t)
+abbrev pub triedBy : State → List ℕ → Action → Attempt
+triedBy s p (begin t op) = untried
+triedBy s p (step t) = triedAt s p t (recordAt (s .records) t)
 
 abbrev pub pool : Pool → Action → Pool × Event
-pool x a = let r = does (x .0) (x .1) a in ((r .state, r .pool), eventOf (triedBy (x .0) a) (r .outcome))
+pool x a = let r = does (x .0) (x .1) a in ((r .state, r .pool), eventOf (triedBy (x .0) (x .1) a) (r .outcome))

@@ -3,13 +3,16 @@ use mathlib.Core.List.{List, _∷_}
 use Prim.Native.Nat.{ℕ}
 use lib.ListN.{getD, set}
 use Rattle.lines.specs.declared.Record.{Record}
+use Rattle.lines.specs.declared.Access.{Access}
 use Rattle.questions.specs.declared.State.{State}
 use Rattle.lines.specs.Record.{recordAt}
 use Rattle.questions.specs.Questions.{refusal, fit, stepQuestions}
 use Rattle.blocks.specs.Blocks.{unused}
 use Rattle.cells.specs.Open.{After, leaving, unless}
 use Rattle.cells.specs.Begin.{withRecord}
-use Rattle.cells.specs.Turn.{Turned, turn}
+use Rattle.cells.specs.Turn.{performed, Turned, turn}
+use Rattle.cells.specs.Events.{tried}
+use Rattle.history.specs.History.{Attempt}
 
 abbrev pub current : State → ℕ → ℕ
 current s k = getD (s .current) k 0
@@ -20,6 +23,14 @@ withBlocks s k c l = record { tasks = s .tasks; cells = s .cells; blocks = s .bl
 
 abbrev pub putBack : State → (task cell : ℕ) → Turned → After
 putBack s t k x = leaving (withRecord (withBlocks s k (x .current) (x .last)) t (x .record)) (x .pool) (x .outcome)
+
+-- the value that memory answers to an access of task t's record
+abbrev pub answers : State → List ℕ → Record → Access → ℕ
+answers s p r a = performed p (current s (r .cell)) (s .last) (unused s) a .value
+
+-- what becomes of the hardware CAS of that record's next line
+abbrev pub triedAt : State → List ℕ → ℕ → Record → Attempt
+triedAt s p t r = tried t r (answers s p r)
 
 -- a busy task's next line
 unfoldable pub ran : State → List ℕ → ℕ → Record → After

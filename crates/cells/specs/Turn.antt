@@ -82,4 +82,4 @@ There n (some b) = 5 * b + 4 < n
 pub record Ready (words task : ℕ) (r : Record) : Type 0 where
   pub reaches : Reaches words (accessOf task r)
   pub steps : r .steps ≤ 20
-  pub hard : r .hard ≤ 3
+  pub hard : r .won + r .lost ≤ 3

@@ -1,8 +1,9 @@
 // A busy task's next line, given numbers only, so that nothing copies the state.
 ghost use mathlib.Core.Path.{_≡_};
-ghost use Prim.Native.Nat.{_≤_};
+ghost use Prim.Native.Nat.{_+_, _≤_};
 ghost use lib.ListN.{length};
-ghost use Rattle.lines.specs.Lines.{hardware, counted};
+ghost use Rattle.lines.specs.Answers.{attemptOf};
+ghost use Rattle.lines.specs.Lines.{counted};
 ghost use Rattle.lines.specs.Record.{idle};
 ghost use Rattle.blocks.specs.Blocks.{foundOf};
 ghost use Rattle.cells.specs.Answers.{said};
@@ -14,10 +15,12 @@ use crate::pool::load;
 use crate::pool::store;
 use blocks::Found;
 use lines::Access;
+use lines::Attempt;
 use lines::Field;
 use lines::Next;
 use lines::Record;
 use lines::accesses::access_of;
+use lines::following::attempt;
 use lines::following::next_of;
 use lines::records::NO_VALUE;
 use lines::records::idle;
@@ -51,7 +54,8 @@ pub fn take_turn(
 {
     let a = access_of(task, r);
     let m = perform(pool, a, current, last, free);
-    let next = next_of(task, counted(r, a), m.value);
+    let x = attempt(a, m.value);
+    let next = next_of(task, counted(r, x), m.value);
     match next {
         Next::Go(q) => Turn {
             record: q,
@@ -68,28 +72,17 @@ pub fn take_turn(
     }
 }
 
-fn hardware(a: Access) -> u32
-    ensures { λ n. ⌜ (n ≡ hardware a) × (n ≤ 1) ⌝ }
-{
-    match a {
-        Access::LoadCell(_) => 0,
-        Access::Load(_, _) => 0,
-        Access::Store(_, _, _) => 0,
-        Access::DecideCas(_, _) => 1,
-        Access::InstallCas(_, _, _) => 1,
-        Access::Allocate => 0,
-        Access::Nothing => 0,
-    }
-}
-
-fn counted(r: Record, a: Access) -> Record
-    requires { ⌜ (r .steps ≤ 20) × (r .hard ≤ 3) ⌝ }
-    ensures { λ n. ⌜ n ≡ counted r a ⌝ }
+fn counted(r: Record, x: Attempt) -> Record
+    requires { ⌜ (r .steps ≤ 20) × (r .won + r .lost ≤ 3) ⌝ }
+    ensures { λ n. ⌜ n ≡ counted r (attemptOf x) ⌝ }
 {
     let mut n = r;
     n.steps = r.steps + 1;
-    let h = hardware(a);
-    n.hard = r.hard + h;
+    match x {
+        Attempt::Won => n.won = r.won + 1,
+        Attempt::Lost => n.lost = r.lost + 1,
+        Attempt::Untried => {}
+    }
     n
 }
 

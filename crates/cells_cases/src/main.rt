@@ -3,9 +3,9 @@
 // they were. Standard input has a case on each line: a letter and a number for each word that is not as in the plain case,
 // then the name of the case. The letters stand for:
 // - a .. f, of the state: tasks, cells, blocks, block last taken, blocks of cells 1 and 2; g: words of the pool
-// - h: whose record is set; i .. r, of that record: line, wanted, kind, cell, expected, new, held, taken, steps, hard
-// - s .. v, of the calls: task, cell, expected, new
-// - w: how many values open is given, or 0 to try begin a read, begin a swap, step and look; x: the second value
+// - h: whose record is set; i .. s, of that record: line, wanted, kind, cell, expected, new, held, taken, steps, won, lost
+// - t .. w, of the calls: task, cell, expected, new
+// - x: how many values open is given, or 0 to try begin a read, begin a swap, step and look; y: the second value
 use cells::Looked;
 use cells::Outcome;
 use cells::Reply;
@@ -56,7 +56,7 @@ fn words_sum(start: u32, words: &[u32]) -> u32 {
 
 fn record_sum(start: u32, r: Record) -> u32 {
     let call = [r.line, r.wanted, r.kind, r.cell, r.expected, r.new];
-    let rest = [r.held, r.taken, r.loaded, r.steps, r.hard];
+    let rest = [r.held, r.taken, r.loaded, r.steps, r.won, r.lost];
     words_sum(words_sum(start, &call), &rest)
 }
 
@@ -109,7 +109,8 @@ fn record_of(c: [u32; 26]) -> Record {
         taken: c[15],
         loaded: 0,
         steps: c[16],
-        hard: c[17],
+        won: c[17],
+        lost: c[18],
     }
 }
 
@@ -132,8 +133,8 @@ fn state_of(c: [u32; 26]) -> State {
 
 fn try_case(c: [u32; 26], pool: &mut [u32], values: &[u32]) {
     let s = state_of(c);
-    if c[22] == 0 {
-        try_entries(s, pool, c[18], c[19], c[20], c[21]);
+    if c[23] == 0 {
+        try_entries(s, pool, c[19], c[20], c[21], c[22]);
     } else {
         let before = sum_of(s, pool);
         let r = cells::open(s, pool, s.tasks, s.cells, s.blocks, values);
@@ -166,7 +167,7 @@ fn opened() -> [u32; 45] {
 
 fn run_case(c: [u32; 26]) {
     let mut all = opened();
-    lend(c, &mut all, c[6], &[5, c[23], 6], c[22]);
+    lend(c, &mut all, c[6], &[5, c[24], 6], c[23]);
     io::write_all(STDOUT_FILENO, b"\n");
 }
 
@@ -188,9 +189,9 @@ fn plain() -> Reading {
     words[4] = 1;
     words[5] = 2;
     words[6] = 40;
-    words[20] = 5;
-    words[21] = 7;
-    words[23] = 6;
+    words[21] = 5;
+    words[22] = 7;
+    words[24] = 6;
     Reading { words, at: 0 }
 }
 
@@ -245,7 +246,7 @@ fn run(text: &[u8]) {
 }
 
 fn main() {
-    let mut text = io::buffer();
+    let mut text = io::large_buffer();
     let n = io::read_full(0, &mut text);
     run(&text[..n]);
 }

@@ -6,17 +6,17 @@ use mathlib.Core.List.{_∷_}
 use Prim.Native.Nat.{ℕ, _≤_, _<_}
 use native.Mathlib.Omega.{arith}
 use Rattle.history.specs.Basics.{_∈_}
-use Rattle.history.specs.History.{Action, Event, Call, FinishedCall, Calls, enter}
+use Rattle.history.specs.History.{Action, Event, Call, attempts, FinishedCall, Calls, enter}
 use Rattle.history.specs.Demand3.{most, mostHard, Reports, Bounds}
 use Rattle.history.proofs.Tracks.{Change, refuses, starts, goes, ends}
 use Rattle.history.proofs.MovesOne.{Dated, last-one, ended-finished}
 
 -- task by task, what the machine promises of the pending calls
 abbrev pub Within : Calls → Type 0
-Within b = (t : ℕ) (c : Call) → b .pending t ≡ some c → (c .steps < most (c .start .op)) × (c .hard ≤ mostHard (c .start .op))
+Within b = (t : ℕ) (c : Call) → b .pending t ≡ some c → (c .steps < most (c .start .op)) × (attempts c ≤ mostHard (c .start .op))
 
 pub record Ended (f : FinishedCall) : Type 0 where
-  pub few : (f .call .steps ≤ most (f .call .start .op)) × (f .call .hard ≤ mostHard (f .call .start .op))
+  pub few : (f .call .steps ≤ most (f .call .start .op)) × (attempts (f .call) ≤ mostHard (f .call .start .op))
   pub reported : Reports (f .call) (f .report)
 
 abbrev pub AllEnded : Calls → Type 0
@@ -29,7 +29,7 @@ ended-next dated within all (goes c busy) f i = all f i
 ended-next {b = b} dated within all (ends {t} {x} {r} c busy p q) f i = go (rw (ended-finished b dated t x c busy r) at i)
   where
     go : f ∈ (last-one b dated t x c busy r ∷ b .finished) → Ended f
-    go (inl e) = rw e (record { few = (omega (arith, within t c busy .0), omega (arith, p .hard)); reported = p })
+    go (inl e) = rw e (record { few = (omega (arith, within t c busy .0), omega (arith, p .won, p .lost)); reported = p })
     go (inr j) = all f j
 
 pub bounds-of : {b : Calls} → Within b → AllEnded b → Bounds b

@@ -11,7 +11,7 @@ use native.Mathlib.Omega.{arith}
 use lib.Dec.{eqb, T}
 use borrow.Author.Tests.{eq-eqb, ne-eqb}
 use Rattle.history.specs.Basics.{upd, _∈_, Once}
-use Rattle.history.specs.History.{Op, cellOf, Kind, aRead, aSwap, kindOf, Report, read, swap, Action, begin, step, Event, accepted, answered, Response, Value, Yes, No, CallId, Call, FinishedCall, Calls, callsOf}
+use Rattle.history.specs.History.{Op, cellOf, Kind, aRead, aSwap, kindOf, Report, read, swap, Action, begin, step, Attempt, untried, success, Event, accepted, answered, Response, Value, Yes, No, CallId, Call, attempts, FinishedCall, Calls, callsOf}
 use Rattle.history.specs.History.{CallOf, finished, pending}
 use Rattle.history.specs.Linearization.{reply, apply, Point, replies, Placed, Linearizes}
 use Rattle.history.specs.Demand3.{most, mostHard, Reports, Unequal, Alone, Demand3}
@@ -71,11 +71,11 @@ no-effect-at-the-begin values b l x i q r = let p = r .placed x i in omega (arit
 -- TOOLS: a history of the tasks 0 and 1 with the calls c and d
 
 -- of calls on cell 0
-abbrev pub report : Kind → Response → (steps hard : ℕ) → Report
-report k a n h = record { kind = k; cell = 0; answer = a; steps = n; hard = h }
+abbrev pub report : Kind → Response → (steps won lost : ℕ) → Report
+report k a n w l = record { kind = k; cell = 0; answer = a; steps = n; won = w; lost = l }
 
-abbrev pub answers : (tried : ℕ) → Kind → Response → (steps hard : ℕ) → Event
-answers x k a n h = answered x (report k a n h)
+abbrev pub answers : Attempt → Kind → Response → (steps won lost : ℕ) → Event
+answers x k a n w l = answered x (report k a n w l)
 
 abbrev pub TwoCalls : Calls → Call → Call → Type 0
 TwoCalls b c d = (e : Call) (n : ℕ) → CallOf b e n → (e ≡ c) ⊎ (e ≡ d)
@@ -185,20 +185,20 @@ must {values} {l = l} r f i =
 -- the block inactive; task 0 stores with line 23 (action 13) and halts for good; task 1 decides the block for 7 (action 15) and answers no.
 abbrev late-swap : List (Action × Event)
 late-swap =
-    (begin 0 (swap 0 5 7), accepted 0) ∷ (begin 1 (swap 0 5 9), accepted 0) ∷
-    (step 0, accepted 0) ∷ (step 0, accepted 0) ∷ (step 0, accepted 0) ∷ (step 0, accepted 0) ∷ (step 0, accepted 0) ∷ (step 0, accepted 0) ∷ (step 0, accepted 0) ∷
-    (step 1, accepted 0) ∷ (step 1, accepted 0) ∷ (step 1, accepted 0) ∷ (step 1, accepted 0) ∷
-    (step 0, accepted 0) ∷
-    (step 1, accepted 0) ∷ (step 1, accepted 1) ∷ (step 1, answers 0 aSwap No 7 1) ∷ []
+    (begin 0 (swap 0 5 7), accepted untried) ∷ (begin 1 (swap 0 5 9), accepted untried) ∷
+    (step 0, accepted untried) ∷ (step 0, accepted untried) ∷ (step 0, accepted untried) ∷ (step 0, accepted untried) ∷ (step 0, accepted untried) ∷ (step 0, accepted untried) ∷ (step 0, accepted untried) ∷
+    (step 1, accepted untried) ∷ (step 1, accepted untried) ∷ (step 1, accepted untried) ∷ (step 1, accepted untried) ∷
+    (step 0, accepted untried) ∷
+    (step 1, accepted untried) ∷ (step 1, accepted success) ∷ (step 1, answers untried aSwap No 7 1 0) ∷ []
 
 abbrev halted : Call
-halted = record { start = record { at = 0; task = 0; op = swap 0 5 7; before = [] }; last = 13; steps = 8; hard = 0 }
+halted = record { start = record { at = 0; task = 0; op = swap 0 5 7; before = [] }; last = 13; steps = 8; won = 0; lost = 0 }
 
 abbrev decider : Call
-decider = record { start = record { at = 1; task = 1; op = swap 0 5 9; before = begin 0 (swap 0 5 7) ∷ [] }; last = 16; steps = 7; hard = 1 }
+decider = record { start = record { at = 1; task = 1; op = swap 0 5 9; before = begin 0 (swap 0 5 7) ∷ [] }; last = 16; steps = 7; won = 1; lost = 0 }
 
 abbrev decided : FinishedCall
-decided = record { call = decider; report = report aSwap No 7 1 }
+decided = record { call = decider; report = report aSwap No 7 1 0 }
 
 its-calls : (callsOf late-swap .pending 0 ≡ some halted) × (callsOf late-swap .pending 1 ≡ none) × (callsOf late-swap .finished ≡ decided ∷ []) × (callsOf late-swap .now ≡ 17)
 unfolding upd
@@ -258,13 +258,13 @@ late-swap-meets-demand-3 = record {
   };
 }
   where
-    ended : (f : FinishedCall) → f ∈ (decided ∷ []) → (f .call .steps ≤ most (f .call .start .op)) × (f .call .hard ≤ mostHard (f .call .start .op))
+    ended : (f : FinishedCall) → f ∈ (decided ∷ []) → (f .call .steps ≤ most (f .call .start .op)) × (attempts (f .call) ≤ mostHard (f .call .start .op))
     ended f (inl q) = rw q (omega arith)
 
     reported : (f : FinishedCall) → f ∈ (decided ∷ []) → Reports (f .call) (f .report)
-    reported f (inl q) = rw q (record { kind = refl; cell = refl; steps = refl; hard = refl })
+    reported f (inl q) = rw q (record { kind = refl; cell = refl; steps = refl; won = refl; lost = refl })
 
-    unended : (c : Call) → (c ≡ halted) ⊎ (c ≡ decider) → (c .steps < most (c .start .op)) × (c .hard ≤ mostHard (c .start .op))
+    unended : (c : Call) → (c ≡ halted) ⊎ (c ≡ decider) → (c .steps < most (c .start .op)) × (attempts c ≤ mostHard (c .start .op))
     unended c (inl q) = rw q (omega arith)
     unended c (inr q) = rw q (omega arith)
 
@@ -272,8 +272,8 @@ late-swap-meets-demand-3 = record {
     apart c n h q l = contends (callsOf late-swap) decider halted 17 n late-halted (λ e. omega arith) refl (λ e. omega arith) (omega arith) h
         (subst (λ (c : Call). Alone (callsOf late-swap) c n) q l)
 
-    hard : (c : Call) (n : ℕ) → CallOf (callsOf late-swap) c n → Alone (callsOf late-swap) c n → (c ≡ halted) ⊎ (c ≡ decider) → c .hard ≡ 0
-    hard c n i l (inl q) = ap (λ (c : Call). c .hard) q
+    hard : (c : Call) (n : ℕ) → CallOf (callsOf late-swap) c n → Alone (callsOf late-swap) c n → (c ≡ halted) ⊎ (c ≡ decider) → attempts c ≡ 0
+    hard c n i l (inl q) = ap attempts q
     hard c n (finished f i) l (inr q) = absurd (apart (f .call) (f .call .last) (rw q (omega arith)) q l)
     hard c n (pending t d h) l (inr q) = absurd (apart c 17 (omega arith) q l)
 
@@ -302,10 +302,10 @@ no-finished-call-left-out l out r = let p = late-has l r in out (point decider (
 -- WRONG ANSWERS: no linearization has them
 
 -- a call of one step or more, finished as reported
-abbrev pub ended : (begun task : ℕ) → Op → List Action → (last steps hard : ℕ) → Response → FinishedCall
-ended n t op l last steps hard a = record {
-  call = record { start = record { at = n; task = t; op = op; before = l }; last = last; steps = steps; hard = hard };
-  report = report (kindOf op) a steps hard;
+abbrev pub ended : (begun task : ℕ) → Op → List Action → (last steps won lost : ℕ) → Response → FinishedCall
+ended n t op l last steps won lost a = record {
+  call = record { start = record { at = n; task = t; op = op; before = l }; last = last; steps = steps; won = won; lost = lost };
+  report = report (kindOf op) a steps won lost;
 }
 
 -- all calls of the history are finished, and they are f and g
@@ -326,10 +326,10 @@ two-of f g h (inr (inl q)) = inl q
 
 -- a read answers 6, which its cell never held
 abbrev odd-read : List (Action × Event)
-odd-read = (begin 0 (read 0), accepted 0) ∷ (step 0, accepted 0) ∷ (step 0, accepted 0) ∷ (step 0, answers 0 aRead (Value 6) 3 0) ∷ []
+odd-read = (begin 0 (read 0), accepted untried) ∷ (step 0, accepted untried) ∷ (step 0, accepted untried) ∷ (step 0, answers untried aRead (Value 6) 3 0 0) ∷ []
 
 abbrev odd : FinishedCall
-odd = ended 0 0 (read 0) [] 3 3 0 (Value 6)
+odd = ended 0 0 (read 0) [] 3 3 0 0 (Value 6)
 
 pub no-value-never-held : (l : List Point) → Linearizes five (callsOf odd-read) l → ⊥
 unfolding upd
@@ -344,10 +344,10 @@ no-value-never-held l r = go l (must r odd (inl refl)) (shape (odd .call) (odd .
 
 -- a swap that nobody meets answers no, though its cell holds the value that it expects
 abbrev lone-no : List (Action × Event)
-lone-no = (begin 0 (swap 0 5 7), accepted 0) ∷ (step 0, answers 0 aSwap No 1 0) ∷ []
+lone-no = (begin 0 (swap 0 5 7), accepted untried) ∷ (step 0, answers untried aSwap No 1 0 0) ∷ []
 
 abbrev refusal : FinishedCall
-refusal = ended 0 0 (swap 0 5 7) [] 1 1 0 No
+refusal = ended 0 0 (swap 0 5 7) [] 1 1 0 0 No
 
 pub no-spurious-no : (l : List Point) → Linearizes five (callsOf lone-no) l → ⊥
 unfolding upd
@@ -365,13 +365,13 @@ no-spurious-no l r = go l (must r refusal (inl refl)) (shape (refusal .call) (re
 
 -- two swaps of the value 5 both answer yes
 abbrev two-winners : List (Action × Event)
-two-winners = (begin 0 (swap 0 5 7), accepted 0) ∷ (begin 1 (swap 0 5 9), accepted 0) ∷ (step 0, answers 0 aSwap Yes 1 0) ∷ (step 1, answers 0 aSwap Yes 1 0) ∷ []
+two-winners = (begin 0 (swap 0 5 7), accepted untried) ∷ (begin 1 (swap 0 5 9), accepted untried) ∷ (step 0, answers untried aSwap Yes 1 0 0) ∷ (step 1, answers untried aSwap Yes 1 0 0) ∷ []
 
 abbrev winner : FinishedCall
-winner = ended 0 0 (swap 0 5 7) [] 2 1 0 Yes
+winner = ended 0 0 (swap 0 5 7) [] 2 1 0 0 Yes
 
 abbrev second-winner : FinishedCall
-second-winner = ended 1 1 (swap 0 5 9) (begin 0 (swap 0 5 7) ∷ []) 3 1 0 Yes
+second-winner = ended 1 1 (swap 0 5 9) (begin 0 (swap 0 5 7) ∷ []) 3 1 0 0 Yes
 
 pub no-two-winners : (l : List Point) → Linearizes five (callsOf two-winners) l → ⊥
 unfolding upd
@@ -389,13 +389,13 @@ no-two-winners l r = go l (must r winner (inr (inl refl))) (must r second-winner
 
 -- a read begins after a swap has ended, and answers the value before it
 abbrev stale-read : List (Action × Event)
-stale-read = (begin 0 (swap 0 5 7), accepted 0) ∷ (step 0, answers 0 aSwap Yes 1 0) ∷ (begin 1 (read 0), accepted 0) ∷ (step 1, answers 0 aRead (Value 5) 1 0) ∷ []
+stale-read = (begin 0 (swap 0 5 7), accepted untried) ∷ (step 0, answers untried aSwap Yes 1 0 0) ∷ (begin 1 (read 0), accepted untried) ∷ (step 1, answers untried aRead (Value 5) 1 0 0) ∷ []
 
 abbrev changer : FinishedCall
-changer = ended 0 0 (swap 0 5 7) [] 1 1 0 Yes
+changer = ended 0 0 (swap 0 5 7) [] 1 1 0 0 Yes
 
 abbrev stale : FinishedCall
-stale = ended 2 1 (read 0) (begin 0 (swap 0 5 7) ∷ step 0 ∷ []) 3 1 0 (Value 5)
+stale = ended 2 1 (read 0) (begin 0 (swap 0 5 7) ∷ step 0 ∷ []) 3 1 0 0 (Value 5)
 
 pub no-stale-read : (l : List Point) → Linearizes five (callsOf stale-read) l → ⊥
 unfolding upd

@@ -5,7 +5,7 @@ use mathlib.Core.Option.{Option, some}
 use mathlib.Core.List.{List, [], _∷_, _++_}
 use Prim.Native.Nat.{ℕ, suc, _<_}
 use native.Mathlib.Omega.{arith}
-use Rattle.history.specs.History.{cellOf, Action, begin, step, Event, refused, accepted, answered, Response, CallId, Call, Calls, noCalls, enter}
+use Rattle.history.specs.History.{cellOf, Action, begin, step, untried, Event, refused, accepted, answered, Response, CallId, Call, Calls, noCalls, enter}
 use Rattle.history.specs.Moments.{Spot, Mark, markOf, marked, Names, beside}
 use Rattle.history.proofs.Basics.{some-inj}
 use Rattle.history.proofs.Simulation.{settled, Ghost, fresh, Knowledge, Move, shift, unplaced, Tally, May, Sided, Why, Keeps, Moves, Forward, Simulation}
@@ -131,7 +131,7 @@ module _ {S N : Type 0} {machine : S → Action → S × Event} {note : N → S 
     pub simulated-next : {a : Action} {e : Event} → Change (s .0) (s' .0) b a e → Tracks (M .doing) (s' .0) (enter b a e) → Forward doing (M .clock) names (M .Inv) s g known a s' e → Simulated s' (enter b a e) (marks-after a e)
     simulated-next {a = begin t op} (refuses q) same' f = refusing same' f
     simulated-next {a = step t} (refuses q) same' f = refusing same' f
-    simulated-next (starts {t} {op} idle) same' f = finish (enter b (begin t op) (accepted 0)) (starts-on b dated t op idle) refl same' (unplaced g t) ms (start-onto g (G .kept) dated t op idle) f
+    simulated-next (starts {t} {op} idle) same' f = finish (enter b (begin t op) (accepted untried)) (starts-on b dated t op idle) refl same' (unplaced g t) ms (start-onto g (G .kept) dated t op idle) f
     simulated-next (goes {t} {x} c busy) same' f = finish (enter b (step t) (accepted x)) (goes-on b dated t x c busy) refl same' (shift g (b .now) t (c .start .op) (f .move)) ms
         (go-onto g (G .kept) dated doing s same t x c busy (f .move) (may t c busy f)) (keeps t c busy f)
     simulated-next (ends {t} {x} {r} c busy p q) same' f = subst (λ l. Simulated s' (enter b (step t) (answered x r)) (l ++ ms)) (sym (ap (λ o. markOf (beside machine note) names o (r .answer) spot) busy))

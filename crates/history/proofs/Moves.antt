@@ -8,7 +8,7 @@ use Prim.Native.Nat.{ℕ, suc, _≤_, _<_}
 use native.Mathlib.Omega.{arith}
 use lib.Dec.{T, T-not}
 use Rattle.history.specs.Basics.{upd}
-use Rattle.history.specs.History.{Op, cellOf, begin, step, refused, accepted, answered, Response, Yes, Report, CallId, Call, Calls, advance, enter}
+use Rattle.history.specs.History.{Op, cellOf, begin, step, Attempt, untried, refused, accepted, answered, Response, Yes, Report, CallId, Call, Calls, advance, enter}
 use Rattle.history.specs.Linearization.{reply, valueLeft, Point}
 use Rattle.history.specs.Moments.{Spot, Mark, pointOf, Names}
 use Rattle.history.proofs.Basics.{either, upd-at, upd-same, upd-off, upd-cases, clash, some-inj, point}
@@ -75,15 +75,15 @@ module _ {values : ℕ → ℕ} (g : Ghost) {b : Calls} {past : ℕ → ℕ → 
       let k₁ = calls-kept k (passes-on b dated 0) (k .marked) (λ c h. (c, h, onward c)) (g .placed) (λ u c h. refl) (λ u d h i. absurd (clash i h)) in
       record { later = past; kept = phases-kept k₁ (g .phase) (g .since) (firm g (suc n)) later (k₁ .lates); stays = λ j i h. refl; up = λ j. later j .0 }
 
-  pub start-onto : (t : ℕ) (op : Op) → b .pending t ≡ none → Onto values (unplaced g t) (enter b (begin t op) (accepted 0)) past was ms
+  pub start-onto : (t : ℕ) (op : Op) → b .pending t ≡ none → Onto values (unplaced g t) (enter b (begin t op) (accepted untried)) past was ms
   start-onto t op idle =
       let k₁ = calls-kept k m (k .marked) (λ c h. absurd (clash idle h)) (upd (g .placed) t false) (λ u c h. upd-off (g .placed) t false u (λ q. clash idle (rw q at h))) new in
       record { later = past; kept = phases-kept k₁ (g .phase) (g .since) (firm g (suc n)) later (k₁ .lates); stays = λ j i h. refl; up = λ j. later j .0 }
     where
-      m : MovesOne 0 t b (enter b (begin t op) (accepted 0))
+      m : MovesOne 0 t b (enter b (begin t op) (accepted untried))
       m = starts-on b dated t op idle
 
-      new : (u : ℕ) (d : Call) → enter b (begin t op) (accepted 0) .pending u ≡ some d → b .pending u ≡ none → T (not (upd (g .placed) t false u))
+      new : (u : ℕ) (d : Call) → enter b (begin t op) (accepted untried) .pending u ≡ some d → b .pending u ≡ none → T (not (upd (g .placed) t false u))
       new u d h i = go (either u t)
         where
           go : (u ≡ t) ⊎ (u ≢ t) → T (not (upd (g .placed) t false u))
@@ -92,7 +92,7 @@ module _ {values : ℕ → ℕ} (g : Ghost) {b : Calls} {past : ℕ → ℕ → 
 
   -- A STEP of task t's call c
 
-  module _ {S : Type 0} (doing : S → ℕ → Option Tally) (s : S) (same : Tracks doing s b) (t x : ℕ) (c : Call) (busy : b .pending t ≡ some c) where
+  module _ {S : Type 0} (doing : S → ℕ → Option Tally) (s : S) (same : Tracks doing s b) (t : ℕ) (x : Attempt) (c : Call) (busy : b .pending t ≡ some c) where
     abbrev pub going : Calls
     going = enter b (step t) (accepted x)
 

@@ -6,7 +6,7 @@ use mathlib.Core.List.{_∷_}
 use Prim.Native.Nat.{ℕ, suc, _+_, _≤_, _<_}
 use native.Mathlib.Omega.{arith}
 use Rattle.history.specs.Basics.{_∈_}
-use Rattle.history.specs.History.{Op, Action, begin, step, taskOf, Event, refused, accepted, answered, Report, CallId, Call, FinishedCall, Calls, called, advance, advanced, closed, enter}
+use Rattle.history.specs.History.{Op, Action, begin, step, taskOf, Attempt, untried, Event, refused, accepted, answered, Report, CallId, Call, FinishedCall, Calls, called, advance, advanced, closed, enter}
 use Rattle.history.specs.History.{CallOf, finished, pending}
 use Rattle.history.proofs.Basics.{either, upd-same, upd-off, clash, some-inj}
 use Rattle.history.proofs.Tracks.{Change, refuses, starts, goes, ends}
@@ -97,7 +97,7 @@ module _ {slack t : ℕ} {b b' : Calls} (m : MovesOne slack t b b') where
 
 module _ (b : Calls) (dated : Dated b) where
   -- a call becomes longer by a step
-  module _ (t x : ℕ) (c : Call) (busy : b .pending t ≡ some c) where
+  module _ (t : ℕ) (x : Attempt) (c : Call) (busy : b .pending t ≡ some c) where
     pub steps-on : Onward c (advance b x c)
     steps-on = record { start = refl; last = omega (arith, dated .past t c busy .1) }
 
@@ -148,7 +148,7 @@ module _ (b : Calls) (dated : Dated b) where
         from = λ d i. absurd (ended-idle d i);
       }
 
-  pub starts-on : (t : ℕ) (op : Op) → b .pending t ≡ none → MovesOne 0 t b (enter b (begin t op) (accepted 0))
+  pub starts-on : (t : ℕ) (op : Op) → b .pending t ≡ none → MovesOne 0 t b (enter b (begin t op) (accepted untried))
   starts-on t op idle = record {
     later = omega arith;
     others = upd-off (b .pending) t (some (called b t op));

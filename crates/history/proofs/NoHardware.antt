@@ -6,7 +6,7 @@ use mathlib.Core.List.{_∷_}
 use Prim.Native.Nat.{ℕ, suc, _+_, _≤_}
 use native.Mathlib.Omega.{arith}
 use Rattle.history.specs.Basics.{_∈_}
-use Rattle.history.specs.History.{cellOf, Action, begin, step, Event, accepted, answered, CallId, Call, FinishedCall, Calls, called, advance, advanced, enter, CallOf, finished, pending}
+use Rattle.history.specs.History.{cellOf, Action, begin, step, Attempt, wins, losses, untried, Event, accepted, answered, CallId, Call, attempts, FinishedCall, Calls, called, advance, advanced, enter, CallOf, finished, pending}
 use Rattle.history.specs.History.{run}
 use Rattle.history.specs.Demand3.{Unequal, Alone, NoHardware, clearAfter}
 use Rattle.history.proofs.Basics.{upd-same, clash, some-inj}
@@ -32,8 +32,8 @@ module _ {S : Type 0} (machine : S → Action → S × Event) (start : S) (clear
   Calm b c n = clearAfter machine start clear (c .start .before) (cellOf (c .start .op)) × Alone b c n
 
   pub record AllQuiet (s : S) (b : Calls) : Type 0 where
-    pub quiet : (t : ℕ) (c : Call) → b .pending t ≡ some c → Calm b c (b .now) → Quiet s t × (c .hard ≡ 0)
-    pub past : (f : FinishedCall) → f ∈ b .finished → Calm b (f .call) (f .call .last) → f .call .hard ≡ 0
+    pub quiet : (t : ℕ) (c : Call) → b .pending t ≡ some c → Calm b c (b .now) → Quiet s t × (attempts c ≡ 0)
+    pub past : (f : FinishedCall) → f ∈ b .finished → Calm b (f .call) (f .call .last) → attempts (f .call) ≡ 0
 
   pub no-hardware : {s : S} {b : Calls} → AllQuiet s b → NoHardware (clearAfter machine start clear) b
   no-hardware G c n (finished f i) a l = G .past f i (a, l)
@@ -42,21 +42,21 @@ module _ {S : Type 0} (machine : S → Action → S × Event) (start : S) (clear
   module _ (s s' : S) (b : Calls) (G : AllQuiet s b) (same : Tracks doing s b) (dated : Dated b) where
     module _ {a : Action} {e : Event} (k : Change s s' b a e) where
       -- calm after the action, a call was quiet before it
-      was-quiet : (u : ℕ) (c d : Call) (n : ℕ) → b .pending u ≡ some c → c .start ≡ d .start → b .now ≤ n → Calm (enter b a e) d n → Quiet s u × (c .hard ≡ 0)
+      was-quiet : (u : ℕ) (c d : Call) (n : ℕ) → b .pending u ≡ some c → c .start ≡ d .start → b .now ≤ n → Calm (enter b a e) d n → Quiet s u × (attempts c ≡ 0)
       was-quiet u c d n h q le (r, l) =
           G .quiet u c h (subst (λ (s : CallId). clearAfter machine start clear (s .before) (cellOf (s .op))) (sym q) r, alone-before (moves-one b dated k) c d (b .now) n q le l)
 
-      was-past : (f : FinishedCall) → f ∈ b .finished → Calm (enter b a e) (f .call) (f .call .last) → f .call .hard ≡ 0
+      was-past : (f : FinishedCall) → f ∈ b .finished → Calm (enter b a e) (f .call) (f .call .last) → attempts (f .call) ≡ 0
       was-past f i (r, l) = G .past f i (r, alone-before (moves-one b dated k) (f .call) (f .call) (f .call .last) (f .call .last) refl (omega arith) l)
 
     -- the stepper's call has made no attempt
-    untried : (t x : ℕ) {e : Event} (k : Change s s' b (step t) e) (c : Call) (n : ℕ) → b .pending t ≡ some c → b .now ≤ n → QuietSteps doing clear Quiet s s' t x →
-        Calm (enter b (step t) e) (advance b x c) n → Quiet s t × (c .hard + x ≡ 0)
-    untried t x k c n busy le p l = let r = was-quiet k t c (advance b x c) n busy refl le l in (r .0, omega (arith, r .1, p .untried (r .0)))
+    no-attempt : (t : ℕ) (x : Attempt) {e : Event} (k : Change s s' b (step t) e) (c : Call) (n : ℕ) → b .pending t ≡ some c → b .now ≤ n → QuietSteps doing clear Quiet s s' t x →
+        Calm (enter b (step t) e) (advance b x c) n → Quiet s t × (attempts (advance b x c) ≡ 0)
+    no-attempt t x k c n busy le p l = let r = was-quiet k t c (advance b x c) n busy refl le l in (r .0, rw (p .no-attempt (r .0)) (omega (arith, r .1)))
 
     -- another task's call stays as it was
-    other-quiet : (t x : ℕ) {e : Event} (k : Change s s' b (step t) e) → QuietSteps doing clear Quiet s s' t x → Tracks doing s' (enter b (step t) e) → (u : ℕ) (d : Call) →
-        enter b (step t) e .pending u ≡ some d → b .pending u ≡ some d → Calm (enter b (step t) e) d (suc (b .now)) → Quiet s' u × (d .hard ≡ 0)
+    other-quiet : (t : ℕ) (x : Attempt) {e : Event} (k : Change s s' b (step t) e) → QuietSteps doing clear Quiet s s' t x → Tracks doing s' (enter b (step t) e) → (u : ℕ) (d : Call) →
+        enter b (step t) e .pending u ≡ some d → b .pending u ≡ some d → Calm (enter b (step t) e) d (suc (b .now)) → Quiet s' u × (attempts d ≡ 0)
     other-quiet t x k p same' u d i h l = let w = was-quiet k u d d (suc (b .now)) h refl (omega arith) l in (p .kept u (tallied d) (same' u ∙ ap tallyOf i) (w .0), w .1)
 
     pub quiet-next : {a : Action} {e : Event} → Change s s' b a e → s ≡ run machine start (b .accepted) → Tracks doing s' (enter b a e) →
@@ -71,20 +71,20 @@ module _ {S : Type 0} (machine : S → Action → S × Event) (start : S) (clear
         c0 = called b t op
 
         b' : Calls
-        b' = enter b (begin t op) (accepted 0)
+        b' = enter b (begin t op) (accepted untried)
 
         on : (u : ℕ) (c : Call) → b .pending u ≡ some c → b' .pending u ≡ some c
-        on u c h = moves-one b dated {s = s} {s' = s'} (starts {x = 0} idle) .others u (λ q. clash idle (rw q at h)) ∙ h
+        on u c h = moves-one b dated {s = s} {s' = s'} (starts {x = untried} idle) .others u (λ q. clash idle (rw q at h)) ∙ h
 
         -- two calls pending now are not apart
         never : {n m : ℕ} → n ≤ b .now → m ≤ b .now → (suc (b .now) ≤ n) ⊎ (suc (b .now) ≤ m) → ⊥
         never h i (inl z) = omega arith
         never h i (inr z) = omega arith
 
-        quiet : (u : ℕ) (d : Call) → Calm b' d (b' .now) → ((u ≡ t) × (some c0 ≡ some d)) ⊎ ((u ≢ t) × (b .pending u ≡ some d)) → Quiet s' u × (d .hard ≡ 0)
-        quiet u d l (inl (q, h)) = rw q (subst (λ (d : Call). Calm b' d (b' .now) → Quiet s' t × (d .hard ≡ 0)) (some-inj {o = some c0} refl h) first l)
+        quiet : (u : ℕ) (d : Call) → Calm b' d (b' .now) → ((u ≡ t) × (some c0 ≡ some d)) ⊎ ((u ≢ t) × (b .pending u ≡ some d)) → Quiet s' u × (attempts d ≡ 0)
+        quiet u d l (inl (q, h)) = rw q (subst (λ (d : Call). Calm b' d (b' .now) → Quiet s' t × (attempts d ≡ 0)) (some-inj {o = some c0} refl h) first l)
           where
-            first : Calm b' c0 (b' .now) → Quiet s' t × (c0 .hard ≡ 0)
+            first : Calm b' c0 (b' .now) → Quiet s' t × (attempts c0 ≡ 0)
             first (r, l) = (
               p .new (rw reached r) (λ w n i x y.
                   let e = call-of (b .pending w) n (sym (same w) ∙ i) in
@@ -107,11 +107,11 @@ module _ {S : Type 0} (machine : S → Action → S × Event) (start : S) (clear
         b' = enter b (step t) (accepted x)
 
         quiet : (u : ℕ) (d : Call) → b' .pending u ≡ some d → Calm b' d (b' .now) →
-            ((u ≡ t) × (advanced b x (b .pending t) ≡ some d)) ⊎ ((u ≢ t) × (b .pending u ≡ some d)) → Quiet s' u × (d .hard ≡ 0)
+            ((u ≡ t) × (advanced b x (b .pending t) ≡ some d)) ⊎ ((u ≢ t) × (b .pending u ≡ some d)) → Quiet s' u × (attempts d ≡ 0)
         quiet u d h l (inl (q, i)) =
             let z : advance b x c ≡ d = some-inj (ap (advanced b x) busy) i in
-            let w = untried t x (goes {x = x} c busy) c (suc (b .now)) busy (omega arith) p (rw (← z) at l) in
-            (p .kept u (tallied d) (same' u ∙ ap tallyOf h) (rw q (w .0)), ap (λ (d : Call). d .hard) (sym z) ∙ w .1)
+            let w = no-attempt t x (goes {x = x} c busy) c (suc (b .now)) busy (omega arith) p (rw (← z) at l) in
+            (p .kept u (tallied d) (same' u ∙ ap tallyOf h) (rw q (w .0)), ap attempts (sym z) ∙ w .1)
         quiet u d h l (inr (q, i)) = other-quiet t x (goes c busy) p same' u d h i l
     quiet-next (ends {t} {x} {r} c busy p q) reached same' p' = record {
       quiet = λ u d i l. quiet u d i l (upd-some (b .pending) t none u d i);
@@ -124,10 +124,10 @@ module _ {S : Type 0} (machine : S → Action → S × Event) (start : S) (clear
         k : Change s s' b (step t) (answered x r)
         k = ends c busy p q
 
-        quiet : (u : ℕ) (d : Call) → b' .pending u ≡ some d → Calm b' d (b' .now) → ((u ≡ t) × (none ≡ some d)) ⊎ ((u ≢ t) × (b .pending u ≡ some d)) → Quiet s' u × (d .hard ≡ 0)
+        quiet : (u : ℕ) (d : Call) → b' .pending u ≡ some d → Calm b' d (b' .now) → ((u ≡ t) × (none ≡ some d)) ⊎ ((u ≢ t) × (b .pending u ≡ some d)) → Quiet s' u × (attempts d ≡ 0)
         quiet u d i l (inl (z, j)) = absurd (clash refl j)
         quiet u d i l (inr (z, j)) = other-quiet t x k p' same' u d i j l
 
-        past : (f : FinishedCall) → Calm b' (f .call) (f .call .last) → f ∈ (last-one b dated t x c busy r ∷ b .finished) → f .call .hard ≡ 0
-        past f l (inl z) = rw z (untried t x k c (b .now) busy (omega arith) p' (rw z at l) .1)
+        past : (f : FinishedCall) → Calm b' (f .call) (f .call .last) → f ∈ (last-one b dated t x c busy r ∷ b .finished) → attempts (f .call) ≡ 0
+        past f l (inl z) = rw z (no-attempt t x k c (b .now) busy (omega arith) p' (rw z at l) .1)
         past f l (inr i) = was-past k f i l

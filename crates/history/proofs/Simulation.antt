@@ -7,7 +7,7 @@ use mathlib.Core.Option.{Option, none, some}
 use Prim.Native.Nat.{ℕ, suc, _+_, _≤_, _<_}
 use lib.Dec.{T}
 use Rattle.history.specs.Basics.{upd}
-use Rattle.history.specs.History.{Op, cellOf, kindOf, Action, begin, step, Event, refused, accepted, answered, Response, Yes, Report}
+use Rattle.history.specs.History.{Op, cellOf, kindOf, Action, begin, step, Attempt, untried, wins, losses, Event, refused, accepted, answered, Response, Yes, Report}
 use Rattle.history.specs.Linearization.{reply, valueLeft, apply}
 use Rattle.history.specs.Demand3.{most, mostHard, Unequal}
 use Rattle.history.specs.Moments.{before, itself, Spot, changes, Names, beside}
@@ -72,37 +72,39 @@ unplaced g t = record { cells = g .cells; placed = upd (g .placed) t false; when
 pub record Tally : Type 0 where
   pub op : Op
   pub steps : ℕ
-  pub hard : ℕ
+  pub won : ℕ
+  pub lost : ℕ
 
 abbrev pub first : Op → Tally
-first op = record { op = op; steps = 0; hard = 0 }
+first op = record { op = op; steps = 0; won = 0; lost = 0 }
 
-abbrev pub further : Tally → ℕ → Tally
-further n x = record { op = n .op; steps = suc (n .steps); hard = n .hard + x }
+abbrev pub further : Tally → Attempt → Tally
+further n x = record { op = n .op; steps = suc (n .steps); won = n .won + wins x; lost = n .lost + losses x }
 
 module _ {S : Type 0} (doing : S → ℕ → Option Tally) where
   -- COUNTS: what an action makes of the pending calls
 
-  pub record Goes (s s' : S) (t x : ℕ) : Type 0 where
+  pub record Goes (s s' : S) (t : ℕ) (x : Attempt) : Type 0 where
     pub now : Tally
     pub was : doing s t ≡ some now
     pub rest : (u : ℕ) → doing s' u ≡ upd (doing s) t (some (further now x)) u
 
-  pub record Ends (s s' : S) (t x : ℕ) (r : Report) : Type 0 where
+  pub record Ends (s s' : S) (t : ℕ) (x : Attempt) (r : Report) : Type 0 where
     pub now : Tally
     pub was : doing s t ≡ some now
     pub rest : (u : ℕ) → doing s' u ≡ upd (doing s) t none u
     pub kind : r .kind ≡ kindOf (now .op)
     pub cell : r .cell ≡ cellOf (now .op)
     pub steps : r .steps ≡ suc (now .steps)
-    pub hard : r .hard ≡ now .hard + x
-    pub few : r .hard ≤ mostHard (now .op)
+    pub won : r .won ≡ now .won + wins x
+    pub lost : r .lost ≡ now .lost + losses x
+    pub few : r .won + r .lost ≤ mostHard (now .op)
 
-  pub record Starts (size : ℕ) (s s' : S) (t : ℕ) (op : Op) (x : ℕ) : Type 0 where
+  pub record Starts (size : ℕ) (s s' : S) (t : ℕ) (op : Op) (x : Attempt) : Type 0 where
     pub idle : doing s t ≡ none
     pub cell : cellOf op < size
     pub rest : (u : ℕ) → doing s' u ≡ upd (doing s) t (some (first op)) u
-    pub untried : x ≡ 0
+    pub no-attempt : x ≡ untried
 
   -- a refused action changes nothing; a step is refused only where no call is pending
   abbrev pub Follows : ℕ → S → Action → S → Event → Type 0
@@ -135,8 +137,8 @@ module _ {S : Type 0} (doing : S → ℕ → Option Tally) where
       pub new : clear s (cellOf op) → Free s (cellOf op) → Quiet s' t
       pub others : (u : ℕ) (n : Tally) → doing s u ≡ some n → (Unequal op → cellOf op ≢ cellOf (n .op)) → Quiet s u → Quiet s' u
 
-    pub record QuietSteps (s s' : S) (t x : ℕ) : Type 0 where
-      pub untried : Quiet s t → x ≡ 0
+    pub record QuietSteps (s s' : S) (t : ℕ) (x : Attempt) : Type 0 where
+      pub no-attempt : Quiet s t → x ≡ untried
       pub kept : (u : ℕ) (n : Tally) → doing s' u ≡ some n → Quiet s u → Quiet s' u
 
     abbrev pub Quietly : S → Action → S → Event → Type 0
@@ -210,7 +212,7 @@ pub record Simulation {S N : Type 0} (machine : S → Action → S × Event) (no
   pub first-moment : clock (start, blank) ≡ 0
   pub next-moment : (x : S × N) (a : Action) → clock (beside machine note x a .0) ≡ suc (clock x)
   pub opened : (κ : Knowledge) → Inv (start, blank) (fresh values) κ
-  pub within : (x : S × N) (g : Ghost) (κ : Knowledge) → Inv x g κ → (t : ℕ) (n : Tally) → doing (x .0) t ≡ some n → (n .steps < most (n .op)) × (n .hard ≤ mostHard (n .op))
+  pub within : (x : S × N) (g : Ghost) (κ : Knowledge) → Inv x g κ → (t : ℕ) (n : Tally) → doing (x .0) t ≡ some n → (n .steps < most (n .op)) × (n .won + n .lost ≤ mostHard (n .op))
   pub follows : (x : S × N) (g : Ghost) (κ : Knowledge) → Inv x g κ → (a : Action) → Follows doing size (x .0) a (machine (x .0) a .0) (machine (x .0) a .1)
   pub forward : (x : S × N) (g : Ghost) (κ : Knowledge) → Inv x g κ → (a : Action) →
       Forward (λ (y : S × N). doing (y .0)) clock names Inv x g κ a (beside machine note x a .0) (machine (x .0) a .1)

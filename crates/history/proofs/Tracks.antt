@@ -2,9 +2,9 @@
 use mathlib.Core.Path.{_≡_, refl, sym, ap, _∙_, subst}
 use mathlib.Core.Logic.{_≢_, _⊎_, inl, inr}
 use mathlib.Core.Option.{Option, none, some}
-use Prim.Native.Nat.{ℕ, _≤_}
+use Prim.Native.Nat.{ℕ, _≤_, _+_}
 use Rattle.history.specs.Basics.{upd}
-use Rattle.history.specs.History.{Op, cellOf, kindOf, Action, begin, step, Event, refused, accepted, answered, Report, Call, Calls, called, advance, advanced, enter, IsBusy, Allowed}
+use Rattle.history.specs.History.{Op, cellOf, kindOf, Action, begin, step, Attempt, wins, losses, Event, refused, accepted, answered, Report, Call, Calls, called, advance, advanced, enter, IsBusy, Allowed}
 use Rattle.history.specs.Demand3.{mostHard, Reports}
 use Rattle.history.proofs.Basics.{either, upd-at, upd-off, clash, some-inj}
 use Rattle.history.proofs.Simulation.{Tally, first, further, Follows}
@@ -29,7 +29,7 @@ upd-map m f g h t a u = go (either u t)
 -- THE MACHINE'S TALLIES ARE THE PENDING CALLS'
 
 abbrev pub tallied : Call → Tally
-tallied c = record { op = c .start .op; steps = c .steps; hard = c .hard }
+tallied c = record { op = c .start .op; steps = c .steps; won = c .won; lost = c .lost }
 
 abbrev pub tallyOf : Option Call → Option Tally
 tallyOf none = none
@@ -52,9 +52,9 @@ Tracks doing s b = (t : ℕ) → doing s t ≡ tallyOf (b .pending t)
 -- what an action did: it was refused, or a call began, went on, or ended
 pub data Change {S : Type 0} (s s' : S) (b : Calls) : Action → Event → Type 0 where
   refuses : {a : Action} {r : ℕ} → s' ≡ s → Change s s' b a (refused r)
-  starts : {t : ℕ} {op : Op} {x : ℕ} → b .pending t ≡ none → Change s s' b (begin t op) (accepted x)
-  goes : {t x : ℕ} (c : Call) → b .pending t ≡ some c → Change s s' b (step t) (accepted x)
-  ends : {t x : ℕ} {r : Report} (c : Call) → b .pending t ≡ some c → Reports (advance b x c) r → r .hard ≤ mostHard (c .start .op) → Change s s' b (step t) (answered x r)
+  starts : {t : ℕ} {op : Op} {x : Attempt} → b .pending t ≡ none → Change s s' b (begin t op) (accepted x)
+  goes : {t : ℕ} {x : Attempt} (c : Call) → b .pending t ≡ some c → Change s s' b (step t) (accepted x)
+  ends : {t : ℕ} {x : Attempt} {r : Report} (c : Call) → b .pending t ≡ some c → Reports (advance b x c) r → r .won + r .lost ≤ mostHard (c .start .op) → Change s s' b (step t) (answered x r)
 
 pub record Tracked {S : Type 0} (doing : S → ℕ → Option Tally) (size : ℕ) (s s' : S) (b : Calls) (a : Action) (e : Event) : Type 0 where
   pub allowed : Allowed size b a e
@@ -70,7 +70,7 @@ module _ {S : Type 0} (doing : S → ℕ → Option Tally) (size : ℕ) (s s' : 
   tracked (begin t op) (refused n) f = record { allowed = tt; change = refuses f; tracks = rw f same }
   tracked (begin t op) (accepted x) f =
       let idle : b .pending t ≡ none = idle-of (b .pending t) (sym (same t) ∙ f .idle) in
-      record { allowed = (idle, f .cell, f .untried); change = starts idle; tracks = changed t (some (first op)) (some (called b t op)) refl (f .rest) }
+      record { allowed = (idle, f .cell, f .no-attempt); change = starts idle; tracks = changed t (some (first op)) (some (called b t op)) refl (f .rest) }
   tracked (step t) (refused n) f = record { allowed = idle-of (b .pending t) (sym (same t) ∙ f .1); change = refuses (f .0); tracks = rw (f .0) same }
   tracked (step t) (accepted x) f =
       let c = call-of (b .pending t) (f .now) (sym (same t) ∙ f .was) in
@@ -83,7 +83,7 @@ module _ {S : Type 0} (doing : S → ℕ → Option Tally) (size : ℕ) (s s' : 
       let c = call-of (b .pending t) (f .now) (sym (same t) ∙ f .was) in
       record {
         allowed = is-busy (c .1);
-        change = ends {x = x} {r = r} (c .0) (c .1) (record { kind = f .kind ∙ ap (λ (n : Tally). kindOf (n .op)) (sym (c .2)); cell = f .cell ∙ ap (λ (n : Tally). cellOf (n .op)) (sym (c .2)); steps = cc (c .2); hard = cc (c .2) })
-            (subst (λ (n : Tally). r .hard ≤ mostHard (n .op)) (sym (c .2)) (f .few));
+        change = ends {x = x} {r = r} (c .0) (c .1) (record { kind = f .kind ∙ ap (λ (n : Tally). kindOf (n .op)) (sym (c .2)); cell = f .cell ∙ ap (λ (n : Tally). cellOf (n .op)) (sym (c .2)); steps = cc (c .2); won = cc (c .2); lost = cc (c .2) })
+            (subst (λ (n : Tally). r .won + r .lost ≤ mostHard (n .op)) (sym (c .2)) (f .few));
         tracks = changed t none none refl (f .rest);
       }

@@ -6,7 +6,7 @@ use mathlib.Core.List.{List, _++_}
 use Prim.Native.Nat.{ℕ, _≤_, _<_}
 use lib.ListN.{replicate}
 use Rattle.history.specs.Basics.{_∈_}
-use Rattle.history.specs.History.{Op, read, swap, cellOf, kindOf, Report, Action, step, Event, history, run, Call, FinishedCall, Calls, noCalls, callsOf, CallOf, WellFormed}
+use Rattle.history.specs.History.{Op, read, swap, cellOf, kindOf, Report, Action, step, Event, history, run, Call, attempts, FinishedCall, Calls, noCalls, callsOf, CallOf, WellFormed}
 use Rattle.history.specs.Linearization.{Point, Linearizes}
 
 -- BOUNDS
@@ -24,12 +24,13 @@ pub record Reports (c : Call) (r : Report) : Type 0 where
   pub kind : r .kind ≡ kindOf (c .start .op)
   pub cell : r .cell ≡ cellOf (c .start .op)
   pub steps : r .steps ≡ c .steps
-  pub hard : r .hard ≡ c .hard
+  pub won : r .won ≡ c .won
+  pub lost : r .lost ≡ c .lost
 
 pub record Bounds (b : Calls) : Type 0 where
-  pub ended : (f : FinishedCall) → f ∈ b .finished → (f .call .steps ≤ most (f .call .start .op)) × (f .call .hard ≤ mostHard (f .call .start .op))
+  pub ended : (f : FinishedCall) → f ∈ b .finished → (f .call .steps ≤ most (f .call .start .op)) × (attempts (f .call) ≤ mostHard (f .call .start .op))
   pub reported : (f : FinishedCall) → f ∈ b .finished → Reports (f .call) (f .report)
-  pub unended : (t : ℕ) (c : Call) → b .pending t ≡ some c → (c .steps < most (c .start .op)) × (c .hard ≤ mostHard (c .start .op))
+  pub unended : (t : ℕ) (c : Call) → b .pending t ≡ some c → (c .steps < most (c .start .op)) × (attempts c ≤ mostHard (c .start .op))
 
 -- NO HARDWARE CAS WITHOUT CONTENTION
 
@@ -44,15 +45,15 @@ Alone b c end = (d : Call) (n : ℕ) → CallOf b d n → Unequal (d .start .op)
 
 -- `Clear l k`: nothing that was left in cell k by the accepted actions l makes a call attempt a hardware CAS
 abbrev pub NoHardware : (List Action → ℕ → Type 0) → Calls → Type 0
-NoHardware Clear b = (c : Call) (n : ℕ) → CallOf b c n → Clear (c .start .before) (cellOf (c .start .op)) → Alone b c n → c .hard ≡ 0
+NoHardware Clear b = (c : Call) (n : ℕ) → CallOf b c n → Clear (c .start .before) (cellOf (c .start .op)) → Alone b c n → attempts c ≡ 0
 
 -- by the machine that was fed the actions l
 abbrev pub clearAfter : {S : Type 0} → (S → Action → S × Event) → S → (S → ℕ → Type 0) → List Action → ℕ → Type 0
 clearAfter machine start clear l k = clear (run machine start l) k
 
 -- DEMAND 3. It speaks of histories alone. A machine that refuses every begin meets it, and so does one that acts at once and then idles:
--- demand 1 ties refusals to the questions, and demand 2 each step to a line. `tried` is the machine's own word: in `pool` and `figure` it
--- is read off the access of the step's line.
+-- demand 1 ties refusals to the questions, and demand 2 each step to a line. What an event says of a hardware CAS is the machine's own word: in
+-- `pool` and `figure` it is read off the access of the step's line and memory's answer.
 
 -- of the calls alone
 pub record RightCalls (Clear : List Action → ℕ → Type 0) (values : ℕ → ℕ) (b : Calls) : Type 0 where

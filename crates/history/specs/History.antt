@@ -41,14 +41,28 @@ pub record Report : Type 0 where
   pub cell : ℕ
   pub answer : Response
   pub steps : ℕ
-  pub hard : ℕ
+  pub won : ℕ
+  pub lost : ℕ
 
--- what an action gave: the number of a refusal; that it was accepted, and its call goes on; that its call is finished. `tried`: the hardware
--- CAS attempts of this action
+-- an action's hardware CAS: it succeeded, it failed, or the action attempts none
+pub data Attempt : Type 0 where
+  success failure untried : Attempt
+
+abbrev pub wins : Attempt → ℕ
+wins success = 1
+wins failure = 0
+wins untried = 0
+
+abbrev pub losses : Attempt → ℕ
+losses success = 0
+losses failure = 1
+losses untried = 0
+
+-- what an action gave: the number of a refusal; that it was accepted, and its call goes on; that its call is finished
 pub data Event : Type 0 where
   refused : (number : ℕ) → Event
-  accepted : (tried : ℕ) → Event
-  answered : (tried : ℕ) → Report → Event
+  accepted : Attempt → Event
+  answered : Attempt → Report → Event
 
 -- of any machine, whatever its actions and events: each action gets the state as the one before left it
 abbrev pub history : {S A E : Type 0} → (S → A → S × E) → S → List A → List (A × E)
@@ -69,12 +83,16 @@ pub record CallId : Type 0 where
   pub op : Op
   pub before : List Action
 
--- a call so far: the moment of its last step (of its begin, if it has none), its accepted steps, their hardware CAS attempts
+-- a call so far: the moment of its last step (of its begin, if it has none), its accepted steps, their hardware CAS attempts won and lost
 pub record Call : Type 0 where
   pub start : CallId
   pub last : ℕ
   pub steps : ℕ
-  pub hard : ℕ
+  pub won : ℕ
+  pub lost : ℕ
+
+abbrev pub attempts : Call → ℕ
+attempts c = c .won + c .lost
 
 -- a finished call, and what its last step reported
 pub record FinishedCall : Type 0 where
@@ -93,12 +111,12 @@ abbrev pub noCalls : Calls
 noCalls = record { now = 0; accepted = []; pending = λ t. none; finished = [] }
 
 abbrev pub called : Calls → ℕ → Op → Call
-called b t op = record { start = record { at = b .now; task = t; op = op; before = b .accepted }; last = b .now; steps = 0; hard = 0 }
+called b t op = record { start = record { at = b .now; task = t; op = op; before = b .accepted }; last = b .now; steps = 0; won = 0; lost = 0 }
 
-abbrev pub advance : Calls → ℕ → Call → Call
-advance b x c = record { start = c .start; last = b .now; steps = suc (c .steps); hard = c .hard + x }
+abbrev pub advance : Calls → Attempt → Call → Call
+advance b x c = record { start = c .start; last = b .now; steps = suc (c .steps); won = c .won + wins x; lost = c .lost + losses x }
 
-abbrev pub advanced : Calls → ℕ → Option Call → Option Call
+abbrev pub advanced : Calls → Attempt → Option Call → Option Call
 advanced b x none = none
 advanced b x (some c) = some (advance b x c)
 
@@ -142,7 +160,7 @@ IsBusy (some c) = Unit {0}
 -- pending call is never refused, and no other step goes on or answers
 abbrev pub Allowed : ℕ → Calls → Action → Event → Type 0
 Allowed size b (begin t op) (refused n) = Unit {0}
-Allowed size b (begin t op) (accepted x) = (b .pending t ≡ none) × (cellOf op < size) × (x ≡ 0)
+Allowed size b (begin t op) (accepted x) = (b .pending t ≡ none) × (cellOf op < size) × (x ≡ untried)
 Allowed size b (begin t op) (answered x r) = ⊥
 Allowed size b (step t) (refused n) = b .pending t ≡ none
 Allowed size b (step t) (accepted x) = IsBusy (b .pending t)

@@ -43,7 +43,10 @@ fn same(a: Record, b: Record) -> bool {
         & ((a.cell == b.cell) & ((a.expected == b.expected) & (a.new == b.new)));
     let place = (a.line == b.line)
         & ((a.wanted == b.wanted) & ((a.held == b.held) & (a.taken == b.taken)));
-    call & (place & ((a.loaded == b.loaded) & ((a.steps == b.steps) & (a.hard == b.hard))))
+    call
+        & (place
+            & ((a.loaded == b.loaded)
+                & ((a.steps == b.steps) & ((a.won == b.won) & (a.lost == b.lost)))))
 }
 
 // WHAT IS PRINTED
@@ -65,7 +68,8 @@ fn print_finished(f: Finished) {
         }
     }
     print(b", steps ", f.steps);
-    print(b", hard ", f.hard);
+    print(b", won ", f.won);
+    print(b", lost ", f.lost);
 }
 
 fn print_outcome(outcome: Outcome) {

@@ -3,10 +3,12 @@ use Prim.Native.Nat.{ℕ}
 use Rattle.lines.specs.declared.Record.{Record}
 use Rattle.lines.specs.declared.Answer.{Answer}
 use Rattle.lines.specs.declared.Answer.the-variants as code
+use Rattle.lines.specs.declared.Attempt as Tried
+use Rattle.lines.specs.declared.Attempt.the-variants as tried
 use Rattle.lines.specs.declared.Finished.{Finished}
 use Rattle.lines.specs.declared.Next as Code
 use Rattle.lines.specs.declared.Next.the-variants as next
-use Rattle.history.specs.History.{Response, Value, Yes, No}
+use Rattle.history.specs.History.{Response, Value, Yes, No, Attempt, success, failure, untried}
 
 -- a read's value, or whether a swap won
 abbrev pub answerOf : Answer → Response
@@ -14,16 +16,23 @@ answerOf (code.Value v) = Value v
 answerOf code.Yes = Yes
 answerOf code.No = No
 
--- a finished call: its kind (1 is a read, 2 a swap) and cell, what it answers, its steps and hardware CAS attempts
+-- what became of a step's hardware CAS: won, lost, or none attempted
+abbrev pub attemptOf : Tried.Attempt → Attempt
+attemptOf tried.Won = success
+attemptOf tried.Lost = failure
+attemptOf tried.Untried = untried
+
+-- a finished call: its kind (1 is a read, 2 a swap) and cell, what it answers, its steps, its hardware CAS attempts won and lost
 pub record Result : Type 0 where
   pub kind : ℕ
   pub cell : ℕ
   pub answer : Response
   pub steps : ℕ
-  pub hard : ℕ
+  pub won : ℕ
+  pub lost : ℕ
 
 abbrev pub result : Finished → Result
-result f = record { kind = f .kind; cell = f .cell; answer = answerOf (f .answer); steps = f .steps; hard = f .hard }
+result f = record { kind = f .kind; cell = f .cell; answer = answerOf (f .answer); steps = f .steps; won = f .won; lost = f .lost }
 
 -- what follows a step: the task's next record, or the end of its call
 pub data Next : Type 0 where

@@ -11,7 +11,7 @@ use Rattle.lines.specs.declared.Access.the-variants.{LoadCell, Load, Sto
 use Rattle.lines.specs.Basics.{within}
 use Rattle.lines.specs.Record.{noValue}
 use Rattle.lines.specs.Answers.{Next, Go, Done}
-use Rattle.history.specs.History.{Response, Value, Yes, No}
+use Rattle.history.specs.History.{Response, Value, Yes, No, Attempt, success, failure, untried, wins, losses}
 
 -- THE LINES
 
@@ -100,11 +100,24 @@ hardware (InstallCas k b n) = 1
 hardware Allocate = 0
 hardware Nothing = 0
 
+-- what became of a hardware CAS, by memory's answer alone: 1 where it found what it expected, D none or the held block current
+abbrev pub found : ℕ → Attempt
+found v = cond (eqb v 1) success failure
+
+abbrev pub attempt : Access → ℕ → Attempt
+attempt (LoadCell k) v = untried
+attempt (Load b f) v = untried
+attempt (Store b f n) v = untried
+attempt (DecideCas b n) v = found v
+attempt (InstallCas k b n) v = found v
+attempt Allocate v = untried
+attempt Nothing v = untried
+
 -- WHAT FOLLOWS
 
 -- the record with the fields that a line may change
 abbrev pub at : Record → (line wanted held taken loaded : ℕ) → Record
-at r n w h t v = record { line = n; wanted = w; kind = r .kind; cell = r .cell; expected = r .expected; new = r .new; held = h; taken = t; loaded = v; steps = r .steps; hard = r .hard }
+at r n w h t v = record { line = n; wanted = w; kind = r .kind; cell = r .cell; expected = r .expected; new = r .new; held = h; taken = t; loaded = v; steps = r .steps; won = r .won; lost = r .lost }
 
 abbrev pub goto : Record → ℕ → Next
 goto r n = Go (at r n (r .wanted) (r .held) (r .taken) (r .loaded))
@@ -123,7 +136,7 @@ abbrev pub take : Record → ℕ → ℕ → Next
 take r n b = Go (at r n (r .wanted) (r .held) b (r .loaded))
 
 abbrev pub answer : Record → Response → Next
-answer r a = Done (record { kind = r .kind; cell = r .cell; answer = a; steps = r .steps; hard = r .hard })
+answer r a = Done (record { kind = r .kind; cell = r .cell; answer = a; steps = r .steps; won = r .won; lost = r .lost })
 
 -- what a read that found v answers: its value, or for a swap of equal values (line 14) whether it is the expected one
 abbrev pub readAnswer : Record → ℕ → Response
@@ -163,9 +176,9 @@ nextAt nowhere p r v = Go r
 abbrev pub accessOf : ℕ → Record → Access
 accessOf p r = accessAt (lineOf r) p r
 
--- each line done counts as a step, and its access as a hardware CAS where it is one
-abbrev pub counted : Record → Access → Record
-counted r a = record { line = r .line; wanted = r .wanted; kind = r .kind; cell = r .cell; expected = r .expected; new = r .new; held = r .held; taken = r .taken; loaded = r .loaded; steps = r .steps + 1; hard = r .hard + hardware a }
+-- each line done counts as a step, and its hardware CAS, where it is one, as won or lost
+abbrev pub counted : Record → Attempt → Record
+counted r x = record { line = r .line; wanted = r .wanted; kind = r .kind; cell = r .cell; expected = r .expected; new = r .new; held = r .held; taken = r .taken; loaded = r .loaded; steps = r .steps + 1; won = r .won + wins x; lost = r .lost + losses x }
 
 abbrev pub nextOf : ℕ → Record → ℕ → Next
-nextOf p r v = nextAt (lineOf r) p (counted r (accessOf p r)) v
+nextOf p r v = nextAt (lineOf r) p (counted r (attempt (accessOf p r) v)) v

@@ -11,7 +11,7 @@ abbrev pub noValue : ℕ
 noValue = 4294967295
 
 abbrev pub idle : Record
-idle = record { line = 0; wanted = 0; kind = 0; cell = 0; expected = 0; new = 0; held = 0; taken = 0; loaded = 0; steps = 0; hard = 0 }
+idle = record { line = 0; wanted = 0; kind = 0; cell = 0; expected = 0; new = 0; held = 0; taken = 0; loaded = 0; steps = 0; won = 0; lost = 0 }
 
 abbrev pub isIdle : Record → Bool
 isIdle r = eqb (r .line) 0
@@ -23,7 +23,7 @@ recordAt l t = getD l t idle
 -- WHEN A CALL BEGINS
 
 abbrev pub first : (line kind cell expected new : ℕ) → Record
-first l d k e n = record { line = l; wanted = 0; kind = d; cell = k; expected = e; new = n; held = 0; taken = 0; loaded = 0; steps = 0; hard = 0 }
+first l d k e n = record { line = l; wanted = 0; kind = d; cell = k; expected = e; new = n; held = 0; taken = 0; loaded = 0; steps = 0; won = 0; lost = 0 }
 
 abbrev pub firstRead : ℕ → Record
 firstRead k = first 10 1 k 0 0

@@ -1,9 +1,11 @@
 // What follows a line, from the value that memory answers.
 ghost use mathlib.Core.Path.{_≡_};
 ghost use Prim.Native.Nat.{ℕ, _≤_};
-ghost use Rattle.lines.specs.Answers.{answerOf, followed};
-ghost use Rattle.lines.specs.Lines.{l3, l21, l30, deciding, lineOf, nextAt, goto, decide, hold, load, take, answer, readAnswer};
+ghost use Rattle.lines.specs.Answers.{answerOf, attemptOf, followed};
+ghost use Rattle.lines.specs.Lines.{l3, l21, l30, deciding, lineOf, nextAt, goto, decide, hold, load, take, answer, readAnswer, found, attempt};
+use crate::Access;
 use crate::Answer;
+use crate::Attempt;
 use crate::Finished;
 use crate::Next;
 use crate::Record;
@@ -62,7 +64,8 @@ fn answer(r: Record, a: Answer) -> Next
         cell: r.cell,
         answer: a,
         steps: r.steps,
-        hard: r.hard,
+        won: r.won,
+        lost: r.lost,
     })
 }
 
@@ -78,6 +81,27 @@ fn read_answer(r: Record, v: u32) -> Answer
         }
     } else {
         Answer::Value(v)
+    }
+}
+
+// A hardware CAS that memory answered with v: 1 where it found what it expected.
+fn found(v: u32) -> Attempt
+    ensures { λ x. ⌜ attemptOf x ≡ found v ⌝ }
+{
+    if v == 1 { Attempt::Won } else { Attempt::Lost }
+}
+
+pub fn attempt(a: Access, v: u32) -> Attempt
+    ensures { λ x. ⌜ attemptOf x ≡ attempt a v ⌝ }
+{
+    match a {
+        Access::LoadCell(_) => Attempt::Untried,
+        Access::Load(_, _) => Attempt::Untried,
+        Access::Store(_, _, _) => Attempt::Untried,
+        Access::DecideCas(_, _) => found(v),
+        Access::InstallCas(_, _, _) => found(v),
+        Access::Allocate => Attempt::Untried,
+        Access::Nothing => Attempt::Untried,
     }
 }
 

@@ -23,8 +23,9 @@ pub struct Record {
     pub taken: u32,
     pub loaded: u32,
     pub steps: u32,
-    // Hardware CAS attempts so far.
-    pub hard: u32,
+    // Hardware CAS attempts so far, won and lost.
+    pub won: u32,
+    pub lost: u32,
 }
 
 pub enum Answer {
@@ -38,7 +39,15 @@ pub struct Finished {
     pub cell: u32,
     pub answer: Answer,
     pub steps: u32,
-    pub hard: u32,
+    pub won: u32,
+    pub lost: u32,
+}
+
+// What became of a step's hardware CAS.
+pub enum Attempt {
+    Won,
+    Lost,
+    Untried,
 }
 
 // The five words of a block, in their order.

@@ -28,7 +28,8 @@ fn first(line: u32, kind: u32, cell: u32, expected: u32, new: u32) -> Record
         taken: 0,
         loaded: 0,
         steps: 0,
-        hard: 0,
+        won: 0,
+        lost: 0,
     }
 }
 

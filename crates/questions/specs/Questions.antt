@@ -109,7 +109,7 @@ abbrev pub valuesFit : Record → Bool
 valuesFit r = eqb (r .kind) 1 || (not (eqb (r .expected) noValue) && not (eqb (r .new) noValue))
 
 abbrev pub busyTests : Record → (cells blocks : ℕ) → List Bool
-busyTests r v b = ltb (r .cell) v ∷ lineFit r ∷ blocksFit r b ∷ valuesFit r ∷ leb (r .steps) 20 ∷ leb (r .hard) 3 ∷ []
+busyTests r v b = ltb (r .cell) v ∷ lineFit r ∷ blocksFit r b ∷ valuesFit r ∷ leb (r .steps) 20 ∷ leb (r .won + r .lost) 3 ∷ []
 
 unfoldable pub recordFit : Record → (cells blocks : ℕ) → Bool
 recordFit r v b = isIdle r || ands (busyTests r v b)

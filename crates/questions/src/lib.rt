@@ -3,9 +3,9 @@ ghost use mathlib.Core.Path.{_≡_};
 ghost use mathlib.Core.Bool.{cond, false};
 ghost use mathlib.Core.Option.{Option·getD};
 ghost use mathlib.Core.List.{_∷_};
-ghost use lib.Dec.{eqb, ltb};
+ghost use lib.Dec.{eqb, ltb, leb};
 ghost use lib.ListN.{getD};
-ghost use Prim.Native.Nat.{_≤_};
+ghost use Prim.Native.Nat.{_+_, _≤_};
 ghost use Rattle.lines.specs.Basics.{allFrom};
 ghost use Rattle.questions.specs.Questions.{refusal, tasksOk, cellsOk, blocksOk, hasNone, openQuestions, reads, swaps, lineFit, blocksFit, valuesFit, recordFit, fit, swapQuestions, stepQuestions};
 use lines::Record;
@@ -131,6 +131,15 @@ fn values_fit(r: Record) -> bool
     (r.kind == 1) | (!(r.expected == NO_VALUE) & !(r.new == NO_VALUE))
 }
 
+// Their sum may need more than 32 bits.
+fn few_attempts(r: Record) -> bool
+    ensures { λ b. ⌜ b ≡ leb (r .won + r .lost) 3 ⌝ }
+{
+    let won = r.won as u64;
+    let lost = r.lost as u64;
+    won + lost <= 3
+}
+
 // Idle records are many: they leave first.
 fn record_fit(r: Record, cells: u32, blocks: u32) -> bool
     ensures { λ b. ⌜ b ≡ recordFit r cells blocks ⌝ }
@@ -147,7 +156,7 @@ fn record_fit(r: Record, cells: u32, blocks: u32) -> bool
     if !blocks_fit(r, blocks) {
         return false;
     }
-    values_fit(r) & ((r.steps <= 20) & (r.hard <= 3))
+    values_fit(r) & ((r.steps <= 20) & few_attempts(r))
 }
 
 fn cells_fit(current: &[u32; 16], cells: u32, blocks: u32) -> bool

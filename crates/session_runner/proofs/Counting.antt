@@ -7,7 +7,7 @@ use Rattle.questions.specs.declared.State.{State}
 use Rattle.cells.specs.Answers.{Said, Refused, Acted, Ended}
 use Rattle.cells.specs.Events.{eventOf}
 use Rattle.cells.specs.Machine.{Pool, does, triedBy, pool}
-use Rattle.history.specs.History.{Action, taskOf, Event, refused, accepted, answered, history}
+use Rattle.history.specs.History.{Action, taskOf, Attempt, untried, Event, refused, accepted, answered, history}
 use Rattle.session_text.specs.Lines.{Small}
 use Rattle.session_text.specs.Printed.{Totals, totals, addEvent, addEvents}
 use Rattle.session_runner.specs.Loop.{Few}
@@ -16,12 +16,12 @@ use Rattle.session_runner.proofs.Outcomes.{small}
 few-of : (t : ℕ) (e : Event) → Small t e → Few e
 few-of t (refused n) h = tt
 few-of t (accepted x) h = tt
-few-of t (answered x r) h = h .3
+few-of t (answered x r) h = omega (arith, h .3, h .4)
 
-pub few : (s : State) (p : List ℕ) (a : Action) → Few (eventOf 0 (does s p a .outcome))
-few s p a = few-of (taskOf a) (eventOf 0 (does s p a .outcome)) (small s p a)
+pub few : (s : State) (p : List ℕ) (a : Action) → Few (eventOf untried (does s p a .outcome))
+few s p a = few-of (taskOf a) (eventOf untried (does s p a .outcome)) (small s p a)
 
-same-few : (x : ℕ) (o : Said) → Few (eventOf 0 o) → Few (eventOf x o)
+same-few : (x : Attempt) (o : Said) → Few (eventOf untried o) → Few (eventOf x o)
 same-few x (Refused n) h = tt
 same-few x Acted h = tt
 same-few x (Ended f) h = h
@@ -35,8 +35,8 @@ all-added : (z : Totals) (x : Pool) (l : List Action) → (addEvents z (history 
 all-added z x [] = (omega arith, omega arith)
 all-added z (s, p) (a ∷ l) =
     let o = does s p a .outcome in
-    let e = eventOf (triedBy s a) o in
-    let b = added z e (same-few (triedBy s a) o (few s p a)) in
+    let e = eventOf (triedBy s p a) o in
+    let b = added z e (same-few (triedBy s p a) o (few s p a)) in
     let r = all-added (addEvent z e) (pool (s, p) a .0) l in
     (omega (arith, b .0, r .0), omega (arith, b .1, r .1))
 

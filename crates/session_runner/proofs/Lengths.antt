@@ -28,6 +28,9 @@ line-length s l = length-append (s ++ numbers l) (bytes ")\n") ∙ ap (λ (n : �
 pub numbers-2 : (a b : ℕ) → a ≤ 4294967295 → b ≤ 4294967295 → length (numbers (a ∷ b ∷ [])) ≤ 22
 numbers-2 a b h k = omega (arith, numbers-length a (b ∷ []), numbers-length b [], none-length, decimal-32 a h, decimal-32 b k)
 
+pub numbers-3 : (a b c : ℕ) → a ≤ 4294967295 → b ≤ 4294967295 → c ≤ 4294967295 → length (numbers (a ∷ b ∷ c ∷ [])) ≤ 33
+numbers-3 a b c h i j = omega (arith, numbers-length a (b ∷ c ∷ []), numbers-2 b c i j, decimal-32 a h)
+
 pub line-1 : (s : List ℕ) (a : ℕ) → a ≤ 4294967295 → length (line s (a ∷ [])) ≤ length s + 13
 line-1 s a h = omega (arith, line-length s (a ∷ []), numbers-length a [], none-length, decimal-32 a h)
 
@@ -39,6 +42,6 @@ line-4 s a b c d h i j k =
     omega (arith, line-length s (a ∷ b ∷ c ∷ d ∷ []), numbers-length a (b ∷ c ∷ d ∷ []), numbers-length b (c ∷ d ∷ []), numbers-length c (d ∷ []), numbers-length d [], none-length, decimal-64 a h, decimal-64 b i, decimal-64 c j, decimal-64 d k)
 
 -- the line of a finished call, where it starts at a, its numbers at d, and its last part at e
-pub done-short : (at d e t k s h : ℕ) → d ≤ at + 23 + (length (decimal t) + length (decimal k)) → e ≡ d + length (numbers (s ∷ h ∷ [])) → (t < 100) × (k < 100) × (s < 100) × (h < 100) → e + 2 ≤ at + 36
-done-short at d e t k s h x y z =
-    omega (arith, x, y, numbers-length s (h ∷ []), numbers-length h [], none-length, decimal-short 1 t (z .0), decimal-short 1 k (z .1), decimal-short 1 s (z .2), decimal-short 1 h (z .3))
+pub done-short : (at d e t k s w l : ℕ) → d ≤ at + 23 + (length (decimal t) + length (decimal k)) → e ≡ d + length (numbers (s ∷ w ∷ l ∷ [])) → (t < 100) × (k < 100) × (s < 100) × (w < 10) × (l < 10) → e + 2 ≤ at + 36
+done-short at d e t k s w l x y z =
+    omega (arith, x, y, numbers-length s (w ∷ l ∷ []), numbers-length w (l ∷ []), numbers-length l [], none-length, decimal-short 1 t (z .0), decimal-short 1 k (z .1), decimal-short 1 s (z .2), decimal-short 0 w (z .3), decimal-short 0 l (z .4))

@@ -19,7 +19,7 @@ use Rattle.questions.specs.Questions.{refusal, openQuestions}
 use Rattle.cells.proofs.Acts.{acts-iff, open-acts}
 use Rattle.refinement.specs.Reached.{Reached}
 use Rattle.refinement.proofs.Reaching.{reached-open}
-use Rattle.history.specs.History.{Action, taskOf, history, run}
+use Rattle.history.specs.History.{Action, taskOf, Attempt, untried, history, run}
 use Rattle.cells.specs.Events.{eventOf}
 use Rattle.cells.specs.Machine.{does, triedBy, pool}
 use Rattle.session_file.specs.Session.{Verdict, verdict}
@@ -36,37 +36,37 @@ map-at f [] i h = absurd (omega arith)
 map-at f (x ∷ l) zero h = refl
 map-at f (x ∷ l) (suc i) h = map-at f l i (omega arith)
 
--- a line and a count do not depend on the hardware CAS attempts of the action
-same-line : (i t x : ℕ) (o : Said) → eventLine i t (eventOf x o) ≡ eventLine i t (eventOf 0 o)
+-- a line and a count do not depend on the hardware CAS of the action
+same-line : (i t : ℕ) (x : Attempt) (o : Said) → eventLine i t (eventOf x o) ≡ eventLine i t (eventOf untried o)
 unfolding eventLine
 same-line i t x (Refused n) = refl
 same-line i t x Acted = refl
 same-line i t x (Ended f) = refl
 
-same-count : (z : Totals) (x : ℕ) (o : Said) → addEvent z (eventOf x o) ≡ addEvent z (eventOf 0 o)
+same-count : (z : Totals) (x : Attempt) (o : Said) → addEvent z (eventOf x o) ≡ addEvent z (eventOf untried o)
 same-count z x (Refused n) = refl
 same-count z x Acted = refl
 same-count z x (Ended f) = refl
 
 module _ (n v : ℕ) (f : ℕ → Action) (l : List ℕ) (i : ℕ) (z : Totals) (s : State) (p : List ℕ) where
   first : (a : Action) (r : List Action) → let x = does s p a in
-      playedOn n v i z (s, p) (a ∷ r) ≡ eventLine i (taskOf a) (eventOf 0 (x .outcome)) ++ playedOn n v (i + 1) (addEvent z (eventOf 0 (x .outcome))) (x .state, x .pool) r
+      playedOn n v i z (s, p) (a ∷ r) ≡ eventLine i (taskOf a) (eventOf untried (x .outcome)) ++ playedOn n v (i + 1) (addEvent z (eventOf untried (x .outcome))) (x .state, x .pool) r
   unfolding playedOn eventLines
   first a r =
       let x = does s p a in
-      let e = eventOf (triedBy s a) (x .outcome) in
+      let e = eventOf (triedBy s p a) (x .outcome) in
       let h = history pool (x .state, x .pool) r in
       let y = run pool (x .state, x .pool) r in
       let rest : Totals → List ℕ = λ z. eventLines (i + 1) h ++ endText n v (addEvents z h) (y .0) (y .1) in
       append-assoc (eventLine i (taskOf a) e) (eventLines (i + 1) h) (endText n v (addEvents (addEvent z e) h) (y .0) (y .1))
-      ∙ ap (λ (t : List ℕ). t ++ rest (addEvent z e)) (same-line i (taskOf a) (triedBy s a) (x .outcome))
-      ∙ ap (λ (z : Totals). eventLine i (taskOf a) (eventOf 0 (x .outcome)) ++ rest z) (same-count z (triedBy s a) (x .outcome))
+      ∙ ap (λ (t : List ℕ). t ++ rest (addEvent z e)) (same-line i (taskOf a) (triedBy s p a) (x .outcome))
+      ∙ ap (λ (z : Totals). eventLine i (taskOf a) (eventOf untried (x .outcome)) ++ rest z) (same-count z (triedBy s p a) (x .outcome))
 
-  pub one-action : {z′ : Totals} {s′ : State} {p′ : List ℕ} {o : Said} {a : Action} {t : ℕ} → i < length l → a ≡ f (getD l i 0) → leaving s′ p′ o ≡ does s p a → t ≡ taskOf a → z′ ≡ addEvent z (eventOf 0 o) →
-      playedOn n v i z (s, p) (drop i (map f l)) ≡ eventLine i t (eventOf 0 o) ++ playedOn n v (i + 1) z′ (s′, p′) (drop (i + 1) (map f l))
+  pub one-action : {z′ : Totals} {s′ : State} {p′ : List ℕ} {o : Said} {a : Action} {t : ℕ} → i < length l → a ≡ f (getD l i 0) → leaving s′ p′ o ≡ does s p a → t ≡ taskOf a → z′ ≡ addEvent z (eventOf untried o) →
+      playedOn n v i z (s, p) (drop i (map f l)) ≡ eventLine i t (eventOf untried o) ++ playedOn n v (i + 1) z′ (s′, p′) (drop (i + 1) (map f l))
   one-action {a = a} h ea ed et ez =
       let rest = drop (i + 1) (map f l) in
-      let after : After → List ℕ = λ x. eventLine i (taskOf a) (eventOf 0 (x .outcome)) ++ playedOn n v (i + 1) (addEvent z (eventOf 0 (x .outcome))) (x .state, x .pool) rest in
+      let after : After → List ℕ = λ x. eventLine i (taskOf a) (eventOf untried (x .outcome)) ++ playedOn n v (i + 1) (addEvent z (eventOf untried (x .outcome))) (x .state, x .pool) rest in
       rw (map-at f l i h, ← (add-one i), ← ea, et, ez) (first a rest ∙ ap after (sym ed))
 
   pub no-action : length l ≤ i → playedOn n v i z (s, p) (drop i (map f l)) ≡ endText n v z s p

@@ -1,6 +1,6 @@
 -- The loop over the actions.
 use mathlib.Core.List.{List, _++_}
-use Prim.Native.Nat.{ℕ, _<_}
+use Prim.Native.Nat.{ℕ, _+_, _<_}
 use Rattle.history.specs.History.{Action, Event, refused, accepted, answered, history, run}
 use Rattle.cells.specs.Machine.{Pool, pool}
 use Rattle.session_text.specs.Printed.{Totals, eventLines, addEvents, endText}
@@ -16,4 +16,4 @@ playedOn n v i z x l =
 abbrev pub Few : Event → Type 0
 Few (refused n) = Unit {0}
 Few (accepted x) = Unit {0}
-Few (answered x r) = r .hard < 100
+Few (answered x r) = r .won + r .lost < 100

@@ -19,6 +19,7 @@ ghost use Rattle.session_reader.specs.Reading.{actAt};
 ghost use Rattle.session_reader.specs.Kept.{Named};
 ghost use Rattle.cells.specs.Answers.{said, seen as «seenOf»};
 ghost use Rattle.cells.specs.Events.{eventOf};
+ghost use Rattle.history.specs.History.{untried};
 ghost use Rattle.session_text.specs.Lines.{eventLine, Small};
 ghost use Rattle.session_text.specs.Printed.{addEvent, lookLine, cellLines, pendingTasks, endText, played};
 ghost use Rattle.session_runner.specs.Actions.{totalsOf};
@@ -32,9 +33,9 @@ pub struct Tally {
 
 // The action's line, where it has one.
 fn report(out: &mut [u8], at: usize, i: u32, task: u32, outcome: Outcome) -> usize
-    requires { ⌜ at + 67 ≤ length (now out) ⌝ }
-    ensures { λ r. ⌜ Appended (now (out .entry)) (now (out .exit)) at r (eventLine i task (eventOf 0 (said outcome))) ⌝ }
-    ensures { λ r. ⌜ (Small task (eventOf 0 (said outcome)) → r ≤ at + 36) ⌝ }
+    requires { ⌜ at + 78 ≤ length (now out) ⌝ }
+    ensures { λ r. ⌜ Appended (now (out .entry)) (now (out .exit)) at r (eventLine i task (eventOf untried (said outcome))) ⌝ }
+    ensures { λ r. ⌜ (Small task (eventOf untried (said outcome)) → r ≤ at + 36) ⌝ }
 {
     match outcome {
         Outcome::Refused(n) => printing::put_no(out, at, i, n),
@@ -45,8 +46,8 @@ fn report(out: &mut [u8], at: usize, i: u32, task: u32, outcome: Outcome) -> usi
 
 // At most 65,535 calls, each of fewer than 100 hardware CAS attempts: no sum wraps.
 fn count(z: Tally, outcome: Outcome) -> Tally
-    requires { ⌜ (z .finished ≤ 65535) × (z .hard ≤ 65535 * 100) × Few (eventOf 0 (said outcome)) ⌝ }
-    ensures { λ r. ⌜ totalsOf r ≡ addEvent (totalsOf z) (eventOf 0 (said outcome)) ⌝ }
+    requires { ⌜ (z .finished ≤ 65535) × (z .hard ≤ 65535 * 100) × Few (eventOf untried (said outcome)) ⌝ }
+    ensures { λ r. ⌜ totalsOf r ≡ addEvent (totalsOf z) (eventOf untried (said outcome)) ⌝ }
     ensures { λ r. ⌜ (r .finished ≤ z .finished + 1) × (r .hard ≤ z .hard + 100) ⌝ }
 {
     match outcome {
@@ -54,7 +55,7 @@ fn count(z: Tally, outcome: Outcome) -> Tally
         Outcome::Acted => z,
         Outcome::Ended(f) => Tally {
             finished: z.finished + 1,
-            hard: z.hard + f.hard,
+            hard: z.hard + (f.won + f.lost),
         },
     }
 }

@@ -1,10 +1,11 @@
-// The lines that a session prints. Room for any of them is 67 bytes, for the end 90; with the numbers that a session has,
+// The lines that a session prints. Room for any of them is 67 bytes, for a finished call 78, for the end 90; with the numbers that a session has,
 // the line of an action takes at most 36.
 ghost use mathlib.Core.Path.{_≡_};
 ghost use mathlib.Core.List.{[], _∷_};
 ghost use Prim.Native.Nat.{_+_, _≤_};
 ghost use lib.ListN.{length};
 ghost use Rattle.lines.specs.Answers.{answerOf, result};
+ghost use Rattle.history.specs.History.{untried};
 ghost use Rattle.cells.specs.Answers.{Ended};
 ghost use Rattle.cells.specs.Events.{kindAt, reportOf, eventOf};
 ghost use Rattle.text.specs.Append.{Appended};
@@ -123,12 +124,12 @@ fn put_done_start(out: &mut [u8], at: usize, task: u32, f: Finished) -> usize
 }
 
 pub fn put_done(out: &mut [u8], at: usize, task: u32, f: Finished) -> usize
-    requires { ⌜ at + 67 ≤ length (now out) ⌝ }
+    requires { ⌜ at + 78 ≤ length (now out) ⌝ }
     ensures { λ r. ⌜ Appended (now (out .entry)) (now (out .exit)) at r (doneLine task (reportOf (result f))) ⌝ }
-    ensures { λ r. ⌜ (Small task (eventOf 0 (Ended (result f))) → r ≤ at + 36) ⌝ }
+    ensures { λ r. ⌜ (Small task (eventOf untried (Ended (result f))) → r ≤ at + 36) ⌝ }
 {
     let a = put_done_start(out, at, task, f);
-    let b = put_numbers(out, a, &[wide(f.steps), wide(f.hard)]);
+    let b = put_numbers(out, a, &[wide(f.steps), wide(f.won), wide(f.lost)]);
     text::put(out, b, b")\n")
 }
 

@@ -23,7 +23,7 @@ Prints ((s, r) ∷ l) = (printed (bytes s) ≡ bytes r) × Prints l
 prints :
     Prints (
     -- P1
-    ("(open 2 1 5 (5))\n(swap 0 0 5 7)\n(again 10 (step 0))\n(read 1 0)\n(again 3 (step 1))\n", "(done 0 swap 0 yes 10 0)\n(done 1 read 0 7 3 0)\n(cell 0 7)\n(end 2 0 0 0)\n") ∷
+    ("(open 2 1 5 (5))\n(swap 0 0 5 7)\n(again 10 (step 0))\n(read 1 0)\n(again 3 (step 1))\n", "(done 0 swap 0 yes 10 0 0)\n(done 1 read 0 7 3 0 0)\n(cell 0 7)\n(end 2 0 0 0)\n") ∷
     -- P2
     ("(open 32 1 65 (5))\n", "(cell 0 5)\n(end 0 0 0 0)\n") ∷
     ("(open 33 1 67 (5))\n", "(no 0 1)\n") ∷
@@ -34,19 +34,19 @@ prints :
     ("(open 2 1 5 (4294967294))\n", "(cell 0 4294967294)\n(end 0 0 0 0)\n") ∷
     ("(open 2 1 5 (4294967295))\n", "(no 0 5)\n") ∷
     -- P5
-    ("(open 2 1 5 (5))\n(swap 0 0 5 5)\n(again 3 (step 0))\n", "(done 0 swap 0 yes 3 0)\n(cell 0 5)\n(end 1 0 0 0)\n") ∷
+    ("(open 2 1 5 (5))\n(swap 0 0 5 5)\n(again 3 (step 0))\n", "(done 0 swap 0 yes 3 0 0)\n(cell 0 5)\n(end 1 0 0 0)\n") ∷
     -- P6
-    ("(open 2 1 5 (5))\n(swap 0 0 4 6)\n(again 8 (step 0))\n", "(done 0 swap 0 no 8 0)\n(cell 0 5)\n(end 1 0 0 0)\n") ∷
+    ("(open 2 1 5 (5))\n(swap 0 0 4 6)\n(again 8 (step 0))\n", "(done 0 swap 0 no 8 0 0)\n(cell 0 5)\n(end 1 0 0 0)\n") ∷
     -- P7
     ("(open 2 1 5 (5))\n(step 0)\n", "(no 0 11)\n(cell 0 5)\n(end 0 0 0 0)\n") ∷
     -- P8
     ("(open 2 1 5 (5))\n(read 2 1)\n(swap 2 1 5 7)\n", "(no 0 7)\n(no 1 7)\n(cell 0 5)\n(end 0 0 0 0)\n") ∷
     -- P9
-    ("(open 2 1 5 (5))\n(swap 0 0 5 7)\n(swap 1 0 5 9)\n(again 2 (step 0))\n(again 7 (step 1))\n(again 2 (step 0))\n(again 5 (step 1))\n(again 3 (step 0))\n(swap 0 0 9 4)\n(again 13 (step 0))\n(swap 0 0 4 6)\n(again 10 (step 0))\n", "(done 1 swap 0 yes 12 1)\n(done 0 swap 0 no 7 1)\n(done 0 swap 0 yes 13 2)\n(done 0 swap 0 yes 10 0)\n(cell 0 6)\n(end 4 0 4 1000)\n") ∷
+    ("(open 2 1 5 (5))\n(swap 0 0 5 7)\n(swap 1 0 5 9)\n(again 2 (step 0))\n(again 7 (step 1))\n(again 2 (step 0))\n(again 5 (step 1))\n(again 3 (step 0))\n(swap 0 0 9 4)\n(again 13 (step 0))\n(swap 0 0 4 6)\n(again 10 (step 0))\n", "(done 1 swap 0 yes 12 1 0)\n(done 0 swap 0 no 7 0 1)\n(done 0 swap 0 yes 13 1 1)\n(done 0 swap 0 yes 10 0 0)\n(cell 0 6)\n(end 4 0 4 1000)\n") ∷
     -- P10
-    ("(open 2 1 5 (5))\n(swap 0 0 5 7)\n(swap 1 0 5 9)\n(again 2 (step 0))\n(again 7 (step 1))\n(again 5 (step 0))\n(again 14 (step 1))\n(again 6 (step 0))\n", "(done 1 swap 0 yes 21 3)\n(done 0 swap 0 no 13 2)\n(cell 0 9)\n(end 2 0 5 2500)\n") ∷
+    ("(open 2 1 5 (5))\n(swap 0 0 5 7)\n(swap 1 0 5 9)\n(again 2 (step 0))\n(again 7 (step 1))\n(again 5 (step 0))\n(again 14 (step 1))\n(again 6 (step 0))\n", "(done 1 swap 0 yes 21 1 2)\n(done 0 swap 0 no 13 1 1)\n(cell 0 9)\n(end 2 0 5 2500)\n") ∷
     -- P10 and a read: a rate that is rounded up
-    ("(open 2 1 5 (5))\n(swap 0 0 5 7)\n(swap 1 0 5 9)\n(again 2 (step 0))\n(again 7 (step 1))\n(again 5 (step 0))\n(again 14 (step 1))\n(again 6 (step 0))\n(read 0 0)\n(again 3 (step 0))\n", "(done 1 swap 0 yes 21 3)\n(done 0 swap 0 no 13 2)\n(done 0 read 0 9 3 0)\n(cell 0 9)\n(end 3 0 5 1667)\n") ∷
+    ("(open 2 1 5 (5))\n(swap 0 0 5 7)\n(swap 1 0 5 9)\n(again 2 (step 0))\n(again 7 (step 1))\n(again 5 (step 0))\n(again 14 (step 1))\n(again 6 (step 0))\n(read 0 0)\n(again 3 (step 0))\n", "(done 1 swap 0 yes 21 1 2)\n(done 0 swap 0 no 13 1 1)\n(done 0 read 0 9 3 0 0)\n(cell 0 9)\n(end 3 0 5 1667)\n") ∷
     -- a file that is none, a refused action and an unfinished call
     ("(open 2 1 5 (5))", "(bad 13)\n") ∷
     ("(open 2 1 5 (5))\n(read 1 0)\n(step 0)\n(step 1)\n", "(no 1 11)\n(cell 0 5)\n(end 0 1 0 0)\n") ∷

@@ -37,7 +37,7 @@ unfoldable pub doneStart : ℕ → Report → List ℕ
 doneStart t r = bytes "(done " ++ decimal t ++ kindWord (r .kind) ++ decimal (r .cell) ++ bytes " " ++ answerWord (r .answer)
 
 abbrev pub doneLine : ℕ → Report → List ℕ
-doneLine t r = line (doneStart t r) (r .steps ∷ r .hard ∷ [])
+doneLine t r = line (doneStart t r) (r .steps ∷ r .won ∷ r .lost ∷ [])
 
 -- the line of an event, of action i and task t, where it has one
 unfoldable pub eventLine : (i t : ℕ) → Event → List ℕ
@@ -50,8 +50,8 @@ endLine f u h = line (bytes "(end") (f ∷ u ∷ h ∷ rate h f ∷ [])
 
 -- HOW LONG THE LINE OF AN EVENT IS
 
--- the numbers of a finished call, but for a value that it answers, have at most two digits
+-- the numbers of a finished call, but for a value that it answers, have at most two digits, its attempts one
 abbrev pub Small : (task : ℕ) → Event → Type 0
 Small t (refused n) = Unit {0}
 Small t (accepted x) = Unit {0}
-Small t (answered x r) = (t < 100) × (r .cell < 100) × (r .steps < 100) × (r .hard < 100)
+Small t (answered x r) = (t < 100) × (r .cell < 100) × (r .steps < 100) × (r .won < 10) × (r .lost < 10)

@@ -31,7 +31,7 @@ totals f h = record { finished = f; hard = h }
 abbrev pub addEvent : Totals → Event → Totals
 addEvent z (refused n) = z
 addEvent z (accepted x) = z
-addEvent z (answered x r) = totals (z .finished + 1) (z .hard + r .hard)
+addEvent z (answered x r) = totals (z .finished + 1) (z .hard + (r .won + r .lost))
 
 abbrev pub addEvents : Totals → List (Action × Event) → Totals
 addEvents z [] = z

@@ -25,7 +25,7 @@ returns-4 c = rw (ne-eqb _ _ (c .before .before .before .before .before .before 
 
 returns-5 : tie.Need-returns-5
 unfolding recordFit
-returns-5 c = rw (ne-eqb _ _ (c .before .before .before .before .before .before .before .before .before .if1 .left), lt-ltb _ _ (c .before .before .before .before .before .before .before .if2 .left), sym (c .before .before .before .before .before .before .line-fit .ensures) ∙ not-false _ (c .before .before .before .before .before .if3 .left), sym (c .before .before .before .before .blocks-fit .ensures) ∙ not-false _ (c .before .before .before .if4 .left), and-true, c .before .before .values-fit .ensures)
+returns-5 c = rw (ne-eqb _ _ (c .before .before .before .before .before .before .before .before .before .if1 .left), lt-ltb _ _ (c .before .before .before .before .before .before .before .if2 .left), sym (c .before .before .before .before .before .before .line-fit .ensures) ∙ not-false _ (c .before .before .before .before .before .if3 .left), sym (c .before .before .before .before .blocks-fit .ensures) ∙ not-false _ (c .before .before .before .if4 .left), and-true, c .before .before .values-fit .ensures, c .few-attempts .ensures)
 
 pub record-fit-spec : {M : Type 1} → statement M
 record-fit-spec =
@@ -37,5 +37,6 @@ record-fit-spec =
     returns-3
     (λ c κs. search needs)
     returns-4
+    (λ c κs. search needs)
     (λ c κs. search needs)
     returns-5)

@@ -5,6 +5,11 @@ use Rattle.session_runner.proofs.play.count.Tie as tie
 
 add-t6 : tie.Need-add-t6
 add-t6 c =
+    let few = rw (c .before .before .before .outcome .given .1) at (c .before .before .before .before .before .pre .2) in
+    record { fits = omega (arith, few) }
+
+add-t7 : tie.Need-add-t7
+add-t7 c =
     let p = c .before .before .before .before .before .before .pre in
     let few = rw (c .before .before .before .before .outcome .given .1) at (p .2) in
     record { fits = omega (arith, p .1, few) }
@@ -30,6 +35,7 @@ count-spec =
     (λ c. search needs)
     (λ c. search needs)
     add-t6
+    add-t7
     returns
     returns-2
     returns-3)

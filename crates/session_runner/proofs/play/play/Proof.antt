@@ -17,6 +17,7 @@ use Rattle.session_runner.proofs.Toward.{Toward, toward-start, toward-m
 use Rattle.session_runner.proofs.Playing.{one-action, no-action}
 use Rattle.cells.specs.Open.{After}
 use Rattle.cells.specs.Events.{eventOf}
+use Rattle.history.specs.History.{untried}
 use Rattle.session_text.specs.Lines.{Small}
 use Rattle.session_runner.proofs.Outcomes.{small}
 use Rattle.session_runner.proofs.Counting.{few}
@@ -81,7 +82,7 @@ count-requires c κs =
     let h = c .before .before .before .before .before .before .before .before .before .before .before .before .before .before .before .before .before .before .loop-test .taken in
     let m = c .before .before .before .before .before .before .before .before .before .before .before .before .before .before .before .before .before .before .before .before .before .before .before .before .pre .1 .0 in
     let d = is-done (l .inv .6) x (c .before .before .before .before .before .before .before .before .before .before .before .before .before .before .slot .result) (c .before .before .before .before .before .before .before .before .before .before .before .before .slot2 .result) (c .before .before .before .before .before .before .before .before .before .before .before .before .before .before .before .task-of .result) (foundOf (c .before .before .before .before .before .before .before .before .before .before .if1 .free)) (c .before .before .before .before .before .before .before .before .before .before .before .before .before .before .before .task-of .ensures) (c .before .before .before .before .before .before .before .before .before .before .before .before .before .before .slot .ensures) (c .before .before .before .before .before .before .before .before .before .before .before .before .slot2 .ensures) (free (c .before .before .before .before .before .before .before .before .before .before)) (c .before .before .before .before .before .before .before .act .ensures) in
-    (omega (arith, l .inv .3, h, m), omega (arith, l .inv .4, h, m), subst (λ (y : After). Few (eventOf 0 (y .outcome))) (sym d) (few l.s l.pool x))
+    (omega (arith, l .inv .3, h, m), omega (arith, l .inv .4, h, m), subst (λ (y : After). Few (eventOf untried (y .outcome))) (sym d) (few l.s l.pool x))
 
 add-i : tie.Need-add-i Inv-loop μ-loop
 add-i c = record { fits = omega (arith, c .before .before .before .before .before .before .before .before .before .before .before .before .before .before .before .before .before .before .before .loop-test .taken, c .before .before .before .before .before .before .before .before .before .before .before .before .before .before .before .before .before .before .before .before .before .before .before .before .before .pre .1 .0) }
@@ -98,7 +99,7 @@ loop-again c =
     let k = c .count .ensures in
     let h : l .i < length a.kept.now = c .before .before .before .before .before .before .before .before .before .before .before .before .before .before .before .before .before .before .before .loop-test .taken in
     let d = is-done (l .inv .6) x (c .before .before .before .before .before .before .before .before .before .before .before .before .before .before .before .slot .result) (c .before .before .before .before .before .before .before .before .before .before .before .before .before .slot2 .result) (c .before .before .before .before .before .before .before .before .before .before .before .before .before .before .before .before .task-of .result) (foundOf (c .before .before .before .before .before .before .before .before .before .before .before .if1 .free)) (c .before .before .before .before .before .before .before .before .before .before .before .before .before .before .before .before .task-of .ensures) (c .before .before .before .before .before .before .before .before .before .before .before .before .before .before .before .slot .ensures) (c .before .before .before .before .before .before .before .before .before .before .before .before .before .slot2 .ensures) (free (c .before .before .before .before .before .before .before .before .before .before .before)) (c .before .before .before .before .before .before .before .before .act .ensures) in
-    (toward-more (l .inv .0) (r .0) (search needs) (one-action a.tasks a.cells (actAt a.forms.now) a.kept.now l.i (totalsOf l.z) l.s l.pool h (c .before .before .before .before .before .before .before .before .before .before .before .before .before .before .before .before .before .action-at .ensures) d (c .before .before .before .before .before .before .before .before .before .before .before .before .before .before .before .before .task-of .ensures) (k .0)), omega (arith, h), omega (arith, l .inv .2, r .1 (subst (λ (y : After). Small (c .before .before .before .before .before .before .before .before .before .before .before .before .before .before .before .before .task-of .result) (eventOf 0 (y .outcome))) (sym d) (rw (c .before .before .before .before .before .before .before .before .before .before .before .before .before .before .before .before .task-of .ensures) (small l.s l.pool x)))), omega (arith, l .inv .3, k .1 .0), omega (arith, l .inv .4, k .1 .1), search needs, reached-then (l .inv .6) x d)
+    (toward-more (l .inv .0) (r .0) (search needs) (one-action a.tasks a.cells (actAt a.forms.now) a.kept.now l.i (totalsOf l.z) l.s l.pool h (c .before .before .before .before .before .before .before .before .before .before .before .before .before .before .before .before .before .action-at .ensures) d (c .before .before .before .before .before .before .before .before .before .before .before .before .before .before .before .before .task-of .ensures) (k .0)), omega (arith, h), omega (arith, l .inv .2, r .1 (subst (λ (y : After). Small (c .before .before .before .before .before .before .before .before .before .before .before .before .before .before .before .before .task-of .result) (eventOf untried (y .outcome))) (sym d) (rw (c .before .before .before .before .before .before .before .before .before .before .before .before .before .before .before .before .task-of .ensures) (small l.s l.pool x)))), omega (arith, l .inv .3, k .1 .0), omega (arith, l .inv .4, k .1 .1), search needs, reached-then (l .inv .6) x d)
 
 finish-requires : tie.Need-finish-requires Inv-loop μ-loop
 finish-requires c κs = let l = c .before .before .before .loop in (reached-small (l .inv .6), omega (arith, l .inv .0 .same, l .inv .2, l .inv .1, c .before .before .before .before .before .before .before .before .pre .1 .0, c .before .before .before .before .before .before .before .before .pre .1 .1 .1))
