@@ -12,7 +12,7 @@ use borrow.Author.Tests.{eqb-true, eq-eqb}
 use Rattle.lines.specs.declared.Record.{Record}
 use Rattle.lines.specs.Answers.{Next}
 use Rattle.lines.specs.Basics.{within}
-use Rattle.lines.specs.Lines.{Line, l10, l15, l21, l30, lineAt, lineOf, accessAt, accessOf, counted, nextAt, readAnswer}
+use Rattle.lines.specs.Lines.{Line, l10, l15, l21, l30, lineAt, lineOf, accessAt, accessOf, attempt, counted, nextAt, readAnswer}
 use Rattle.questions.specs.Questions.{lineFit}
 use Rattle.history.specs.Basics.{upd}
 use Rattle.history.specs.History.{Op, read, swap, cellOf, Response, Value, Yes, No}
@@ -20,7 +20,7 @@ use Rattle.history.specs.Moments.{before, after, C3, C4, Rule, Spot, changes}
 use Rattle.history.proofs.Basics.{either, upd-at, upd-same, upd-off, upd-cases}
 use Rattle.history.proofs.Simulation as Sim
 use Rattle.history.proofs.Simulation.{Phase, settled, frozen, late, Ghost, unplaced, Tally, Why, Sided, Named}
-use Rattle.figure.specs.Figure.{Cell, World, withTask, recordAfter, accessCell, figure}
+use Rattle.figure.specs.Figure.{Cell, World, withTask, recordAfter, accessCell, figureAnswers, triedIn, figure}
 use Rattle.figure.specs.Moments.{Notes, nothingNoted, noted, Sight, holdsBlock, sees, names, at, effect, lineC6, rules, ruleAt, ruled, stands}
 use Rattle.history.proofs.ListTests.{both, every, by-test}
 use Rattle.figure.proofs.LineLaws.{every-line, lines, same, same-is, extends, Leads, goes, done}
@@ -228,7 +228,7 @@ module _ (w : World) (notes : Notes) (g : Ghost) (κ : Sim.Knowledge) (G : Good 
 
     -- what t's step leads to, by its line; which line it is, by its number
     abbrev next : Line → Next
-    next l = nextAt l t (counted q (accessAt l t q)) (accessCell m (accessAt l t q) .value)
+    next l = let x = accessCell m (accessAt l t q) in nextAt l t (counted q (attempt (accessAt l t q) (x .value))) (x .value)
 
     line-is : (n : ℕ) (l : Line) → T (every (λ ℓ. not (is n ℓ) || same ℓ l) lines) → T (is n ℓ) → ℓ ≡ l
     line-is n l h b = same-is ℓ l (lies-in (is n) (λ ℓ. same ℓ l) h ℓ b)
@@ -278,7 +278,7 @@ module _ (w : World) (notes : Notes) (g : Ghost) (κ : Sim.Knowledge) (G : Good 
     Was u r = (r .cell ≡ w .records u .cell) × (r .held ≡ w .records u .held) × (T (storing (lineOf (w .records u))) ⊎ (T (is 21 ℓ) × (g .phase (w .records u .cell) ≡ settled)))
 
     was-mine : T (storing (lineOf (recordAfter (nextAfter w t)))) → Was t (recordAfter (nextAfter w t))
-    was-mine = go (led (w .cells) did q o t _) (λ b e. subst (λ l. T (storing (lineOf (recordAfter (next l)))) → m .c (q .held) ≡ 0) (sym e) at-21 b)
+    was-mine = go (led (w .cells) did q o t (figureAnswers w q (accessOf t q))) (λ b e. subst (λ l. T (storing (lineOf (recordAfter (next l)))) → m .c (q .held) ≡ 0) (sym e) at-21 b)
       where
         at-21 : T (storing (lineOf (recordAfter (next l21)))) → m .c (q .held) ≡ 0
         at-21 = by-test (λ (n : Next). T (storing (lineOf (recordAfter n))) → m .c (q .held) ≡ 0) (eqb (m .c (q .held)) 0) _ _ (λ z b. eqb-true _ _ z) (λ z b. absurd b)
@@ -287,7 +287,7 @@ module _ (w : World) (notes : Notes) (g : Ghost) (κ : Sim.Knowledge) (G : Good 
         or-active true h f = inl h
         or-active false h f = inr (h, active t (lies-in (is 21) holding tt ℓ h) (f h))
 
-        go : {n : Next} → Leads ℓ (counted q (accessOf t q)) n → (T (storing (lineOf (recordAfter n))) → ℓ ≡ l21 → m .c (q .held) ≡ 0) → T (storing (lineOf (recordAfter n))) → Was t (recordAfter n)
+        go : {n : Next} → Leads ℓ (counted q (triedIn w t q)) n → (T (storing (lineOf (recordAfter n))) → ℓ ≡ l21 → m .c (q .held) ≡ 0) → T (storing (lineOf (recordAfter n))) → Was t (recordAfter n)
         go (goes {n = n} {w = v} f) c b =
             let y = before-storing ℓ (lineAt n v) busy-now b (f .0) in
             (refl, f .2 (lies-in (λ l. storing l || is 21 l) (λ l. not (same l l10 || same l l15)) tt ℓ y), or-active (storing ℓ) y (λ z. c b (line-is 21 l21 tt z)))

@@ -6,8 +6,8 @@ use Prim.Native.Nat.{ℕ}
 use lib.Dec.{T}
 use Rattle.lines.specs.declared.Record.{Record}
 use Rattle.lines.specs.declared.Field.the-variants.{D}
-use Rattle.lines.specs.declared.Access.{Access}
 use Rattle.lines.specs.Lines.{Wanted, l2, l3, lineOf, at, counted}
+use Rattle.history.specs.History.{Attempt}
 use Rattle.history.specs.Basics.{upd}
 use Rattle.history.proofs.Basics.{upd-at, upd-same, upd-off, upd-cases}
 use Rattle.history.proofs.Simulation.{Phase, settled, frozen, late}
@@ -26,7 +26,7 @@ pub record Placing (s : View) (t : ℕ) (placed : ℕ → Bool) : Type 0 where
   pub elsewhere : (u : ℕ) → T (stored (line s u)) → held s u ≢ held s t → placed u ≡ s .placed u
   pub before-store : (u : ℕ) → T (is 23 (line s u)) → held s u ≡ held s t → s .task t .loaded ≡ s .task u .expected
 
-module _ (s : View) (κ : Knowledge) (t : ℕ) (x : Wanted) (i : Inv s κ) (e : line s t ≡ l2 x) (d : s .cell .d (held s t) ≡ none) (a : Access) (n w : ℕ) where
+module _ (s : View) (κ : Knowledge) (t : ℕ) (x : Wanted) (i : Inv s κ) (e : line s t ≡ l2 x) (d : s .cell .d (held s t) ≡ none) (a : Attempt) (n w : ℕ) where
   abbrev q : Record
   q = s .task t
 

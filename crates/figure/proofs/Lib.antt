@@ -26,4 +26,5 @@ pub mod Simulation
 pub mod Reachable
 pub mod Ninth
 pub mod TracedCalls
+pub mod Attempts
 pub mod RunExamples

@@ -6,7 +6,7 @@ use Prim.Native.Nat.{ℕ, _<_}
 use native.Mathlib.Omega.{arith}
 use lib.Dec.{T}
 use Rattle.lines.specs.declared.Record.{Record}
-use Rattle.lines.specs.declared.Access.{Access}
+use Rattle.history.specs.History.{Attempt}
 use Rattle.lines.specs.Lines.{Wanted, for13, for25, for28, Line, l1, l2, l3, l4, l10, l11, l12, l15, l16, l17, l18, l19, l20, l21, l22, l23, l24, l26, l27, nowhere, at, counted}
 use Rattle.history.proofs.Simulation.{Phase, settled, frozen, late}
 use Rattle.figure.proofs.Classes.{holding, racing, won, loaded, stored, taking}
@@ -112,7 +112,7 @@ module _ (s : View) (κ : Knowledge) (i : Inv s κ) where
 
   -- THE LINES
 
-  module _ (t : ℕ) (a : Access) (n w : ℕ) where
+  module _ (t : ℕ) (a : Attempt) (n w : ℕ) where
     abbrev q : Record
     q = s .task t
 

@@ -9,7 +9,7 @@ use Rattle.lines.specs.declared.Record.{Record}
 use Rattle.lines.specs.declared.Field.the-variants.{Y, C, D}
 use Rattle.lines.specs.Answers.{Next}
 use Rattle.lines.specs.Record.{noValue}
-use Rattle.lines.specs.Lines.{for13, for25, for28, Line, l1, l2, l3, l4, l5, l6, l7, l8, l10, l11, l12, l15, l16, l17, l18, l19, l20, l21, l22, l23, l24, l26, l27, l30, nowhere, lineOf, accessAt, counted, nextAt}
+use Rattle.lines.specs.Lines.{for13, for25, for28, Line, l1, l2, l3, l4, l5, l6, l7, l8, l10, l11, l12, l15, l16, l17, l18, l19, l20, l21, l22, l23, l24, l26, l27, l30, nowhere, lineOf, accessAt, attempt, counted, nextAt}
 use Rattle.history.specs.Basics.{upd}
 use Rattle.history.proofs.Basics.{either, upd-same, upd-off, upd-cases}
 use Rattle.figure.specs.Figure.{Cell, store, install, Accessed, accessed, accessCell, recordAfter}
@@ -72,7 +72,7 @@ module _ (s : View) (κ : Knowledge) (t : ℕ) (i : Inv s κ) (k : Marks (s .cel
   closes r = upd-cases (λ z. z ≡ 0 → m .y L ≢ 0 → Marked L (upd (s .task) t r)) (m .c) (q .held) 1 L (λ z g. absurd (omega arith)) (λ z c y. other r (λ b h. z (sym h)) (k c y))
 
   abbrev Does : Line → Accessed → Type 0
-  Does ℓ x = Marks (x .cell) (upd (s .task) t (recordAfter (nextAt ℓ t (counted q (accessAt ℓ t q)) (x .value))))
+  Does ℓ x = Marks (x .cell) (upd (s .task) t (recordAfter (nextAt ℓ t (counted q (attempt (accessAt ℓ t q) (x .value))) (x .value))))
 
   abbrev Leaves : Next → Type 0
   Leaves n = Marks m (upd (s .task) t (recordAfter n))

@@ -17,11 +17,11 @@ use Rattle.lines.specs.declared.Access.the-variants.{LoadCell, Load, Store, Dec
 use Rattle.lines.specs.Answers.{Result, Next, Go, Done}
 use Rattle.lines.specs.Record.{noValue, idle}
 use Rattle.cells.specs.Pool.{offset}
-use Rattle.lines.specs.Lines.{Line, for25, for28, l1, l2, l3, l4, l5, l6, l7, l8, l30, lineOf, accessAt, accessOf, counted, nextAt, nextOf}
+use Rattle.lines.specs.Lines.{Line, for25, for28, l1, l2, l3, l4, l5, l6, l7, l8, l30, lineOf, accessAt, accessOf, attempt, counted, nextAt, nextOf}
 use Rattle.history.specs.Basics.{upd, _∈_}
-use Rattle.history.specs.History.{Op, read, swap, Action, begin, step, Response, run}
+use Rattle.history.specs.History.{Op, read, swap, Action, begin, step, untried, Response, run}
 use Rattle.history.proofs.Basics.{upd-same, upd-off, upd-cases}
-use Rattle.figure.specs.Figure.{Cell, World, withBoth, WorldAfter, store, install, accessed, Accessed, accessCell, recordAfter, outcomeOf, figureRan, opening, figure, attempts, firstOf}
+use Rattle.figure.specs.Figure.{Cell, World, withBoth, WorldAfter, store, install, accessed, Accessed, accessCell, recordAfter, outcomeOf, figureRan, opening, figure, triedIn, firstOf}
 use Rattle.cells.specs.Events.{eventOf}
 use Rattle.figure.specs.Paths.{paths, reached, by25, pathsOf, Traced, Trace, noTrace, didLine, enterLine, figureTraces}
 use Rattle.figure.proofs.Reachable.{trivial, Reachable, next-reachable, opening-reachable}
@@ -183,13 +183,13 @@ module _ (v : ℕ) (w : World) (i : Reachable v w) (r : Trace) (s : Sound w r) (
     goes-on : through25 (didLine now r t) ≡ true → Goes cells next
     goes-on h = go (one-more (r .did t) (now t) h)
       where
-        kept : (n : Next) → Keeps (counted q (accessOf t q)) n → Expected cells q → Goes cells n
+        kept : (n : Next) → Keeps (counted q (triedIn w t q)) n → Expected cells q → Goes cells n
         kept (Go p) (a, b, c) z = rw (c, a, b) z
         kept (Done f) k z = tt
 
         go : (through25 (r .did t) ≡ true) ⊎ (now t ≡ l3 for25) → Goes cells next
-        go (inl k) = kept next (keeps t _ (counted q (accessOf t q)) (now t) (its-line t k)) (stays t k)
-        go (inr e) = subst (λ ℓ. let x = accessCell m (accessAt ℓ t q) in Goes (upd (w .cell) (q .cell) (x .cell)) (nextAt ℓ t (counted q (accessAt ℓ t q)) (x .value))) (sym e)
+        go (inl k) = kept next (keeps t _ (counted q (triedIn w t q)) (now t) (its-line t k)) (stays t k)
+        go (inr e) = subst (λ ℓ. let x = accessCell m (accessAt ℓ t q) in Goes (upd (w .cell) (q .cell) (x .cell)) (nextAt ℓ t (counted q (attempt (accessAt ℓ t q) (x .value))) (x .value))) (sym e)
             (by-test (Goes (upd (w .cell) (q .cell) m)) (eqb (m .d (q .held)) (q .new)) _ _ (λ z. tt)
             (λ z. ap (λ (c : Cell). c .d (q .held)) (upd-same (w .cell) (q .cell) m) ∙ came-late e (eqb-false _ _ z)))
 
@@ -202,7 +202,7 @@ module _ (v : ℕ) (w : World) (i : Reachable v w) (r : Trace) (s : Sound w r) (
 
         go : (through25 (r .did t) ≡ true) ⊎ (now t ≡ l3 for25) → ⊥
         go (inl k) =
-            let y = subst (λ ℓ. nextAt ℓ t (counted q (accessAt ℓ t q)) (accessCell m (accessAt ℓ t q) .value) ≡ Done f) at-28 e in
+            let y = subst (λ ℓ. let x = accessCell m (accessAt ℓ t q) in nextAt ℓ t (counted q (attempt (accessAt ℓ t q) (x .value))) (x .value) ≡ Done f) at-28 e in
             let g = rw (eq-eqb _ _ (o .late t k)) at y in
             let b : _≡_ {A = ℕ} 0 1 = cc in omega arith
         go (inr k) = false≢true (sym (ap (same (l3 for25)) (sym k ∙ at-28)))
@@ -213,16 +213,16 @@ module _ (v : ℕ) (w : World) (i : Reachable v w) (r : Trace) (s : Sound w r) (
     put c p did = upd-both (λ u did p. through25 did ≡ true → Expected c p) (r .did) (w .records) t did p
 
     line-kept : (n : Next) → next ≡ n → (through25 (didLine now r t) ≡ true → Goes cells n)
-        → NotNinth (withBoth w (q .cell) (accessCell m (accessOf t q) .cell) t (recordAfter n)) (enterLine now r (step t) (eventOf (attempts w t) (outcomeOf n)))
+        → NotNinth (withBoth w (q .cell) (accessCell m (accessOf t q) .cell) t (recordAfter n)) (enterLine now r (step t) (eventOf (triedIn w t (w .records t)) (outcomeOf n)))
     line-kept (Go p) e g = record { late = put cells p (didLine now r t) g stays; done = o .done }
     line-kept (Done f) e g = record { late = put cells idle [] (λ h. absurd (false≢true h)) stays; done = with-first (λ x. x .lines ≢ by25) _ (r .done) (ends f e) (o .done) }
 
-    step-kept : {f : WorldAfter} → Stepped w t (r .did t) f → NotNinth (f .world) (enterLine now r (step t) (eventOf (attempts w t) (f .outcome)))
+    step-kept : {f : WorldAfter} → Stepped w t (r .did t) f → NotNinth (f .world) (enterLine now r (step t) (eventOf (triedIn w t (w .records t)) (f .outcome)))
     unfolding figureRan
     step-kept (Stepped.refuses n e) = o
     step-kept (runs n p) = line-kept next refl goes-on
 
-    begin-kept : (op : Op) {f : WorldAfter} → Begun w t op f → NotNinth (f .world) (enterLine now r (begin t op) (eventOf 0 (f .outcome)))
+    begin-kept : (op : Op) {f : WorldAfter} → Begun w t op f → NotNinth (f .world) (enterLine now r (begin t op) (eventOf untried (f .outcome)))
     begin-kept op (Begun.refuses n) = o
     begin-kept op (starts a) = record { late = put (w .cell) (firstOf op) [] (λ h. absurd (false≢true h)) (o .late); done = o .done }
 

@@ -10,8 +10,8 @@ use Rattle.lines.specs.Answers.{Next, Go, Done}
 use Rattle.lines.specs.Lines.{Line, for13, for25, for28, l2, l3, l30, nowhere, lineOf, accessAt, accessOf, counted, nextOf, hardware}
 use Rattle.lines.specs.Record.{firstSwap}
 use Rattle.history.specs.Basics.{_∈_}
-use Rattle.history.specs.History.{Op, Action, begin, step, No}
-use Rattle.figure.specs.Figure.{World, WorldAfter, outcomeOf, figureRan, opening, figure, accessCell, attempts}
+use Rattle.history.specs.History.{Op, Action, begin, step, untried, No}
+use Rattle.figure.specs.Figure.{World, WorldAfter, outcomeOf, figureRan, opening, figure, accessCell, triedIn}
 use Rattle.cells.specs.Events.{eventOf}
 use Rattle.lines.specs.Paths.{table}
 use Rattle.figure.specs.Paths.{paths, by25, counts, countsOf, Traced, Trace, noTrace, enterLine, figureTraces}
@@ -32,19 +32,19 @@ module _ (w : World) (r : Trace) (s : Sound w r) (h : AllComplete r) where
   now t = lineOf (w .records t)
 
   -- the line that ends a call completes it
-  line-complete : (t : ℕ) (m : t < w .tasks) (o : Pending (w .cells) (r .did t) (w .records t)) {n : Next} → Leads (now t) (counted (w .records t) (accessOf t (w .records t))) n →
-      Then (w .cells) (r .did t) (w .records t) o n → AllComplete (enterLine now r (step t) (eventOf (attempts w t) (outcomeOf n)))
+  line-complete : (t : ℕ) (m : t < w .tasks) (o : Pending (w .cells) (r .did t) (w .records t)) {n : Next} → Leads (now t) (counted (w .records t) (triedIn w t (w .records t))) n →
+      Then (w .cells) (r .did t) (w .records t) o n → AllComplete (enterLine now r (step t) (eventOf (triedIn w t (w .records t)) (outcomeOf n)))
   line-complete t m o (goes f) k = h
   line-complete t m o (done f) k = with-first CompleteCall _ (r .done) (rw (its-op w r s t m o) k) h
 
-  step-complete : (t : ℕ) {f : WorldAfter} → Stepped w t (r .did t) f → AllComplete (enterLine now r (step t) (eventOf (attempts w t) (f .outcome)))
+  step-complete : (t : ℕ) {f : WorldAfter} → Stepped w t (r .did t) f → AllComplete (enterLine now r (step t) (eventOf (triedIn w t (w .records t)) (f .outcome)))
   unfolding figureRan
   step-complete t (Stepped.refuses n i) = h
   step-complete t (runs m o) =
       let c = accessCell (w .cell (w .records t .cell)) (accessOf t (w .records t)) in
       line-complete t m o (led (w .cells) (r .did t) (w .records t) o t (c .value)) (one-line (w .cells) (r .did t) (w .records t) o t (c .value))
 
-  begin-complete : (t : ℕ) (op : Op) {f : WorldAfter} → Begun w t op f → AllComplete (enterLine now r (begin t op) (eventOf 0 (f .outcome)))
+  begin-complete : (t : ℕ) (op : Op) {f : WorldAfter} → Begun w t op f → AllComplete (enterLine now r (begin t op) (eventOf untried (f .outcome)))
   begin-complete t op (Begun.refuses n) = h
   begin-complete t op (starts a) = h
 
@@ -89,7 +89,7 @@ visits t (x ∷ l) (Go q) = let r = visits t l (nextOf t q x) in (lineOf q ∷ r
 
 -- "no from 28 by 25" is a path of the lines, for some answers of memory
 pub ninth-is-a-path : visits 0 (0 ∷ 0 ∷ 0 ∷ 0 ∷ 0 ∷ 5 ∷ 0 ∷ 0 ∷ 1 ∷ 6 ∷ 0 ∷ 6 ∷ 6 ∷ 0 ∷ 6 ∷ []) (Go (firstSwap 0 5 7))
-    ≡ (by25, Done (record { kind = 2; cell = 0; answer = No; steps = 15; hard = 2 }))
+    ≡ (by25, Done (record { kind = 2; cell = 0; answer = No; steps = 15; won = 0; lost = 2 }))
 ninth-is-a-path = refl
 
 abbrev ending : Line → List Line → Line

@@ -15,9 +15,11 @@ use Rattle.lines.specs.declared.Access.the-variants.{LoadCell, Load, Store, Dec
 use Rattle.lines.specs.Answers.{Next, Go, Done}
 use Rattle.lines.specs.Basics.{within}
 use Rattle.lines.specs.Record.{noValue}
-use Rattle.lines.specs.Lines.{Line, l1, l2, l3, l4, l5, l6, l7, l8, l10, l11, l12, l15, l16, l17, l18, l19, l20, l21, l22, l23, l24, l26, l27, l30, nowhere, lineOf, accessAt, counted, nextAt, hardware}
+use Rattle.lines.specs.Lines.{Line, l1, l2, l3, l4, l5, l6, l7, l8, l10, l11, l12, l15, l16, l17, l18, l19, l20, l21, l22, l23, l24, l26, l27, l30, nowhere, lineOf, accessAt, counted, nextAt, hardware, attempt}
+use Rattle.lines.proofs.Attempts.{none-tried}
 use Rattle.questions.proofs.Numbers.{number}
 use Rattle.history.specs.Basics.{upd}
+use Rattle.history.specs.History.{untried}
 use Rattle.history.proofs.Basics.{upd-at, upd-same, upd-off, upd-cases}
 use Rattle.figure.specs.Figure.{Cell, store, Accessed, accessed, accessCell}
 use Rattle.history.proofs.ListTests.{by-test}
@@ -33,7 +35,6 @@ signed ℓ = within (number ℓ) 17 19
 -- task t meets no contention on its cell, of which m is the memory and f the records
 pub record Quiet (m : Cell) (f : ℕ → Record) (t : ℕ) : Type 0 where
   pub active : m .c (m .current) ≡ 0
-  pub no-hard : f t .hard ≡ 0
   pub line : T (uncontended (lineOf (f t)))
   pub here : T (holding (lineOf (f t))) → f t .held ≡ m .current
   pub clear : T (entering (lineOf (f t))) → m .y (m .current) ≡ 0
@@ -50,11 +51,10 @@ module _ (m : Cell) (f : ℕ → Record) (t : ℕ) (z : Quiet m f t) where
   L = m .current
 
   -- at the next line, with memory m′
-  quiet-at : (m′ : Cell) (ℓ : Line) (r : Record) → lineOf r ≡ ℓ → T (uncontended ℓ) → r .hard ≡ 0 → m′ .c (m′ .current) ≡ 0 → (T (holding ℓ) → r .held ≡ m′ .current)
+  quiet-at : (m′ : Cell) (ℓ : Line) (r : Record) → lineOf r ≡ ℓ → T (uncontended ℓ) → m′ .c (m′ .current) ≡ 0 → (T (holding ℓ) → r .held ≡ m′ .current)
       → (T (entering ℓ) → m′ .y (m′ .current) ≡ 0) → (T (signed ℓ) → m′ .x (m′ .current) ≡ t) → Quiet m′ (upd f t r) t
-  quiet-at m′ ℓ r e b n c h y x = record {
+  quiet-at m′ ℓ r e b c h y x = record {
     active = c;
-    no-hard = rw upd-same n;
     line = rw (upd-same f t r, e) b;
     here = rw (upd-same f t r, e) h;
     clear = rw (upd-same f t r, e) y;
@@ -77,41 +77,38 @@ module _ (m : Cell) (f : ℕ → Record) (t : ℕ) (z : Quiet m f t) where
     active-at b = ap (m .c) (here-at b) ∙ z .active
 
     -- to a line that only looked
-    onward : (ℓ′ : Line) (r : Record) → lineOf r ≡ ℓ′ → T (uncontended ℓ′) → r .hard ≡ q .hard + 0 → r .held ≡ L → (T (entering ℓ′) → m .y L ≡ 0) → (T (signed ℓ′) → m .x L ≡ t) → Quiet m (upd f t r) t
-    onward ℓ′ r e′ b n h y x = quiet-at m ℓ′ r e′ b (omega (arith, z .no-hard)) (z .active) (λ c. h) y x
+    onward : (ℓ′ : Line) (r : Record) → lineOf r ≡ ℓ′ → T (uncontended ℓ′) → r .held ≡ L → (T (entering ℓ′) → m .y L ≡ 0) → (T (signed ℓ′) → m .x L ≡ t) → Quiet m (upd f t r) t
+    onward ℓ′ r e′ b h y x = quiet-at m ℓ′ r e′ b (z .active) (λ c. h) y x
 
   abbrev Goes : Cell → Next → Type 0
   Goes m′ (Go r) = Quiet m′ (upd f t r) t
   Goes m′ (Done x) = Unit {0}
 
   abbrev Does : Line → Accessed → Type 0
-  Does ℓ x = Goes (x .cell) (nextAt ℓ t (counted q (accessAt ℓ t q)) (x .value))
-
-  unhard : q .hard + 0 ≡ 0
-  unhard = omega (arith, z .no-hard)
+  Does ℓ x = Goes (x .cell) (nextAt ℓ t (counted q (attempt (accessAt ℓ t q) (x .value))) (x .value))
 
   pub quiet-step : (ℓ : Line) → lineOf q ≡ ℓ → T (uncontended ℓ) → Does ℓ (accessCell m (accessAt ℓ t q))
-  quiet-step l10 e b = onward l10 e l11 _ refl tt refl refl (λ x. absurd x) (λ x. absurd x)
-  quiet-step l11 e b = onward l11 e l12 _ refl tt refl (here-at l11 e tt) (λ x. absurd x) (λ x. absurd x)
+  quiet-step l10 e b = onward l10 e l11 _ refl tt refl (λ x. absurd x) (λ x. absurd x)
+  quiet-step l11 e b = onward l11 e l12 _ refl tt (here-at l11 e tt) (λ x. absurd x) (λ x. absurd x)
   quiet-step l12 e b = by-test (Goes m) (eqb (m .c (q .held)) 0) _ _ (λ x. tt) (λ x. absurd (eqb-false _ _ x (active-at l12 e tt)))
-  quiet-step l15 e b = onward l15 e l16 _ refl tt refl refl (λ x. clear-at l15 e tt) (λ x. absurd x)
-  quiet-step l16 e b = quiet-at (store m (q .held) X t) l17 _ refl tt unhard (z .active) (λ x. here-at l16 e tt) (λ x. clear-at l16 e tt) (λ x. upd-at (m .x) (q .held) t L (sym (here-at l16 e tt)))
+  quiet-step l15 e b = onward l15 e l16 _ refl tt refl (λ x. clear-at l15 e tt) (λ x. absurd x)
+  quiet-step l16 e b = quiet-at (store m (q .held) X t) l17 _ refl tt (z .active) (λ x. here-at l16 e tt) (λ x. clear-at l16 e tt) (λ x. upd-at (m .x) (q .held) t L (sym (here-at l16 e tt)))
   quiet-step l17 e b =
-      by-test (Goes m) (eqb (m .y (q .held)) 0) _ _ (λ x. onward l17 e l18 _ refl tt refl (here-at l17 e tt) (λ x. clear-at l17 e tt) (λ x. mine-at l17 e tt))
+      by-test (Goes m) (eqb (m .y (q .held)) 0) _ _ (λ x. onward l17 e l18 _ refl tt (here-at l17 e tt) (λ x. clear-at l17 e tt) (λ x. mine-at l17 e tt))
       (λ x. absurd (eqb-false _ _ x (ap (m .y) (here-at l17 e tt) ∙ clear-at l17 e tt)))
-  quiet-step l18 e b = quiet-at (store m (q .held) Y 1) l19 _ refl tt unhard (z .active) (λ x. here-at l18 e tt) (λ x. absurd x) (λ x. mine-at l18 e tt)
+  quiet-step l18 e b = quiet-at (store m (q .held) Y 1) l19 _ refl tt (z .active) (λ x. here-at l18 e tt) (λ x. absurd x) (λ x. mine-at l18 e tt)
   quiet-step l19 e b =
-      by-test (Goes m) (eqb (m .x (q .held)) t) _ _ (λ x. onward l19 e l20 _ refl tt refl (here-at l19 e tt) (λ x. absurd x) (λ x. absurd x))
+      by-test (Goes m) (eqb (m .x (q .held)) t) _ _ (λ x. onward l19 e l20 _ refl tt (here-at l19 e tt) (λ x. absurd x) (λ x. absurd x))
       (λ x. absurd (eqb-false _ _ x (ap (m .x) (here-at l19 e tt) ∙ mine-at l19 e tt)))
-  quiet-step l20 e b = onward l20 e l21 _ refl tt refl (here-at l20 e tt) (λ x. absurd x) (λ x. absurd x)
+  quiet-step l20 e b = onward l20 e l21 _ refl tt (here-at l20 e tt) (λ x. absurd x) (λ x. absurd x)
   quiet-step l21 e b =
       by-test (Goes m) (eqb (m .c (q .held)) 0) _ _
-      (λ x. by-test (Goes m) (eqb (q .loaded) (q .expected)) _ _ (λ x. onward l21 e l23 _ refl tt refl (here-at l21 e tt) (λ x. absurd x) (λ x. absurd x)) (λ x. onward l21 e l22 _ refl tt refl (here-at l21 e tt) (λ x. absurd x) (λ x. absurd x)))
+      (λ x. by-test (Goes m) (eqb (q .loaded) (q .expected)) _ _ (λ x. onward l21 e l23 _ refl tt (here-at l21 e tt) (λ x. absurd x) (λ x. absurd x)) (λ x. onward l21 e l22 _ refl tt (here-at l21 e tt) (λ x. absurd x) (λ x. absurd x)))
       (λ x. absurd (eqb-false _ _ x (active-at l21 e tt)))
   quiet-step l22 e b = tt
-  quiet-step l23 e b = quiet-at (store m (q .held) Field.V (q .new)) l24 _ refl tt unhard (z .active) (λ x. here-at l23 e tt) (λ x. absurd x) (λ x. absurd x)
+  quiet-step l23 e b = quiet-at (store m (q .held) Field.V (q .new)) l24 _ refl tt (z .active) (λ x. here-at l23 e tt) (λ x. absurd x) (λ x. absurd x)
   quiet-step l24 e b =
-      by-test (Goes m) (eqb (m .c (q .held)) 0) _ _ (λ x. onward l24 e l26 _ refl tt refl (here-at l24 e tt) (λ x. absurd x) (λ x. absurd x))
+      by-test (Goes m) (eqb (m .c (q .held)) 0) _ _ (λ x. onward l24 e l26 _ refl tt (here-at l24 e tt) (λ x. absurd x) (λ x. absurd x))
       (λ x. absurd (eqb-false _ _ x (active-at l24 e tt)))
   quiet-step l26 e b = tt
   quiet-step (l1 x) e b = absurd b
@@ -126,8 +123,8 @@ module _ (m : Cell) (f : ℕ → Record) (t : ℕ) (z : Quiet m f t) where
   quiet-step l30 e b = absurd b
   quiet-step nowhere e b = absurd b
 
-  pub untried : hardware (accessAt (lineOf q) t q) ≡ 0
-  untried = eqb→eq _ _ (lies-in uncontended (λ l. eqb (hardware (accessAt l t q)) 0) tt (lineOf q) (z .line))
+  pub no-attempt : (v : ℕ) → attempt (accessAt (lineOf q) t q) v ≡ untried
+  no-attempt v = none-tried (accessAt (lineOf q) t q) v (eqb→eq _ _ (lies-in uncontended (λ l. eqb (hardware (accessAt l t q)) 0) tt (lineOf q) (z .line)))
 
 -- THE STEPS OF OTHERS
 
@@ -160,7 +157,6 @@ others m m′ f t u r w z ne n =
     let e = upd-off f u r t ne in
     record {
       active = at (w .1) (w .0) ∙ z .active;
-      no-hard = rw e (z .no-hard);
       line = rw e (z .line);
       here = rw e (λ b. z .here b ∙ sym (w .0));
       clear = rw e (λ b. at (w .2) (w .0) ∙ z .clear b);

@@ -12,13 +12,13 @@ use borrow.Author.Tests.{eqb-false}
 use Rattle.lines.specs.declared.Record.{Record}
 use Rattle.lines.specs.Answers.{Next, Go, Done}
 use Rattle.lines.specs.Record.{idle}
-use Rattle.lines.specs.Lines.{Line, l10, l15, lineAt, lineOf, accessOf, accessAt, nextOf, counted, hardware}
+use Rattle.lines.specs.Lines.{Line, l10, l15, lineAt, lineOf, accessOf, accessAt, nextOf, counted, attempt}
 use Rattle.history.specs.Basics.{upd}
-use Rattle.history.specs.History.{Op, read, swap, cellOf}
+use Rattle.history.specs.History.{Op, read, swap, cellOf, untried}
 use Rattle.history.specs.Demand3.{Unequal}
 use Rattle.history.proofs.Basics.{either, upd-at, upd-same, upd-off}
 use Rattle.history.proofs.Simulation.{Ghost, Tally, QuietStarts, QuietSteps, Free}
-use Rattle.figure.specs.Figure.{Cell, World, withTask, recordAfter, accessCell, clear, attempts, firstOf}
+use Rattle.figure.specs.Figure.{Cell, World, withTask, recordAfter, accessCell, clear, figureAnswers, triedIn, firstOf}
 use Rattle.figure.proofs.LineLaws.{Leads, goes, done}
 use Rattle.figure.proofs.Records.{Pending, OnPath, AllOnPath, Accepted, led}
 use Rattle.figure.proofs.AsBegun.{opOf, cell-of}
@@ -30,7 +30,7 @@ use Rattle.figure.proofs.Operations.{busy-line, busy-doing, is-unequal}
 use Rattle.figure.proofs.Worlds.{Good, cellAfter, nextAfter, stepAfter, pending-at}
 use Rattle.figure.proofs.Begins.{was-idle, idle-to, its-cell}
 use Rattle.figure.proofs.Marks.{Marks, marks-kept}
-use Rattle.figure.proofs.Quiet.{signed, Quiet, quiet-step, untried, others-step, others-begin}
+use Rattle.figure.proofs.Quiet.{signed, Quiet, quiet-step, no-attempt, others-step, others-begin}
 
 -- a task is quiet on its own cell
 abbrev pub QuietIn : World → ℕ → Type 0
@@ -70,9 +70,9 @@ module _ (w : World) (g : Ghost) (κ : Knowledge) (G : Good w g κ) (marks : (k 
 
   -- the next record is on the same cell and of the same kind, or idle
   pub stays : ((recordAfter n .cell ≡ k) ⊎ (recordAfter n ≡ idle)) × (T (swapping (lineOf (recordAfter n))) → T (swapping (lineOf q)))
-  stays = go (led (w .cells) did q o t _)
+  stays = go (led (w .cells) did q o t (figureAnswers w q (accessOf t q)))
     where
-      go : {x : Next} → Leads (lineOf q) (counted q (accessOf t q)) x → ((recordAfter x .cell ≡ k) ⊎ (recordAfter x ≡ idle)) × (T (swapping (lineOf (recordAfter x))) → T (swapping (lineOf q)))
+      go : {x : Next} → Leads (lineOf q) (counted q (triedIn w t q)) x → ((recordAfter x .cell ≡ k) ⊎ (recordAfter x ≡ idle)) × (T (swapping (lineOf (recordAfter x))) → T (swapping (lineOf q)))
       go (goes f) = (inl refl, λ b. subst T (sym (f .1 false true)) b)
       go (done f) = (inr refl, λ b. absurd b)
 
@@ -123,9 +123,9 @@ module _ (w : World) (g : Ghost) (κ : Knowledge) (G : Good w g κ) (marks : (k 
           (others-step (w .cell k) (on (w .records) k) u t (recordAfter n) y ne (λ b. no-swap (rw here (stays .1 b))) no-swap)))
       go (inr e) = rw (upd-off (w .cell) k m j e, on-others (w .records) t (recordAfter n) j e (stays .0)) z
 
-  pub step-quietly : QuietSteps doing clear QuietIn w w′ t (attempts w t)
+  pub step-quietly : QuietSteps doing clear QuietIn w w′ t (triedIn w t (w .records t))
   step-quietly = record {
-    untried = λ z. subst (λ (p : Record). hardware (accessAt (lineOf p) t p) ≡ 0) here (untried (w .cell k) (on (w .records) k) t z);
+    no-attempt = λ z. subst (λ (p : Record). attempt (accessAt (lineOf p) t p) (accessCell (w .cell k) (accessOf t p) .value) ≡ untried) here (no-attempt (w .cell k) (on (w .records) k) t z _);
     kept = λ u a d z. go u a d z (either u t);
   }
     where
@@ -200,11 +200,10 @@ module _ (w : World) (g : Ghost) (κ : Knowledge) (G : Good w g κ) (marks : (k 
           lonely p u ne = rw (upd-off f t (firstOf p) u ne) (nobody u)
 
           -- at line 10 or 15 nothing is held yet
-          at-first : (p : Op) (ℓ : Line) → lineOf (firstOf p) ≡ ℓ → T (uncontended ℓ) → (T (holding ℓ) → ⊥) → (T (signed ℓ) → ⊥) → firstOf p .hard ≡ 0 → Quiet (w .cell (cellOf op)) (upd f t (firstOf p)) t
-          at-first p ℓ e b n x h = record {
+          at-first : (p : Op) (ℓ : Line) → lineOf (firstOf p) ≡ ℓ → T (uncontended ℓ) → (T (holding ℓ) → ⊥) → (T (signed ℓ) → ⊥) → Quiet (w .cell (cellOf op)) (upd f t (firstOf p)) t
+          at-first p ℓ e b n x = record {
             active = c;
             lonely = lonely p;
-            no-hard = rw (upd-same f t (firstOf p)) h;
             line = rw (upd-same f t (firstOf p), e) b;
             here = rw (upd-same f t (firstOf p), e) (λ z. absurd (n z));
             clear = λ z. clear;
@@ -212,12 +211,12 @@ module _ (w : World) (g : Ghost) (κ : Knowledge) (G : Good w g κ) (marks : (k 
           }
 
           first-quiet : (p : Op) → Quiet (w .cell (cellOf op)) (upd f t (firstOf p)) t
-          first-quiet (read k) = at-first (read k) l10 refl tt (λ z. z) (λ z. z) refl
+          first-quiet (read k) = at-first (read k) l10 refl tt (λ z. z) (λ z. z)
           first-quiet (swap k e n) = go (eqb e n) refl
             where
               go : (x : Bool) → eqb e n ≡ x → Quiet (w .cell (cellOf op)) (upd f t (firstOf (swap k e n))) t
-              go true z = at-first (swap k e n) l10 (rw z) tt (λ z. z) (λ z. z) refl
-              go false z = at-first (swap k e n) l15 (rw z) tt (λ z. z) (λ z. z) refl
+              go true z = at-first (swap k e n) l10 (rw z) tt (λ z. z) (λ z. z)
+              go false z = at-first (swap k e n) l15 (rw z) tt (λ z. z) (λ z. z)
 
       others : (u : ℕ) (n : Tally) → doing w u ≡ some n → (Unequal op → cellOf op ≢ cellOf (n .op)) → QuietIn w u → QuietIn v′ u
       others u n d apart z = rw (upd-off (w .records) t (firstOf op) u ne) (go (either (w .records u .cell) (cellOf op)))

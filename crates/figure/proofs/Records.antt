@@ -12,12 +12,13 @@ use Rattle.lines.specs.declared.Record.{Record}
 use Rattle.cells.specs.Answers.{Refused, Acted}
 use Rattle.lines.specs.Answers.{Next, Go, Done}
 use Rattle.lines.specs.Record.{idle, isIdle}
-use Rattle.lines.specs.Lines.{Line, lineAt, lineOf, accessAt, accessOf, counted, nextOf, hardware}
+use Rattle.lines.specs.Lines.{Line, lineAt, lineOf, accessAt, accessOf, attempt, counted, nextOf, hardware}
+use Rattle.lines.proofs.Attempts.{tries}
 use Rattle.questions.specs.Questions.{Question, refusal, ofKind, reads, swaps, lineFit, valuesFit, beginQuestions, swapQuestions, stepQuestions}
 use Rattle.history.specs.Basics.{upd, _∈_}
-use Rattle.history.specs.History.{Op, read, swap, cellOf, Action, begin, step, Report, run}
+use Rattle.history.specs.History.{Op, read, swap, cellOf, Action, begin, step, Report, untried, wins, losses, run}
 use Rattle.history.proofs.Basics.{either, upd-at, upd-off, upd-cases}
-use Rattle.figure.specs.Figure.{Cell, World, withTask, withBoth, WorldAfter, worldAfter, unlessRefused, recordAfter, outcomeOf, figureRan, figureStepped, figureBegun, opening, figure, accessCell, attempts, firstOf}
+use Rattle.figure.specs.Figure.{Cell, World, withTask, withBoth, WorldAfter, worldAfter, unlessRefused, recordAfter, outcomeOf, figureRan, figureStepped, figureBegun, opening, figure, accessCell, triedIn, firstOf}
 use Rattle.cells.specs.Events.{reportOf, eventOf}
 use Rattle.figure.specs.Paths.{count, Trace, didLine, enterLine}
 use Rattle.figure.specs.Paths as Paths
@@ -33,14 +34,14 @@ pub record Pending (v : ℕ) (did : List Line) (q : Record) : Type 0 where
   pub line : lineFit q ≡ true
   pub values : valuesFit q ≡ true
   pub steps : q .steps ≡ Paths.steps did
-  pub hard : q .hard ≡ count hardware did
+  pub hard : q .won + q .lost ≡ count hardware did
   pub lines : did ∈ before (lineOf q)
 
 -- a finished call of this operation, with these lines and this report
 pub record Complete (op : Op) (lines : List Line) (r : Report) : Type 0 where
   pub path : lines ∈ waysOf op (r .answer)
   pub all-steps : r .steps ≡ Paths.steps lines
-  pub all-hard : r .hard ≡ count hardware lines
+  pub all-hard : r .won + r .lost ≡ count hardware lines
 
 pub steps-on : (d : List Line) (l : Line) → Paths.steps (d ++ (l ∷ [])) ≡ Paths.steps d + 1
 steps-on [] l = refl
@@ -61,8 +62,8 @@ abbrev few : ℕ → ℕ → List Line → Bool
 few n x d = ltb (Paths.steps d) n && leb (count hardware d) x
 
 module _ (v : ℕ) (did : List Line) (q : Record) (o : Pending v did q) where
-  pub led : (t x : ℕ) → Leads (lineOf q) (counted q (accessOf t q)) (nextOf t q x)
-  led t x = leads (lineOf q) t (counted q (accessOf t q)) x refl (o .line)
+  pub led : (t x : ℕ) → Leads (lineOf q) (counted q (attempt (accessOf t q) x)) (nextOf t q x)
+  led t x = leads (lineOf q) t (counted q (attempt (accessOf t q) x)) x refl (o .line)
 
   -- what its next line makes of it
   abbrev pub Then : Next → Type 0
@@ -75,10 +76,10 @@ module _ (v : ℕ) (did : List Line) (q : Record) (o : Pending v did q) where
       steps : q .steps + 1 ≡ Paths.steps (did ++ (lineOf q ∷ []))
       steps = omega (arith, steps-on did (lineOf q), o .steps)
 
-      hard : q .hard + hardware (accessOf t q) ≡ count hardware (did ++ (lineOf q ∷ []))
-      hard = omega (arith, hardware-on did (lineOf q), hardware-alike (lineOf q) t q, o .hard)
+      hard : (q .won + wins (attempt (accessOf t q) x)) + (q .lost + losses (attempt (accessOf t q) x)) ≡ count hardware (did ++ (lineOf q ∷ []))
+      hard = omega (arith, hardware-on did (lineOf q), hardware-alike (lineOf q) t q, tries (accessOf t q) x, o .hard)
 
-      go : {n : Next} → Leads (lineOf q) (counted q (accessOf t q)) n → Then n
+      go : {n : Next} → Leads (lineOf q) (counted q (attempt (accessOf t q) x)) n → Then n
       go (goes {n = n} {w = w} h) = record {
         cell = o .cell;
         line = sym (h .1 (reads q) (swaps q)) ∙ o .line;
@@ -90,7 +91,7 @@ module _ (v : ℕ) (did : List Line) (q : Record) (o : Pending v did q) where
       go (done {a} h) = record { path = extends-in (lineOf q) (waysOf (opOf q) a) h did (o .lines); all-steps = steps; all-hard = hard }
 
   -- bounds, found by computing over all that may stand before a line that passes the test
-  bounded : (n x : ℕ) (test : Line → Bool) → T (every (λ l. every (few n x) (before l) || not (test l)) lines) → test (lineOf q) ≡ true → (q .steps < n) × (q .hard ≤ x)
+  bounded : (n x : ℕ) (test : Line → Bool) → T (every (λ l. every (few n x) (before l) || not (test l)) lines) → test (lineOf q) ≡ true → (q .steps < n) × (q .won + q .lost ≤ x)
   bounded n x test h e =
       let all = imp (test (lineOf q)) (every (few n x) (before (lineOf q))) (every-line (λ l. every (few n x) (before l) || not (test l)) h (lineOf q)) e in
       let k = both (ltb (Paths.steps did) n) _ (every-in (few n x) (before (lineOf q)) all did (o .lines)) in
@@ -98,10 +99,10 @@ module _ (v : ℕ) (did : List Line) (q : Record) (o : Pending v did q) where
       let m = leb→le (count hardware did) x (k .1) in
       (omega (arith, o .steps), omega (arith, o .hard))
 
-  pub pending-bounds : (q .steps < 21) × (q .hard ≤ 3)
+  pub pending-bounds : (q .steps < 21) × (q .won + q .lost ≤ 3)
   pending-bounds = bounded 21 3 (λ l. true) tt refl
 
-  pub read-bounds : q .kind ≡ 1 → (q .steps < 6) × (q .hard ≤ 1)
+  pub read-bounds : q .kind ≡ 1 → (q .steps < 6) × (q .won + q .lost ≤ 1)
   read-bounds e = bounded 6 1 (λ l. ofKind l true false) tt (reading q e (o .line))
 
 -- THE FIGURE'S ACTIONS
@@ -218,7 +219,7 @@ module _ (w : World) (r : Trace) (s : Sound w r) where
   put-begun : (t : ℕ) (q : Record) → Begins (r .op t) q → (u : ℕ) → Begins (r .op u) (upd (w .records) t q u)
   put-begun t q b u = upd-cases (Begins (r .op u)) (w .records) t q u (λ e. rw e b) (λ e. s .begun u)
 
-  begin-sound : (t : ℕ) (op : Op) {f : WorldAfter} → Begun w t op f → Sound (f .world) (enterLine now r (begin t op) (eventOf 0 (f .outcome)))
+  begin-sound : (t : ℕ) (op : Op) {f : WorldAfter} → Begun w t op f → Sound (f .world) (enterLine now r (begin t op) (eventOf untried (f .outcome)))
   begin-sound t op (refuses n) = s
   begin-sound t op (starts a) = record {
     pending = put t (firstOf op) [] (inr (a .task, first-on-path w t op a));
@@ -240,12 +241,12 @@ module _ (w : World) (r : Trace) (s : Sound w r) where
         go (inl i) = absurd (false≢true (sym (not-idle q (o .line)) ∙ ap isIdle i))
         go (inr i) = i
 
-    line-sound : (c : Cell) {n : Next} → Leads (lineOf q) (counted q (accessOf t q)) n → Then (w .cells) (r .did t) q o n
-        → Sound (withBoth w (q .cell) c t (recordAfter n)) (enterLine now r (step t) (eventOf (attempts w t) (outcomeOf n)))
+    line-sound : (c : Cell) {n : Next} → Leads (lineOf q) (counted q (triedIn w t q)) n → Then (w .cells) (r .did t) q o n
+        → Sound (withBoth w (q .cell) c t (recordAfter n)) (enterLine now r (step t) (eventOf (triedIn w t (w .records t)) (outcomeOf n)))
     line-sound c (goes f) k = record { pending = put t _ (didLine now r t) (inr (m, k)); begun = put-begun t _ (inr its-op) }
     line-sound c (done f) k = record { pending = put t idle [] (inl (refl, refl)); begun = put-begun t idle (inl refl) }
 
-  step-sound : (t : ℕ) {f : WorldAfter} → Stepped w t (r .did t) f → Sound (f .world) (enterLine now r (step t) (eventOf (attempts w t) (f .outcome)))
+  step-sound : (t : ℕ) {f : WorldAfter} → Stepped w t (r .did t) f → Sound (f .world) (enterLine now r (step t) (eventOf (triedIn w t (w .records t)) (f .outcome)))
   unfolding figureRan
   step-sound t (refuses n i) = s
   step-sound t (runs m o) =
@@ -294,7 +295,7 @@ pub record Busy (v : ℕ) (q : Record) : Type 0 where
   pub line : lineFit q ≡ true
   pub values : valuesFit q ≡ true
   pub steps : q .steps ≤ 20
-  pub hard : q .hard ≤ 3
+  pub hard : q .won + q .lost ≤ 3
 
 abbrev pub WellRecord : ℕ → Record → Type 0
 WellRecord v q = (q ≡ idle) ⊎ Busy v q

@@ -9,8 +9,8 @@ use lib.Dec.{T}
 use Rattle.lines.specs.declared.Record.{Record}
 use Rattle.lines.specs.declared.Field.{Field}
 use Rattle.lines.specs.declared.Field.the-variants.{X, Y, C, D}
-use Rattle.lines.specs.declared.Access.{Access}
 use Rattle.lines.specs.Lines.{Line, l4, l5, l6, l7, l8, l10, l15, l30, nowhere, lineOf, at, counted}
+use Rattle.history.specs.History.{Attempt}
 use Rattle.history.specs.Basics.{upd, _∈_}
 use Rattle.history.proofs.Basics.{either, upd-same, upd-off}
 use Rattle.history.proofs.Simulation.{Phase, settled, late}
@@ -149,7 +149,7 @@ module _ (s : View) (κ : Knowledge) (t : ℕ) (i : Inv s κ) (m′ : Cell) (b :
 
 -- LINE 4 takes it
 
-module _ (s : View) (κ : Knowledge) (t : ℕ) (i : Inv s κ) (e : line s t ≡ l4) (a : Access) (n w : ℕ) where
+module _ (s : View) (κ : Knowledge) (t : ℕ) (i : Inv s κ) (e : line s t ≡ l4) (a : Attempt) (n w : ℕ) where
   abbrev pub p : Record
   p = s .task t
 
@@ -237,7 +237,7 @@ module _ (s : View) (κ : Knowledge) (t : ℕ) (i : Inv s κ) (took : T (taking 
     unheld = let z = same-unheld s κ t ℓ ℓ′ r (λ y. k) (λ y. g) o in rw (h, b) record { mine = z .mine; theirs = z .theirs; own = z .own };
   }
 
-module _ (s : View) (κ : Knowledge) (t : ℕ) (i : Inv s κ) (a : Access) (n w : ℕ) where
+module _ (s : View) (κ : Knowledge) (t : ℕ) (i : Inv s κ) (a : Attempt) (n w : ℕ) where
   abbrev pub q₀ : Record
   q₀ = s .task t
 

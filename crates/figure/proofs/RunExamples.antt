@@ -3,7 +3,7 @@ use mathlib.Core.Path.{_≡_, refl}
 use mathlib.Core.List.{List, [], _∷_, _++_}
 use Prim.Native.Nat.{ℕ}
 use Rattle.history.specs.Basics.{upd}
-use Rattle.history.specs.History.{Op, swap, aSwap, Action, begin, Response, Yes, No, Event, refused, accepted, answered, history}
+use Rattle.history.specs.History.{Op, swap, aSwap, Action, begin, Response, Yes, No, Attempt, success, failure, untried, Event, refused, accepted, answered, history}
 use Rattle.figure.specs.Figure.{opening, figureRan, figureStepped, figureBegun, figure}
 use Rattle.figure.specs.MomentExamples.{steps, meeting}
 
@@ -13,8 +13,8 @@ ends ((a, refused r) ∷ h) = refused r ∷ ends h
 ends ((a, accepted x) ∷ h) = ends h
 ends ((a, answered x r) ∷ h) = answered x r ∷ ends h
 
-abbrev swapped : (tried : ℕ) → Response → (steps hard : ℕ) → Event
-swapped x a n h = answered x (record { kind = aSwap; cell = 0; answer = a; steps = n; hard = h })
+abbrev swapped : Attempt → Response → (steps won lost : ℕ) → Event
+swapped x a n w l = answered x (record { kind = aSwap; cell = 0; answer = a; steps = n; won = w; lost = l })
 
 -- two tasks and a cell that holds 5
 abbrev five : List Action → List Event
@@ -23,26 +23,26 @@ five l = ends (history figure (opening 2 1 (5 ∷ [])) l)
 abbrev alone : Op → ℕ → List Action
 alone op n = begin 0 op ∷ steps n 0
 
-pub p5 : five (alone (swap 0 5 5) 3) ≡ swapped 0 Yes 3 0 ∷ []
+pub p5 : five (alone (swap 0 5 5) 3) ≡ swapped untried Yes 3 0 0 ∷ []
 unfolding upd figureRan figureStepped figureBegun
 p5 = refl
 
-pub p6 : five (alone (swap 0 4 6) 8) ≡ swapped 0 No 8 0 ∷ []
+pub p6 : five (alone (swap 0 4 6) 8) ≡ swapped untried No 8 0 0 ∷ []
 unfolding upd figureRan figureStepped figureBegun
 p6 = refl
 
 -- the inactive block is replaced by the swap of 9 to 4, and the new one is active: the next swap attempts no hardware CAS
 pub p9 : five (meeting ++ steps 2 0 ++ steps 5 1 ++ steps 3 0 ++ alone (swap 0 9 4) 13 ++ alone (swap 0 4 6) 10) ≡
-    swapped 0 Yes 12 1 ∷ swapped 0 No 7 1 ∷ swapped 1 Yes 13 2 ∷ swapped 0 Yes 10 0 ∷ []
+    swapped untried Yes 12 1 0 ∷ swapped untried No 7 0 1 ∷ swapped success Yes 13 1 1 ∷ swapped untried Yes 10 0 0 ∷ []
 unfolding upd figureRan figureStepped figureBegun
 p9 = refl
 
 -- task 1 replaces the block; task 0's hardware CAS of it then fails
-pub p10 : five (meeting ++ steps 5 0 ++ steps 14 1 ++ steps 6 0) ≡ swapped 1 Yes 21 3 ∷ swapped 1 No 13 2 ∷ []
+pub p10 : five (meeting ++ steps 5 0 ++ steps 14 1 ++ steps 6 0) ≡ swapped success Yes 21 1 2 ∷ swapped failure No 13 1 1 ∷ []
 unfolding upd figureRan figureStepped figureBegun
 p10 = refl
 
 -- as P10, but task 1 halts between lines 6 and 7, its new block half filled: task 0 replaces the block, swaps again alone, and finishes
-pub halted-filling : five (meeting ++ steps 5 0 ++ steps 11 1 ++ steps 6 0 ++ alone (swap 0 7 4) 10) ≡ swapped 1 Yes 13 2 ∷ swapped 0 Yes 10 0 ∷ []
+pub halted-filling : five (meeting ++ steps 5 0 ++ steps 11 1 ++ steps 6 0 ++ alone (swap 0 7 4) 10) ≡ swapped success Yes 13 2 0 ∷ swapped untried Yes 10 0 0 ∷ []
 unfolding upd figureRan figureStepped figureBegun
 halted-filling = refl

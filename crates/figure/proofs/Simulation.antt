@@ -8,7 +8,7 @@ use lib.ListN.{getD}
 use Rattle.lines.specs.Answers.{Next, Go, Done}
 use Rattle.lines.specs.Record.{noValue, first}
 use Rattle.lines.specs.Lines.{Line, lineOf}
-use Rattle.history.specs.History.{Op, read, swap, Action, begin, step, Event, refused, accepted, answered, history, callsOf}
+use Rattle.history.specs.History.{Op, read, swap, Action, begin, step, untried, Event, refused, accepted, answered, history, callsOf}
 use Rattle.history.specs.Basics.{_∈_}
 use Rattle.history.specs.Linearization.{replies, Linearizes}
 use Rattle.history.specs.Demand3.{Meets, clearAfter}
@@ -18,7 +18,7 @@ use Rattle.history.proofs.Moments as Placing
 use Rattle.history.proofs.Moments.{marks-linearize, marks-answers}
 use Rattle.history.proofs.Simulation.{Phase, Ghost, Knowledge, Keeps, Forward, Quietly, QuietSteps}
 use Rattle.history.proofs.Simulation as Sim
-use Rattle.figure.specs.Figure.{World, withBoth, WorldAfter, recordAfter, outcomeOf, figureRan, opening, figure, clear, attempts, firstOf}
+use Rattle.figure.specs.Figure.{World, withBoth, WorldAfter, recordAfter, outcomeOf, figureRan, opening, figure, clear, triedIn, firstOf}
 use Rattle.cells.specs.Events.{eventOf}
 use Rattle.figure.specs.Moments.{Notes, noNotes, nothingNoted, noted, noteStep, note, names, sees, moments}
 use Rattle.figure.proofs.Records.{Pending, AllOnPath, Begun, starts, begin-cases, Stepped, runs, step-cases, act-on-path}
@@ -83,7 +83,7 @@ module _ (n v : ℕ) (w : World) (notes : Notes) (g : Ghost) (κ : Knowledge) (i
     }
 
     -- the line's move, and why it may answer
-    line-forward : (x : Next) → nextAfter w t ≡ x → Out s κ₀ later t (cellAfter w t) x → AllOnPath (stepAfter w t) → let e = eventOf (attempts w t) (outcomeOf x) in
+    line-forward : (x : Next) → nextAfter w t ≡ x → Out s κ₀ later t (cellAfter w t) x → AllOnPath (stepAfter w t) → let e = eventOf (triedIn w t (w .records t)) (outcomeOf x) in
         Forwards (step t) (withBoth w (w .records t .cell) (cellAfter w t) t (recordAfter x), noteStep e notes t (sees w t)) e
     line-forward (Go r) e x p = subst (λ (y : Next). Sim.Moves doingIn clock (names figure sees) Inv (w, notes) (withBoth w (w .records t .cell) (cellAfter w t) t (recordAfter y), notes₁) g κ t) e (moves (subst (λ (y : Next). Step s κ₀ later t (cellAfter w t) (recordAfter y)) (sym e) x) p)
     line-forward (Done f) e x p = subst (λ (y : Next). (z : Step s κ₀ later t (cellAfter w t) (recordAfter y)) × Reason s κ₀ t (f .answer) (z .change) →
@@ -98,12 +98,12 @@ module _ (n v : ℕ) (w : World) (notes : Notes) (g : Ghost) (κ : Knowledge) (i
   passing : Keeps doingIn clock (names figure sees) Inv (w, notes) (w, nothingNoted notes) g κ
   passing κ′ grown = record { size = i .size; tasks = i .tasks; good = good-grown w notes g κ κ′ (i .good) grown; dated = record { placed = i .dated .placed; since = i .dated .since }; marks = i .marks }
 
-  step-forward : (t : ℕ) (did : List Line) {f : WorldAfter} → Stepped w t did f → AllOnPath (f .world) → let e = eventOf (attempts w t) (f .outcome) in Forwards (step t) (f .world, noteStep e notes t (sees w t)) e
+  step-forward : (t : ℕ) (did : List Line) {f : WorldAfter} → Stepped w t did f → AllOnPath (f .world) → let e = eventOf (triedIn w t (w .records t)) (f .outcome) in Forwards (step t) (f .world, noteStep e notes t (sees w t)) e
   unfolding figureRan
   step-forward t did (Stepped.refuses x e) p = passing
   step-forward t did (runs x o) p = line-forward t did o (nextAfter w t) refl (out w notes g κ (i .good) t did o) p
 
-  begin-forward : (t : ℕ) (op : Op) {f : WorldAfter} → Begun w t op f → AllOnPath (f .world) → Forwards (begin t op) (f .world, nothingNoted notes) (eventOf 0 (f .outcome))
+  begin-forward : (t : ℕ) (op : Op) {f : WorldAfter} → Begun w t op f → AllOnPath (f .world) → Forwards (begin t op) (f .world, nothingNoted notes) (eventOf untried (f .outcome))
   begin-forward t op (Begun.refuses x) p = passing
   begin-forward t op (starts a) p = λ κ′ grown. record {
     size = i .size;
@@ -123,16 +123,16 @@ module _ (n v : ℕ) (w : World) (notes : Notes) (g : Ghost) (κ : Knowledge) (i
 
   -- QUIET TASKS
 
-  step-quiet : (t : ℕ) (did : List Line) {f : WorldAfter} → Stepped w t did f → Quietly doing clear QuietIn w (step t) (f .world) (eventOf (attempts w t) (f .outcome))
+  step-quiet : (t : ℕ) (did : List Line) {f : WorldAfter} → Stepped w t did f → Quietly doing clear QuietIn w (step t) (f .world) (eventOf (triedIn w t (w .records t)) (f .outcome))
   unfolding figureRan
   step-quiet t did (Stepped.refuses x e) = tt
   step-quiet t did (runs x o) = go (nextAfter w t) (step-quietly w g κ₀ (i .good) (i .marks) t did o)
     where
-      go : (y : Next) {w″ : World} → QuietSteps doing clear QuietIn w w″ t (attempts w t) → Quietly doing clear QuietIn w (step t) w″ (eventOf (attempts w t) (outcomeOf y))
+      go : (y : Next) {w″ : World} → QuietSteps doing clear QuietIn w w″ t (triedIn w t (w .records t)) → Quietly doing clear QuietIn w (step t) w″ (eventOf (triedIn w t (w .records t)) (outcomeOf y))
       go (Go r) z = z
       go (Done f) z = z
 
-  begin-quiet : (t : ℕ) (op : Op) {f : WorldAfter} → Begun w t op f → Quietly doing clear QuietIn w (begin t op) (f .world) (eventOf 0 (f .outcome))
+  begin-quiet : (t : ℕ) (op : Op) {f : WorldAfter} → Begun w t op f → Quietly doing clear QuietIn w (begin t op) (f .world) (eventOf untried (f .outcome))
   begin-quiet t op (Begun.refuses x) = tt
   begin-quiet t op (starts a) = begin-quietly w g κ₀ (i .good) (i .marks) t op a
 

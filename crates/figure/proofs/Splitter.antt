@@ -6,8 +6,8 @@ use native.Mathlib.Omega.{arith}
 use lib.Dec.{T}
 use Rattle.lines.specs.declared.Record.{Record}
 use Rattle.lines.specs.declared.Field.the-variants.{X, Y, C}
-use Rattle.lines.specs.declared.Access.{Access}
 use Rattle.lines.specs.Lines.{for28, Line, l1, l16, l17, l18, l19, l27, nowhere, lineOf, at, counted}
+use Rattle.history.specs.History.{Attempt}
 use Rattle.history.specs.Basics.{upd}
 use Rattle.history.proofs.Basics.{upd-same, upd-off, upd-cases}
 use Rattle.history.proofs.Simulation.{Phase, late}
@@ -108,7 +108,7 @@ module _ (s : View) (κ : Knowledge) (t : ℕ) (r : Rest s κ t) where
 
 -- THE STEPS
 
-module _ (s : View) (κ : Knowledge) (t : ℕ) (i : Inv s κ) (a : Access) (n w : ℕ) where
+module _ (s : View) (κ : Knowledge) (t : ℕ) (i : Inv s κ) (a : Attempt) (n w : ℕ) where
   abbrev q : Record
   q = s .task t
 

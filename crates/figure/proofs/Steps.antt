@@ -9,12 +9,11 @@ use borrow.Author.Tests.{eqb-true, eqb-false, eq-eqb, ne-eqb}
 use Rattle.lines.specs.declared.Record.{Record}
 use Rattle.lines.specs.declared.Field.{Field}
 use Rattle.lines.specs.declared.Field.the-variants.{C, D}
-use Rattle.lines.specs.declared.Access.{Access}
 use Rattle.lines.specs.Answers.{Next, Go, Done}
 use Rattle.lines.specs.Record.{idle}
-use Rattle.lines.specs.Lines.{Wanted, for13, for25, for28, Line, l1, l2, l3, l4, l5, l6, l7, l8, l10, l11, l12, l15, l16, l17, l18, l19, l20, l21, l22, l23, l24, l26, l27, l30, nowhere, lineAt, lineOf, accessAt, at, counted, nextAt, answer, readAnswer}
+use Rattle.lines.specs.Lines.{Wanted, for13, for25, for28, Line, l1, l2, l3, l4, l5, l6, l7, l8, l10, l11, l12, l15, l16, l17, l18, l19, l20, l21, l22, l23, l24, l26, l27, l30, nowhere, lineAt, lineOf, accessAt, at, attempt, counted, nextAt, answer, readAnswer}
 use Rattle.history.specs.Basics.{upd}
-use Rattle.history.specs.History.{Response, Yes, No}
+use Rattle.history.specs.History.{Response, Yes, No, Attempt, success, failure, untried}
 use Rattle.history.proofs.Basics.{either, upd-at, upd-off}
 use Rattle.history.proofs.Simulation.{Phase, settled, frozen, late}
 use Rattle.figure.specs.Figure.{Cell, store, install, Accessed, accessCell}
@@ -159,14 +158,14 @@ module _ (s : View) (κ : Knowledge) (κ⁺ : Phase → ℕ → Knowledge) (t : 
 
   -- LINE 2
 
-  decides : (x : Wanted) → line s t ≡ l2 x → m .d (q .held) ≡ none → Step s κ κ⁺ t (store m (q .held) D (q .loaded)) (at (counted q (accessAt (l2 x) t q)) 3 (q .wanted) (q .held) (q .taken) (q .loaded))
+  decides : (x : Wanted) → line s t ≡ l2 x → m .d (q .held) ≡ none → Step s κ κ⁺ t (store m (q .held) D (q .loaded)) (at (counted q success) 3 (q .wanted) (q .held) (q .taken) (q .loaded))
   decides x e d = go (either (q .loaded) (s .value))
     where
-      a : Access
-      a = accessAt (l2 x) t q
+      a : Attempt
+      a = success
 
       r : Record
-      r = at (counted q (accessAt (l2 x) t q)) 3 (q .wanted) (q .held) (q .taken) (q .loaded)
+      r = at (counted q success) 3 (q .wanted) (q .held) (q .taken) (q .loaded)
 
       seen : (v : ℕ) → v ≡ q .loaded → (u : ℕ) → T (holding (line s u)) → held s u ≡ q .held → κ⁺ settled v .decided u (q .loaded)
       seen v z u b h = subst (λ n. κ⁺ settled v .decided u n) z (F .at-decide (rw e tt) d u b h settled v refl)
@@ -203,14 +202,14 @@ module _ (s : View) (κ : Knowledge) (κ⁺ : Phase → ℕ → Knowledge) (t : 
   frozen-of frozen z e c d n = (e, z .2)
   frozen-of (late u) z e c d n = absurd (n u e)
 
-  stores : line s t ≡ l23 → Step s κ κ⁺ t (store m (q .held) Field.V (q .new)) (at (counted q (accessAt l23 t q)) 24 (q .wanted) (q .held) (q .taken) (q .loaded))
+  stores : line s t ≡ l23 → Step s κ κ⁺ t (store m (q .held) Field.V (q .new)) (at (counted q untried) 24 (q .wanted) (q .held) (q .taken) (q .loaded))
   stores e = go (either (m .c (q .held)) 0) (either (m .d (q .held)) none)
     where
-      a : Access
-      a = accessAt l23 t q
+      a : Attempt
+      a = untried
 
       r : Record
-      r = at (counted q (accessAt l23 t q)) 24 (q .wanted) (q .held) (q .taken) (q .loaded)
+      r = at (counted q untried) 24 (q .wanted) (q .held) (q .taken) (q .loaded)
 
       not-active : (p : Phase) (v : ℕ) → m .c (q .held) ≢ 0 → T (not (κ⁺ p v .storedActive t))
       not-active p v c = rw (F .at-store (rw e tt) p v, ne-eqb (m .c (q .held)) 0 c) tt
@@ -260,10 +259,10 @@ module _ (s : View) (κ : Knowledge) (κ⁺ : Phase → ℕ → Knowledge) (t : 
 
   -- LINE 27
 
-  freezes : line s t ≡ l27 → Step s κ κ⁺ t (store m (q .held) C 1) (at (counted q (accessAt l27 t q)) 1 28 (q .held) (q .taken) (q .loaded))
+  freezes : line s t ≡ l27 → Step s κ κ⁺ t (store m (q .held) C 1) (at (counted q untried) 1 28 (q .held) (q .taken) (q .loaded))
   freezes e = go (either (m .c (q .held)) 0)
     where
-      go : (m .c (q .held) ≡ 0) ⊎ (m .c (q .held) ≢ 0) → Step s κ κ⁺ t (store m (q .held) C 1) (at (counted q (accessAt l27 t q)) 1 28 (q .held) (q .taken) (q .loaded))
+      go : (m .c (q .held) ≡ 0) ⊎ (m .c (q .held) ≢ 0) → Step s κ κ⁺ t (store m (q .held) C 1) (at (counted q untried) 1 28 (q .held) (q .taken) (q .loaded))
       go (inl c) =
           let h = active-current s κ i t (rw e tt) c in
           let p = active-settled s κ i t (rw e tt) c in
@@ -272,7 +271,7 @@ module _ (s : View) (κ : Knowledge) (κ⁺ : Phase → ℕ → Knowledge) (t : 
             change = freeze;
             current = λ n. refl;
             can = (p, rw e tt, c, h);
-            kept = keeps27 s (κ⁺ frozen (s .value)) t (more frozen (s .value)) (accessAt l27 t q) 1 28 e refl frozen
+            kept = keeps27 s (κ⁺ frozen (s .value)) t (more frozen (s .value)) untried 1 28 e refl frozen
                 ((λ z. omega (arith, sym (upd-at (m .c) (q .held) 1 (m .current) (sym h)) ∙ z)), d, value-of (s .phase) _ _ _ _ (i .current .phase-is) (rw h at c) d)
                 (λ u. ((λ z. absurd (settled≢late u (sym p ∙ z))), λ z. absurd (frozen≢late u z)));
           }
@@ -283,7 +282,7 @@ module _ (s : View) (κ : Knowledge) (κ⁺ : Phase → ℕ → Knowledge) (t : 
         change = still;
         can = tt;
         current = λ n. refl;
-        kept = keeps27 s κ₁ t i⁺ (accessAt l27 t q) 1 28 e refl (s .phase) (phase-stays (s .phase) (i .current .phase-is)) (λ u. ((λ z. z), λ z. z));
+        kept = keeps27 s κ₁ t i⁺ untried 1 28 e refl (s .phase) (phase-stays (s .phase) (i .current .phase-is)) (λ u. ((λ z. z), λ z. z));
       }
         where
           -- an active current block is not the stepper's
@@ -308,73 +307,73 @@ module _ (s : View) (κ : Knowledge) (κ⁺ : Phase → ℕ → Knowledge) (t : 
   -- ALL LINES
 
   abbrev Does : Line → Accessed → Type 0
-  Does ℓ x = Out s κ κ⁺ t (x .cell) (nextAt ℓ t (counted q (accessAt ℓ t q)) (x .value))
+  Does ℓ x = Out s κ κ⁺ t (x .cell) (nextAt ℓ t (counted q (attempt (accessAt ℓ t q) (x .value))) (x .value))
 
   pub each : (ℓ : Line) → line s t ≡ ℓ → T (busy ℓ) → Does ℓ (accessCell m (accessAt ℓ t q))
   unfolding none
-  each (l1 x) e b = looks (l2 x) _ (same-wanted q x .0 e) (from1 s κ₁ i⁺ t (accessAt (l1 x) t q) 2 (q .wanted) x e (at-line (l1 x) e))
+  each (l1 x) e b = looks (l2 x) _ (same-wanted q x .0 e) (from1 s κ₁ i⁺ t untried 2 (q .wanted) x e (at-line (l1 x) e))
   each (l2 x) e b = go (either (m .d (q .held)) none)
     where
       go : (m .d (q .held) ≡ none) ⊎ (m .d (q .held) ≢ none) → Does (l2 x) (accessCell m (accessAt (l2 x) t q))
       go (inl d) = rw (eq-eqb (m .d (q .held)) none d) (decides x e d)
-      go (inr d) = rw (ne-eqb (m .d (q .held)) none d) (looks (l3 x) _ (same-wanted q x .1 e) (from2 s κ₁ i⁺ t (accessAt (l2 x) t q) 3 (q .wanted) x (at-line (l2 x) e) d))
+      go (inr d) = rw (ne-eqb (m .d (q .held)) none d) (looks (l3 x) _ (same-wanted q x .1 e) (from2 s κ₁ i⁺ t failure 3 (q .wanted) x (at-line (l2 x) e) d))
   each (l3 for13) e b = let k = known (l3 for13) e .task in let d = k .decided .decided tt in reads-it (l3 for13) e tt tt (λ x. x) (m .d (q .held)) (decided13 (k .seen .decision tt d)) d
   each (l3 for25) e b =
       let k = known (l3 for25) e .task in
       by-test (Out s κ κ⁺ t m) (eqb (m .d (q .held)) (q .new)) _ _
       (λ z. (
-        leaves (decided-not-late s κ i t (accessAt (l3 for25) t q) 0 0 for25 (known (l3 for25) e)),
+        leaves (decided-not-late s κ i t untried 0 0 for25 (known (l3 for25) e)),
         acted (T-of (s .placed t) (λ n. k .self .differ tt (sym (k .decided .late-decided tt n (k .decided .decided tt)) ∙ eqb-true _ _ z))) (rw e tt) refl (inl (rw e refl)),
       ))
-      (λ z. looks (l1 for28) _ refl (from3-25 s κ₁ i⁺ t (accessAt (l3 for25) t q) 1 28 (at-line (l3 for25) e) (eqb-false _ _ z)))
+      (λ z. looks (l1 for28) _ refl (from3-25 s κ₁ i⁺ t untried 1 28 (at-line (l3 for25) e) (eqb-false _ _ z)))
   each (l3 for28) e b =
       let k = known (l3 for28) e .task in
       by-test (Out s κ κ⁺ t m) (eqb (m .d (q .held)) (q .expected)) _ _
-      (λ z. looks l4 _ refl (from3-28 s κ₁ i⁺ t (accessAt (l3 for28) t q) 4 (q .wanted) (at-line (l3 for28) e) (eqb-true _ _ z)))
+      (λ z. looks l4 _ refl (from3-28 s κ₁ i⁺ t untried 4 (q .wanted) (at-line (l3 for28) e) (eqb-true _ _ z)))
       (λ z. (leaves (unawaited (l3 for28) e (λ x. x)), declines-it (l3 for28) e tt tt (λ x. x) (m .d (q .held)) (decided28 (k .seen .decision tt (k .decided .decided tt))) (eqb-false _ _ z)))
-  each l4 e b = record { change = still; can = tt; kept = Replacing.kept-taken s κ₁ t i⁺ e (accessAt l4 t q) 5 (q .wanted) refl; current = λ n. refl }
-  each l5 e b = record { change = still; can = tt; kept = Replacing.kept5 s κ₁ t i⁺ (accessAt l5 t q) 6 (q .wanted) e refl; current = λ n. refl }
-  each l6 e b = record { change = still; can = tt; kept = Replacing.kept6 s κ₁ t i⁺ (accessAt l6 t q) 7 (q .wanted) e refl; current = λ n. refl }
-  each l7 e b = record { change = still; can = tt; kept = Replacing.kept7 s κ₁ t i⁺ (accessAt l7 t q) 8 (q .wanted) e refl; current = λ n. refl }
-  each l8 e b = record { change = still; can = tt; kept = Replacing.kept8 s κ₁ t i⁺ (accessAt l8 t q) 30 (q .wanted) e refl; current = λ n. refl }
-  each l10 e b = looks l11 _ refl (from10 s κ₁ i⁺ t (accessAt l10 t q) 11 (q .wanted) (unawaited l10 e (λ x. x)) (F .at-hold (rw e tt) (s .phase) (s .value)) (at-line l10 e))
-  each l11 e b = looks l12 _ refl (from11 s κ₁ i⁺ t (accessAt l11 t q) 12 (q .wanted) (unawaited l11 e (λ x. x)) (F .at-load (rw e tt) (s .phase) (s .value)) e (at-line l11 e))
+  each l4 e b = record { change = still; can = tt; kept = Replacing.kept-taken s κ₁ t i⁺ e untried 5 (q .wanted) refl; current = λ n. refl }
+  each l5 e b = record { change = still; can = tt; kept = Replacing.kept5 s κ₁ t i⁺ untried 6 (q .wanted) e refl; current = λ n. refl }
+  each l6 e b = record { change = still; can = tt; kept = Replacing.kept6 s κ₁ t i⁺ untried 7 (q .wanted) e refl; current = λ n. refl }
+  each l7 e b = record { change = still; can = tt; kept = Replacing.kept7 s κ₁ t i⁺ untried 8 (q .wanted) e refl; current = λ n. refl }
+  each l8 e b = record { change = still; can = tt; kept = Replacing.kept8 s κ₁ t i⁺ untried 30 (q .wanted) e refl; current = λ n. refl }
+  each l10 e b = looks l11 _ refl (from10 s κ₁ i⁺ t untried 11 (q .wanted) (unawaited l10 e (λ x. x)) (F .at-hold (rw e tt) (s .phase) (s .value)) (at-line l10 e))
+  each l11 e b = looks l12 _ refl (from11 s κ₁ i⁺ t untried 12 (q .wanted) (unawaited l11 e (λ x. x)) (F .at-load (rw e tt) (s .phase) (s .value)) e (at-line l11 e))
   each l12 e b =
       let k = known l12 e .task in
       by-test (Out s κ κ⁺ t m) (eqb (m .c (q .held)) 0) _ _
       (λ z. reads-it l12 e tt tt (λ x. x) (q .loaded) (loaded12 (k .seen .active-value tt (eqb-true _ _ z))) (k .self .loaded-some tt))
-      (λ z. looks (l1 for13) _ refl (from12 s κ₁ i⁺ t (accessAt l12 t q) 1 13 (unawaited l12 e (λ x. x)) (at-line l12 e) (eqb-false _ _ z)))
-  each l15 e b = looks l16 _ refl (from15 s κ₁ i⁺ t (accessAt l15 t q) 16 (q .wanted) (unawaited l15 e (λ x. x)) (F .at-hold (rw e tt) (s .phase) (s .value)) (at-line l15 e))
-  each l16 e b = record { change = still; can = tt; kept = keeps16 s κ₁ t i⁺ (accessAt l16 t q) 17 (q .wanted) e refl; current = λ n. refl }
+      (λ z. looks (l1 for13) _ refl (from12 s κ₁ i⁺ t untried 1 13 (unawaited l12 e (λ x. x)) (at-line l12 e) (eqb-false _ _ z)))
+  each l15 e b = looks l16 _ refl (from15 s κ₁ i⁺ t untried 16 (q .wanted) (unawaited l15 e (λ x. x)) (F .at-hold (rw e tt) (s .phase) (s .value)) (at-line l15 e))
+  each l16 e b = record { change = still; can = tt; kept = keeps16 s κ₁ t i⁺ untried 17 (q .wanted) e refl; current = λ n. refl }
   each l17 e b =
       by-test (Out s κ κ⁺ t m) (eqb (m .y (q .held)) 0) _ _
-      (λ z. looks l18 _ refl (from17-18 s κ₁ i⁺ t (accessAt l17 t q) 18 (q .wanted) (unawaited l17 e (λ x. x)) (at-line l17 e) (eqb-true _ _ z)))
-      (λ z. looks l27 _ refl (from17-27 s κ₁ i⁺ t (accessAt l17 t q) 27 (q .wanted) (unawaited l17 e (λ x. x)) (at-line l17 e)))
-  each l18 e b = record { change = still; can = tt; kept = keeps18 s κ₁ t i⁺ (accessAt l18 t q) 19 (q .wanted) e refl; current = λ n. refl }
+      (λ z. looks l18 _ refl (from17-18 s κ₁ i⁺ t untried 18 (q .wanted) (unawaited l17 e (λ x. x)) (at-line l17 e) (eqb-true _ _ z)))
+      (λ z. looks l27 _ refl (from17-27 s κ₁ i⁺ t untried 27 (q .wanted) (unawaited l17 e (λ x. x)) (at-line l17 e)))
+  each l18 e b = record { change = still; can = tt; kept = keeps18 s κ₁ t i⁺ untried 19 (q .wanted) e refl; current = λ n. refl }
   each l19 e b =
       by-test (Out s κ κ⁺ t m) (eqb (m .x (q .held)) t) _ _
-      (λ z. looks l20 _ refl (from19-20 s κ₁ i⁺ t (accessAt l19 t q) 20 (q .wanted) (unawaited l19 e (λ x. x)) (at-line l19 e) (eqb-true _ _ z)))
-      (λ z. looks l27 _ refl (from19-27 s κ₁ i⁺ t (accessAt l19 t q) 27 (q .wanted) (unawaited l19 e (λ x. x)) (at-line l19 e)))
-  each l20 e b = looks l21 _ refl (from20 s κ₁ i⁺ t (accessAt l20 t q) 21 (q .wanted) (unawaited l20 e (λ x. x)) (F .at-load (rw e tt) (s .phase) (s .value)) e (at-line l20 e))
+      (λ z. looks l20 _ refl (from19-20 s κ₁ i⁺ t untried 20 (q .wanted) (unawaited l19 e (λ x. x)) (at-line l19 e) (eqb-true _ _ z)))
+      (λ z. looks l27 _ refl (from19-27 s κ₁ i⁺ t untried 27 (q .wanted) (unawaited l19 e (λ x. x)) (at-line l19 e)))
+  each l20 e b = looks l21 _ refl (from20 s κ₁ i⁺ t untried 21 (q .wanted) (unawaited l20 e (λ x. x)) (F .at-load (rw e tt) (s .phase) (s .value)) e (at-line l20 e))
   each l21 e b =
       by-test (Out s κ κ⁺ t m) (eqb (m .c (q .held)) 0) _ _
       (λ c. by-test (Out s κ κ⁺ t m) (eqb (q .loaded) (q .expected)) _ _
-      (λ z. looks l23 _ refl (from21-23 s κ₁ i⁺ t (accessAt l21 t q) 23 (q .wanted) (unawaited l21 e (λ x. x)) (at-line l21 e) (eqb-true _ _ c) (eqb-true _ _ z) (F .grows (s .phase) (s .value) t .early (rw e tt) (eager (active-settled s κ i t (rw e tt) (eqb-true _ _ c))))))
-      (λ z. looks l22 _ refl (from21-22 s κ₁ i⁺ t (accessAt l21 t q) 22 (q .wanted) (unawaited l21 e (λ x. x)) (at-line l21 e) (eqb-true _ _ c) (eqb-false _ _ z))))
-      (λ c. looks (l1 for28) _ refl (from21-1 s κ₁ i⁺ t (accessAt l21 t q) 1 28 (unawaited l21 e (λ x. x)) (at-line l21 e) (eqb-false _ _ c)))
+      (λ z. looks l23 _ refl (from21-23 s κ₁ i⁺ t untried 23 (q .wanted) (unawaited l21 e (λ x. x)) (at-line l21 e) (eqb-true _ _ c) (eqb-true _ _ z) (F .grows (s .phase) (s .value) t .early (rw e tt) (eager (active-settled s κ i t (rw e tt) (eqb-true _ _ c))))))
+      (λ z. looks l22 _ refl (from21-22 s κ₁ i⁺ t untried 22 (q .wanted) (unawaited l21 e (λ x. x)) (at-line l21 e) (eqb-true _ _ c) (eqb-false _ _ z))))
+      (λ c. looks (l1 for28) _ refl (from21-1 s κ₁ i⁺ t untried 1 28 (unawaited l21 e (λ x. x)) (at-line l21 e) (eqb-false _ _ c)))
   each l22 e b =
       let k = known l22 e .task in (
-        record { change = still; can = tt; kept = keeps-leaving s κ₁ t i⁺ (accessAt l22 t q) 0 0 l22 e tt (unawaited l22 e (λ x. x)) idle refl; current = λ n. refl },
+        record { change = still; can = tt; kept = keeps-leaving s κ₁ t i⁺ untried 0 0 l22 e tt (unawaited l22 e (λ x. x)) idle refl; current = λ n. refl },
         declines-it l22 e tt tt (λ x. x) (q .loaded) (loaded22 (k .seen .refusing tt)) (k .self .other-loaded tt),
       )
   each l23 e b = stores e
   each l24 e b =
       by-test (Out s κ κ⁺ t m) (eqb (m .c (q .held)) 0) _ _
-      (λ z. looks l26 _ refl (from24-26 s κ₁ i⁺ t (accessAt l24 t q) 26 (q .wanted) (at-line l24 e) (eqb-true _ _ z)))
-      (λ z. looks (l1 for25) _ refl (from24-1 s κ₁ i⁺ t (accessAt l24 t q) 1 25 (at-line l24 e) (eqb-false _ _ z)))
+      (λ z. looks l26 _ refl (from24-26 s κ₁ i⁺ t untried 26 (q .wanted) (at-line l24 e) (eqb-true _ _ z)))
+      (λ z. looks (l1 for25) _ refl (from24-1 s κ₁ i⁺ t untried 1 25 (at-line l24 e) (eqb-false _ _ z)))
   each l26 e b =
       let k = known l26 e .task in (
-        record { change = still; can = tt; kept = keeps-leaving s κ₁ t i⁺ (accessAt l26 t q) 0 0 l26 e tt (λ z. T-not (s .placed t) (k .owner z .not-placed) (k .self .yes-placed tt)) idle refl; current = λ n. refl },
+        record { change = still; can = tt; kept = keeps-leaving s κ₁ t i⁺ untried 0 0 l26 e tt (λ z. T-not (s .placed t) (k .owner z .not-placed) (k .self .yes-placed tt)) idle refl; current = λ n. refl },
         acted (k .self .yes-placed tt) (rw e tt) refl (inr (rw e refl, k .store .yes-active tt)),
       )
   each l27 e b = freezes e

@@ -6,8 +6,8 @@ use Prim.Native.Nat.{ℕ}
 use lib.Dec.{T, T-not, not-T}
 use Rattle.lines.specs.declared.Record.{Record}
 use Rattle.lines.specs.declared.Field.{Field}
-use Rattle.lines.specs.declared.Access.{Access}
 use Rattle.lines.specs.Lines.{l23, l24, lineOf, at, counted}
+use Rattle.history.specs.History.{Attempt}
 use Rattle.history.specs.Basics.{upd}
 use Rattle.history.proofs.Basics.{upd-at, upd-same, upd-off, upd-cases}
 use Rattle.history.proofs.Simulation.{Phase, settled, late}
@@ -17,7 +17,7 @@ use Rattle.figure.proofs.Invariant.{none, View, Knowledge, Value, Fresh
 use Rattle.figure.proofs.Frame.{moved, Rest, Mine, finish, was, undecided, active-undecided, active-current, one-winner, decided-with}
 use Rattle.figure.proofs.Looking.{off, same-wins, same-loses, active-settled, active-value}
 
-module _ (s : View) (κ : Knowledge) (t : ℕ) (i : Inv s κ) (e : line s t ≡ l23) (a : Access) (n w : ℕ) where
+module _ (s : View) (κ : Knowledge) (t : ℕ) (i : Inv s κ) (e : line s t ≡ l23) (a : Attempt) (n w : ℕ) where
   abbrev q : Record
   q = s .task t
 

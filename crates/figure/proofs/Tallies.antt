@@ -4,7 +4,7 @@ use mathlib.Core.Logic.{_⊎_, _≢_, inl, inr}
 use mathlib.Core.Bool.{Bool, true, false, cond}
 use mathlib.Core.Option.{Option, none, some}
 use mathlib.Core.List.{List}
-use Prim.Native.Nat.{ℕ, _≤_, _<_}
+use Prim.Native.Nat.{ℕ, _+_, _≤_, _<_}
 use native.Mathlib.Numerals.{add-one}
 use native.Mathlib.Omega.{arith}
 use lib.Dec.{eqb, leb, leb→le}
@@ -14,11 +14,11 @@ use Rattle.lines.specs.Answers.{Next}
 use Rattle.lines.specs.Record.{idle, isIdle}
 use Rattle.lines.specs.Lines.{Line, lineOf, accessOf, counted, hardware}
 use Rattle.history.specs.Basics.{upd, _∈_}
-use Rattle.history.specs.History.{Op, read, swap, Action, begin, step, Response}
+use Rattle.history.specs.History.{Op, read, swap, Action, begin, step, untried, Response}
 use Rattle.history.specs.Demand3.{most, mostHard}
 use Rattle.history.proofs.Basics.{either, upd-at, upd-off}
 use Rattle.history.proofs.Simulation.{Tally, first, Follows}
-use Rattle.figure.specs.Figure.{Cell, World, WorldAfter, withBoth, recordAfter, outcomeOf, figureRan, figure, accessCell, attempts, firstOf}
+use Rattle.figure.specs.Figure.{Cell, World, WorldAfter, withBoth, recordAfter, outcomeOf, figureRan, figure, accessCell, triedIn, firstOf}
 use Rattle.cells.specs.Events.{eventOf}
 use Rattle.figure.specs.Paths.{readPaths, paths, count}
 use Rattle.figure.proofs.AsBegun.{opOf, kind-of, cell-of}
@@ -27,7 +27,7 @@ use Rattle.figure.proofs.LineLaws.{waysOf, on-paths, on-read-paths, Lea
 use Rattle.figure.proofs.Records.{Pending, not-idle, led, Then, one-line, pending-bounds, read-bounds, Begun, starts, begin-cases, Stepped, runs, step-cases, OnPath, AllOnPath}
 
 abbrev pub tally : Record → Tally
-tally q = record { op = opOf q; steps = q .steps; hard = q .hard }
+tally q = record { op = opOf q; steps = q .steps; won = q .won; lost = q .lost }
 
 abbrev pub tallyOf : Record → Option Tally
 tallyOf q = cond (isIdle q) none (some (tally q))
@@ -46,15 +46,15 @@ few-hard (read k) a p i = leb→le _ _ (every-in (λ p. leb (count hardware p) 1
 few-hard (swap k e n) a p i = leb→le _ _ (every-in (λ p. leb (count hardware p) 3) paths tt p (on-paths (swap k e n) a p i))
 
 abbrev Few : Tally → Type 0
-Few n = (n .steps < most (n .op)) × (n .hard ≤ mostHard (n .op))
+Few n = (n .steps < most (n .op)) × (n .won + n .lost ≤ mostHard (n .op))
 
-pub within : (w : World) → AllOnPath w → (t : ℕ) (n : Tally) → doing w t ≡ some n → (n .steps < most (n .op)) × (n .hard ≤ mostHard (n .op))
+pub within : (w : World) → AllOnPath w → (t : ℕ) (n : Tally) → doing w t ≡ some n → (n .steps < most (n .op)) × (n .won + n .lost ≤ mostHard (n .op))
 within w p t n e = go (w .records t) (p t .1) e
   where
     go : (q : Record) → OnPath (w .tasks) (w .cells) t (p t .0) q → tallyOf q ≡ some n → Few n
     go q (inl i) e = let x : none ≡ some n = rw (i .0) at e in let z : _≡_ {A = ℕ} 0 1 = cc in omega arith
     go q (inr (m, o)) e = let k : tally q ≡ n = cc (was-doing (w .cells) (p t .0) q o) in
-        subst Few k (by-test (λ op. (q .steps < most op) × (q .hard ≤ mostHard op)) (eqb (q .kind) 1) (read (q .cell)) (swap (q .cell) (q .expected) (q .new)) (λ z. read-bounds (w .cells) (p t .0) q o (eqb-true _ _ z)) (λ z. pending-bounds (w .cells) (p t .0) q o))
+        subst Few k (by-test (λ op. (q .steps < most op) × (q .won + q .lost ≤ mostHard op)) (eqb (q .kind) 1) (read (q .cell)) (swap (q .cell) (q .expected) (q .new)) (λ z. read-bounds (w .cells) (p t .0) q o (eqb-true _ _ z)) (λ z. pending-bounds (w .cells) (p t .0) q o))
 
 -- ACTIONS
 
@@ -67,9 +67,9 @@ module _ (w : World) where
       go (inl i) = rw (upd-at (w .records) t q u i, upd-at (doing w) t x u i) e
       go (inr i) = rw (upd-off (w .records) t q u i, upd-off (doing w) t x u i)
 
-  begin-follows : (t : ℕ) (op : Op) {f : WorldAfter} → Begun w t op f → Follows doing (w .cells) w (begin t op) (f .world) (eventOf 0 (f .outcome))
+  begin-follows : (t : ℕ) (op : Op) {f : WorldAfter} → Begun w t op f → Follows doing (w .cells) w (begin t op) (f .world) (eventOf untried (f .outcome))
   begin-follows t op (Begun.refuses n) = refl
-  begin-follows t op (starts a) = record { idle = rw (a .free); cell = a .cell; untried = refl; rest = put t (firstOf op) (some (first op)) (new op) }
+  begin-follows t op (starts a) = record { idle = rw (a .free); cell = a .cell; no-attempt = refl; rest = put t (firstOf op) (some (first op)) (new op) }
     where
       new : (op : Op) → tallyOf (firstOf op) ≡ some (first op)
       new (read k) = refl
@@ -83,8 +83,8 @@ module _ (w : World) where
     abbrev q : Record
     q = w .records t
 
-    line-follows : (c : Cell) {n : Next} → Leads (lineOf q) (counted q (accessOf t q)) n → Then (w .cells) did q o n
-        → Follows doing (w .cells) w (step t) (withBoth w (q .cell) c t (recordAfter n)) (eventOf (attempts w t) (outcomeOf n))
+    line-follows : (c : Cell) {n : Next} → Leads (lineOf q) (counted q (triedIn w t q)) n → Then (w .cells) did q o n
+        → Follows doing (w .cells) w (step t) (withBoth w (q .cell) c t (recordAfter n)) (eventOf (triedIn w t (w .records t)) (outcomeOf n))
     line-follows c (goes f) next = record { now = tally q; was = was-doing (w .cells) did q o; rest = put t _ _ (rw (not-idle _ (next .line), add-one)) }
     line-follows c (done f) end = record {
       now = tally q;
@@ -93,11 +93,12 @@ module _ (w : World) where
       kind = kind-of q;
       cell = sym (cell-of q);
       steps = add-one (q .steps);
-      hard = refl;
+      won = refl;
+      lost = refl;
       few = rw (end .all-hard) (few-hard (opOf q) _ _ (end .path));
     }
 
-  step-follows : (t : ℕ) (did : List Line) {f : WorldAfter} → Stepped w t did f → Follows doing (w .cells) w (step t) (f .world) (eventOf (attempts w t) (f .outcome))
+  step-follows : (t : ℕ) (did : List Line) {f : WorldAfter} → Stepped w t did f → Follows doing (w .cells) w (step t) (f .world) (eventOf (triedIn w t (w .records t)) (f .outcome))
   unfolding figureRan
   step-follows t did (Stepped.refuses n i) = (refl, rw i)
   step-follows t did (runs m o) =

@@ -5,7 +5,7 @@ use mathlib.Core.List.{List, [], _∷_, map}
 use Prim.Native.Nat.{ℕ}
 use Rattle.lines.specs.Lines.{Line}
 use Rattle.history.specs.Basics.{upd}
-use Rattle.history.specs.History.{Op, Action, begin, step, Event, refused, accepted, answered, history, Call, Calls, noCalls, called, advanced, closed, enter, enterAll, callsOf, IsBusy, Allowed, WellFormed}
+use Rattle.history.specs.History.{Op, Action, begin, step, Attempt, Event, refused, accepted, answered, history, Call, Calls, noCalls, called, advanced, closed, enter, enterAll, callsOf, IsBusy, Allowed, WellFormed}
 use Rattle.history.proofs.Basics.{upd-cases}
 use Rattle.figure.specs.Paths.{Trace, noTrace, enterLine, traces, finishedReport, tracedReport}
 use Rattle.figure.proofs.Records.{upd-both}
@@ -23,7 +23,7 @@ module _ (next : ℕ → Line) (size : ℕ) (b : Calls) (r : Trace) (s : Same b 
   put : (t : ℕ) (o : Option Call) → OfOp o (r .op t) → (u : ℕ) → OfOp (upd (b .pending) t o u) (r .op u)
   put t o h u = upd-cases (λ o. OfOp o (r .op u)) (b .pending) t o u (λ e. rw e h) (λ e. s .pending u)
 
-  advances : (o : Option Call) (op : Op) (x : ℕ) → OfOp o op → OfOp (advanced b x o) op
+  advances : (o : Option Call) (op : Op) (x : Attempt) → OfOp o op → OfOp (advanced b x o) op
   advances none op x h = tt
   advances (some c) op x h = h
 

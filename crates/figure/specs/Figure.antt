@@ -21,7 +21,7 @@ use Rattle.lines.specs.Record.{firstRead, firstSwap}
 use Rattle.cells.specs.Look.{shownValue, shown}
 use Rattle.cells.specs.Events.{eventOf, tried}
 use Rattle.history.specs.Basics.{upd}
-use Rattle.history.specs.History.{Op, read, swap, Action, begin, step, Event}
+use Rattle.history.specs.History.{Op, read, swap, Action, begin, step, Attempt, untried, Event}
 
 -- MEMORY
 
@@ -138,13 +138,17 @@ figureLooked w k = let m = w .cell k in let b = m .current in shown (refusal (lo
 
 -- AS A MACHINE THAT TAKES ACTIONS AND GIVES EVENTS
 
--- the hardware CAS attempts of a task's next step
-abbrev pub attempts : World → ℕ → ℕ
-attempts w t = tried t (w .records t)
+-- the value that memory answers to an access of a task's record
+abbrev pub figureAnswers : World → Record → Access → ℕ
+figureAnswers w q a = accessCell (w .cell (q .cell)) a .value
+
+-- what becomes of the hardware CAS of a task's next step
+abbrev pub triedIn : World → ℕ → Record → Attempt
+triedIn w t q = tried t q (figureAnswers w q)
 
 abbrev pub figure : World → Action → World × Event
-figure w (begin t op) = let r = figureBegun w t op in (r .world, eventOf 0 (r .outcome))
-figure w (step t) = let r = figureStepped w t in (r .world, eventOf (attempts w t) (r .outcome))
+figure w (begin t op) = let r = figureBegun w t op in (r .world, eventOf untried (r .outcome))
+figure w (step t) = let r = figureStepped w t in (r .world, eventOf (triedIn w t (w .records t)) (r .outcome))
 
 -- nothing is left of an earlier collision: the current block of cell k is active
 abbrev pub clear : World → ℕ → Type 0

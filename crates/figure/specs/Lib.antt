@@ -1,4 +1,5 @@
 pub mod Figure
 pub mod Paths
 pub mod Moments
+pub mod Attempts
 pub mod MomentExamples

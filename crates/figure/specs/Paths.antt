@@ -155,7 +155,7 @@ pub record Counted (x : Traced) : Type 0 where
   -- a path of what the call is as begun, that ends in what it answered
   pub its-path : x .lines ∈ pathsOf (x .op) (x .report .answer)
   pub all-steps : x .report .steps ≡ steps (x .lines)
-  pub all-hard : x .report .hard ≡ count hardware (x .lines)
+  pub all-hard : x .report .won + x .report .lost ≡ count hardware (x .lines)
   pub row : counts (x .lines) ∈ table
 
 -- what a call is as begun, and what its last step reported: of a history, and of a trace

@@ -1,0 +1,12 @@
+-- What becomes of a step's hardware CAS, by the memory before the step.
+use mathlib.Core.Bool.{Bool, cond}
+use lib.Dec.{eqb}
+use Rattle.history.specs.History.{Attempt, success, failure, untried}
+use Rattle.figure.specs.Moments.{Sight}
+
+-- line 2 wins where D of the held block is none, line 30 where the held block is current
+abbrev pub judged : Sight → Attempt
+judged x =
+    cond (eqb (x .line) 2) (cond (x .undecided) success failure)
+    (cond (eqb (x .line) 30) (cond (x .current) success failure)
+    untried)
