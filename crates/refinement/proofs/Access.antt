@@ -1,5 +1,5 @@
 -- Linked accesses: the pool performs its own as the figure performs its own, and memory answers alike.
-use mathlib.Core.Path.{_≡_, refl, subst}
+use mathlib.Core.Path.{_≡_, refl, ap, subst}
 use mathlib.Core.Bool.{Bool, true, false, cond}
 use mathlib.Core.List.{List}
 use Prim.Native.Nat.{ℕ, _<_}
@@ -10,7 +10,7 @@ use Rattle.lines.specs.declared.Field.the-variants.{X, D}
 use Rattle.lines.specs.declared.Access.{Access}
 use Rattle.lines.specs.declared.Access.the-variants.{LoadCell, Load, Store, DecideCas, InstallCas, Allocate, Nothing}
 use Rattle.lines.specs.Record.{noValue}
-use Rattle.lines.specs.Lines.{hardware}
+use Rattle.lines.specs.Lines.{found, attempt}
 use Rattle.cells.specs.Pool.{setWord}
 use Rattle.blocks.specs.Blocks.{unused}
 use Rattle.cells.specs.Turn.{Touched, touched, performed}
@@ -32,15 +32,6 @@ pub data Linked (R : Links) (s : State) (k : ℕ) : Access → Access → Type 0
   installCas : {i b i′ b′ : ℕ} → Whole R k i b → Whole R k i′ b′ → Linked R s k (InstallCas k b b′) (InstallCas k i i′)
   allocate : Found s (unused s) → Linked R s k Allocate Allocate
 
-pub same-hardware : {R : Links} {s : State} {k : ℕ} {x y : Access} → Linked R s k x y → hardware x ≡ hardware y
-same-hardware loadCell = refl
-same-hardware (load r) = refl
-same-hardware (store r) = refl
-same-hardware (fill r) = refl
-same-hardware (decideCas r) = refl
-same-hardware (installCas r r′) = refl
-same-hardware (allocate f) = refl
-
 -- what memory answers the pool and the figure: linked blocks, or the same value
 abbrev pub Answers : Links → ℕ → Access → ℕ → ℕ → Type 0
 Answers R k (LoadCell c) b i = Whole R k i b
@@ -51,6 +42,16 @@ Answers R k (DecideCas c x) b i = b ≡ i
 Answers R k (InstallCas c d e) b i = b ≡ i
 Answers R k Allocate b i = R k i b X
 Answers R k Nothing b i = b ≡ i
+
+-- so a hardware CAS is won in both, or lost in both
+pub same-attempt : {R : Links} (R′ : Links) {s : State} {k : ℕ} (b i : ℕ) {x y : Access} → Linked R s k x y → Answers R′ k y b i → attempt x b ≡ attempt y i
+same-attempt R′ b i loadCell h = refl
+same-attempt R′ b i (load r) h = refl
+same-attempt R′ b i (store r) h = refl
+same-attempt R′ b i (fill r) h = refl
+same-attempt R′ b i (decideCas r) h = ap found h
+same-attempt R′ b i (installCas r r′) h = ap found h
+same-attempt R′ b i (allocate f) h = refl
 
 pub record Performed (n v : ℕ) (s : State) (w : World) (k : ℕ) (y : Access) (m : Touched) (m′ : Accessed) : Type 1 where
   pub R : Links

@@ -3,7 +3,7 @@ use mathlib.Core.Path.{_≡_, refl, subst}
 use mathlib.Core.Logic.{inl, inr}
 use mathlib.Core.Option.{none, some}
 use mathlib.Core.List.{List, [], _∷_, map}
-use Prim.Native.Nat.{ℕ}
+use Prim.Native.Nat.{ℕ, _+_}
 use lib.ListN.{length}
 use Rattle.lines.specs.Lines.{Line, loads, stores, hardware}
 use Rattle.lines.specs.Paths.{rowOf}
@@ -67,5 +67,5 @@ module _ (old : State) (words : List ℕ) (tasks cells blocks : ℕ) (values : L
 
   -- Every finished call finds its row: by the steps and hardware CAS attempts that it reports, the table has the loads and stores of the
   -- lines that it did.
-  pub calls-find-rows : (call : Traced) → call ∈ trace (start old words tasks cells blocks values) actions .done → rowOf (call .report .steps) (call .report .hard) ≡ some (count loads (call .lines), count stores (call .lines))
+  pub calls-find-rows : (call : Traced) → call ∈ trace (start old words tasks cells blocks values) actions .done → rowOf (call .report .steps) (call .report .won + call .report .lost) ≡ some (count loads (call .lines), count stores (call .lines))
   calls-find-rows x i = let c = calls-counted x i in rw (c .all-steps, c .all-hard) (finds reached reached-find (x .lines) (c .path))

@@ -14,3 +14,9 @@ pub mod Moments
 pub mod Counts
 pub mod NoNone
 pub mod Reaching
+pub mod Attempts
+pub mod Stepped
+pub mod Replacing
+pub mod Deciding
+pub mod Lives
+pub mod AttemptExamples

@@ -19,9 +19,9 @@ use Rattle.questions.specs.Questions.{refusal, openQuestions, lookQuestions}
 use Rattle.cells.specs.Step.{current}
 use Rattle.cells.specs.Look.{looked, shown, shownValue}
 use Rattle.history.specs.Basics.{_∈_}
-use Rattle.history.specs.History.{Op, Action, begin, step, Response, Value, Yes, No, Report, Event, refused, accepted, answered, history, run, Call, Calls, FinishedCall, noCalls, advanced, closed, enter, enterAll, callsOf}
-use Rattle.figure.specs.Figure.{Cell, World, WorldAfter, accessCell, outcomeOf, figureRan, figure, opening, figureLooked}
-use Rattle.cells.specs.Events.{eventOf, tried}
+use Rattle.history.specs.History.{Op, Action, begin, step, Attempt, untried, Response, Value, Yes, No, Report, Event, refused, accepted, answered, history, run, Call, Calls, FinishedCall, noCalls, advanced, closed, enter, enterAll, callsOf}
+use Rattle.figure.specs.Figure.{Cell, World, WorldAfter, accessCell, outcomeOf, triedIn, figureRan, figure, opening, figureLooked}
+use Rattle.cells.specs.Events.{eventOf}
 use Rattle.history.proofs.ListTests.{by-test}
 use Rattle.figure.proofs.Records.{Begun, starts, begin-cases, Stepped, runs, step-cases, with-first}
 use Rattle.figure.proofs.Invariant as Invariant
@@ -65,16 +65,16 @@ reason-proper s κ t a (reads v saw other swaps e placed late) =
     rw e (by-test Proper (eqb (s .task t .kind) 2) _ _ (λ k. by-test Proper (eqb v (s .task t .expected)) _ _ (λ y. yes-proper) (λ y. no-proper)) (λ k. value-proper v other))
 
 module _ (v : ℕ) (w : World) (i : Reachable v w) where
-  begin-proper : (t : ℕ) (op : Op) {f : WorldAfter} → Begun w t op f → ProperEvent (eventOf 0 (f .outcome))
+  begin-proper : (t : ℕ) (op : Op) {f : WorldAfter} → Begun w t op f → ProperEvent (eventOf untried (f .outcome))
   begin-proper t op (Begun.refuses n) = tt
   begin-proper t op (starts a) = tt
 
-  step-proper : (t : ℕ) (did : List Line) {f : WorldAfter} → Stepped w t did f → ProperEvent (eventOf (tried t (w .records t)) (f .outcome))
+  step-proper : (t : ℕ) (did : List Line) {f : WorldAfter} → Stepped w t did f → ProperEvent (eventOf (triedIn w t (w .records t)) (f .outcome))
   unfolding figureRan
   step-proper t did (Stepped.refuses n e) = tt
   step-proper t did (runs l o) = let m = accessCell (w .cell (w .records t .cell)) (accessOf t (w .records t)) in go (m .cell) (nextOf t (w .records t) (m .value)) (out w (i .notes) (i .ghost) trivial (i .holds .good) t did o)
     where
-      go : (c : Cell) (n : Next) → Out (view w (i .ghost) (w .records t .cell)) (known (i .notes) trivial) (κ⁺ w (i .notes) (i .ghost) trivial (i .holds .good) t did o) t c n → ProperEvent (eventOf (tried t (w .records t)) (outcomeOf n))
+      go : (c : Cell) (n : Next) → Out (view w (i .ghost) (w .records t .cell)) (known (i .notes) trivial) (κ⁺ w (i .notes) (i .ghost) trivial (i .holds .good) t did o) t c n → ProperEvent (eventOf (triedIn w t (w .records t)) (outcomeOf n))
       go c (Go q) x = tt
       go c (Done f) x = reason-proper (view w (i .ghost) (w .records t .cell)) (known (i .notes) trivial) t (f .answer) (x .1)
 
@@ -126,7 +126,7 @@ module _ (old : State) (words : List ℕ) (tasks cells blocks : ℕ) (values : L
   reached = reachable tasks cells values (starting-values old words tasks cells blocks values allowed) actions
 
   -- The next step of a task, whichever it is, does not answer none.
-  pub no-step-answers-none : (task tries : ℕ) (report : Report) → pool (run pool (start old words tasks cells blocks values) actions) (step task) .1 ≡ answered tries report → report .answer ≢ Value noValue
+  pub no-step-answers-none : (task : ℕ) (attempt : Attempt) (report : Report) → pool (run pool (start old words tasks cells blocks values) actions) (step task) .1 ≡ answered attempt report → report .answer ≢ Value noValue
   no-step-answers-none t y r e = subst ProperEvent (sym (same-event (together old words tasks cells blocks values allowed actions) (step t)) ∙ e) (act-proper cells _ reached (step t))
 
   -- No finished call answered none.

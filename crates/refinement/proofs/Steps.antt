@@ -14,27 +14,27 @@ use Rattle.cells.specs.Answers.{Said, Refused, Acted}
 use Rattle.lines.specs.Answers.{Next}
 use Rattle.lines.specs.Basics.{ands}
 use Rattle.lines.specs.Record.{noValue, idle, isIdle, recordAt}
-use Rattle.lines.specs.Lines.{lineOf, accessOf, counted, hardware}
+use Rattle.lines.specs.Lines.{lineOf, accessOf, attempt, counted}
 use Rattle.questions.specs.Questions.{Question, refusal, reads, swaps, fit, answers}
 use Rattle.cells.specs.Open.{After, unless}
 use Rattle.lines.specs.Record.{firstRead, firstSwap}
 use Rattle.cells.specs.Begin.{readBegun, swapBegun, started}
 use Rattle.blocks.specs.Blocks.{unused}
 use Rattle.cells.specs.Turn.{Touched, performed, ending}
-use Rattle.cells.specs.Step.{current, withBlocks, putBack, ran, stepped}
+use Rattle.cells.specs.Step.{current, withBlocks, putBack, triedAt, ran, stepped}
 use Rattle.questions.proofs.Tests.{nth, all-yes}
 use Rattle.questions.proofs.Numbers.{number, at-number}
 use Rattle.blocks.proofs.Unused.{one-is-unused}
-use Rattle.history.specs.History.{Op, read, swap, begin, step, Event}
-use Rattle.figure.specs.Figure.{Cell, World, withBoth, worldAfter, recordAfter, outcomeOf, figure, WorldAfter, accessCell, figureBegun, figureRan, figureStepped, unlessRefused, withTask}
-use Rattle.cells.specs.Events.{eventOf, tried}
+use Rattle.history.specs.History.{Op, read, swap, begin, step, Attempt, untried, Event}
+use Rattle.figure.specs.Figure.{Cell, World, withBoth, worldAfter, recordAfter, outcomeOf, figure, WorldAfter, accessCell, figureBegun, figureRan, figureStepped, unlessRefused, withTask, triedIn}
+use Rattle.cells.specs.Events.{eventOf}
 use Rattle.cells.specs.Machine.{Pool, pool}
 use Rattle.refinement.specs.Terms.{named}
 use Rattle.figure.proofs.Records.{Busy, WellRecord}
 use Rattle.refinement.proofs.Agree.{Links, Whole, Agree, Task, holdsAt, storedBefore, no-blocks, records-change}
 use Rattle.refinement.proofs.Memory.{withCell}
 use Rattle.refinement.proofs.Fits.{fits}
-use Rattle.refinement.proofs.Access.{performs, same-hardware}
+use Rattle.refinement.proofs.Access.{performs, same-attempt}
 use Rattle.refinement.proofs.Lines.{Has, linked, Nexts, going, ended, nexts}
 
 pub record Same (n v : ℕ) (x : Pool × Event) (y : World × Event) : Type 1 where
@@ -49,7 +49,7 @@ abbrev figureGives : (Said → Event) → WorldAfter → World × Event
 figureGives e r = (r .world, e (r .outcome))
 
 -- what follows a line, in the pool and in the figure
-finishes : {n v : ℕ} {R : Links} (s : State) (m : Touched) (w : World) (k t x : ℕ) (c : Cell) {X Y : Next} → Agree n v R (withBlocks s k (m .current) (m .last)) (m .pool) (withCell w k c) → t < n → Nexts R X Y
+finishes : {n v : ℕ} {R : Links} (s : State) (m : Touched) (w : World) (k t : ℕ) (x : Attempt) (c : Cell) {X Y : Next} → Agree n v R (withBlocks s k (m .current) (m .last)) (m .pool) (withCell w k c) → t < n → Nexts R X Y
     → Same n v (gives (eventOf x) (putBack s t k (ending m X))) (figureGives (eventOf x) (worldAfter (withBoth w k c t (recordAfter Y)) (outcomeOf Y)))
 finishes {R = R} s m w k t x c a l (going {r} {q} e) = record { R = R; agree = records-change a t r q l e; event = refl }
 finishes {R = R} s m w k t x c a l ended = record { R = R; agree = records-change a t idle idle l (no-blocks idle tt); event = refl }
@@ -97,7 +97,7 @@ module _ {n v : ℕ} {R : Links} {s : State} {p : List ℕ} {w : World} (a : Agr
   -- A STEP
 
   module _ (l : t < n) (h k : ℕ) (e : r ≡ named q h k) (y : Busy v q) where
-    busy-step : Same n v (gives (eventOf (tried t (named q h k))) (ran s p t (named q h k))) (figureGives (eventOf (tried t q)) (figureRan w t q))
+    busy-step : Same n v (gives (eventOf (triedAt s p t (named q h k))) (ran s p t (named q h k))) (figureGives (eventOf (triedIn w t q)) (figureRan w t q))
     unfolding ran figureRan
     busy-step =
         let at = at-number q (y .line) in
@@ -115,25 +115,25 @@ module _ {n v : ℕ} {R : Links} {s : State} {p : List ℕ} {w : World} (a : Agr
         let task⁺ : Task R⁺ (named q h k) q = subst (λ (r : Record). Task R⁺ r q) e (done .agree .records t l) in
         let held : T (holdsAt (number (lineOf q))) → Whole R⁺ (q .cell) (q .held) h = subst (λ (n : ℕ). T (holdsAt n) → Whole R⁺ (q .cell) (q .held) h) at (task⁺ .held) in
         let taken : (f : Field) → T (storedBefore (number (lineOf q)) f) → R⁺ (q .cell) (q .taken) k f = subst (λ (n : ℕ). (f : Field) → T (storedBefore n f) → R⁺ (q .cell) (q .taken) k f) at (task⁺ .taken) in
-        rw (same-hardware accesses)
-        (finishes s m w (q .cell) t (hardware (accessOf t q)) (m′ .cell) (done .agree) l (nexts R⁺ (counted q (accessOf t q)) h k q refl t (m .value) (m′ .value) (reads q) (swaps q) (lineOf q) (y .line) held taken (done .answer)))
+        rw (same-attempt R⁺ (m .value) (m′ .value) accesses (done .answer))
+        (finishes s m w (q .cell) t (triedIn w t q) (m′ .cell) (done .agree) l (nexts R⁺ (counted q (triedIn w t q)) h k q refl t (m .value) (m′ .value) (reads q) (swaps q) (lineOf q) (y .line) held taken (done .answer)))
 
   busy : WellRecord v q → not (isIdle q) ≡ true → Busy v q
   busy (inl e) g = absurd (false≢true (rw e at g))
   busy (inr y) g = y
 
-  step-acts : t < n → not (isIdle q) ≡ true → Same n v (gives (eventOf (tried t r)) (ran s p t r)) (figureGives (eventOf (tried t q)) (figureRan w t q))
+  step-acts : t < n → not (isIdle q) ≡ true → Same n v (gives (eventOf (triedAt s p t r)) (ran s p t r)) (figureGives (eventOf (triedIn w t q)) (figureRan w t q))
   step-acts l g =
       let e = a .records t l .same in
-      subst (λ (r : Record). Same n v (gives (eventOf (tried t r)) (ran s p t r)) (figureGives (eventOf (tried t q)) (figureRan w t q))) (sym e) (busy-step l (r .held) (r .taken) e (busy (well t) g))
+      subst (λ (r : Record). Same n v (gives (eventOf (triedAt s p t r)) (ran s p t r)) (figureGives (eventOf (triedIn w t q)) (figureRan w t q))) (sym e) (busy-step l (r .held) (r .taken) e (busy (well t) g))
 
   pub steps : Same n v (pool (s, p) (step t)) (figure w (step t))
   unfolding stepped figureStepped
-  steps = asked (λ v i. (11, not i) ∷ []) (eventOf (tried t r)) (eventOf (tried t q)) (ran s p t r) (figureRan w t q) (λ _. refl) (λ l g. step-acts l (nth (ltb t n ∷ not (isIdle q) ∷ []) g 1))
+  steps = asked (λ v i. (11, not i) ∷ []) (eventOf (triedAt s p t r)) (eventOf (triedIn w t q)) (ran s p t r) (figureRan w t q) (λ _. refl) (λ l g. step-acts l (nth (ltb t n ∷ not (isIdle q) ∷ []) g 1))
 
   -- A BEGIN
 
-  begun : (r : Record) → T (not (holdsAt (r .line))) → t < n → Same n v (gives (eventOf 0) (started s p t r)) (figureGives (eventOf 0) (worldAfter (withTask w t r) Acted))
+  begun : (r : Record) → T (not (holdsAt (r .line))) → t < n → Same n v (gives (eventOf untried) (started s p t r)) (figureGives (eventOf untried) (worldAfter (withTask w t r) Acted))
   begun r x l = record { R = R; agree = records-change a t r r l (no-blocks r x); event = refl }
 
   at-first : (c : Bool) → T (not (holdsAt (cond c 10 15)))
@@ -142,5 +142,5 @@ module _ {n v : ℕ} {R : Links} {s : State} {p : List ℕ} {w : World} (a : Agr
 
   pub begins : (op : Op) → Same n v (pool (s, p) (begin t op)) (figure w (begin t op))
   unfolding readBegun swapBegun figureBegun
-  begins (read k) = asked (λ v i. (8, ltb k v) ∷ (9, i) ∷ []) (eventOf 0) (eventOf 0) _ _ (λ _. refl) (λ l _. begun (firstRead k) tt l)
-  begins (swap k e x) = asked (λ v i. (8, ltb k v) ∷ (9, i) ∷ (10, not (eqb e noValue) && not (eqb x noValue)) ∷ []) (eventOf 0) (eventOf 0) _ _ (λ _. refl) (λ l _. begun (firstSwap k e x) (at-first (eqb e x)) l)
+  begins (read k) = asked (λ v i. (8, ltb k v) ∷ (9, i) ∷ []) (eventOf untried) (eventOf untried) _ _ (λ _. refl) (λ l _. begun (firstRead k) tt l)
+  begins (swap k e x) = asked (λ v i. (8, ltb k v) ∷ (9, i) ∷ (10, not (eqb e noValue) && not (eqb x noValue)) ∷ []) (eventOf untried) (eventOf untried) _ _ (λ _. refl) (λ l _. begun (firstSwap k e x) (at-first (eqb e x)) l)

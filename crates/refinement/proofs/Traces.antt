@@ -10,7 +10,7 @@ use borrow.Author.Tests.{le-ltb}
 use Rattle.questions.specs.declared.State.{State}
 use Rattle.lines.specs.Lines.{Line, lineOf}
 use Rattle.questions.specs.Questions.{refusal, openQuestions}
-use Rattle.history.specs.History.{Action, begin, step, Event, refused, accepted, answered, run}
+use Rattle.history.specs.History.{Action, begin, step, untried, Event, refused, accepted, answered, run}
 use Rattle.figure.specs.Figure.{World, figure, opening, figureStepped}
 use Rattle.figure.specs.Paths.{Trace, noTrace, enterLine, traces, figureTraces}
 use Rattle.cells.specs.Machine.{Pool, pool}
@@ -33,7 +33,7 @@ module _ (f g : ℕ → Line) (r : Trace) where
 
 module _ {n v : ℕ} {x : Pool} {w : World} (g : Together n v x w) where
   pub same-event : (a : Action) → pool x a .1 ≡ figure w a .1
-  same-event a = ap (λ (h : List (Action × Event)). getD h 0 (a, accepted 0) .1) (histories (a ∷ []) g)
+  same-event a = ap (λ (h : List (Action × Event)). getD h 0 (a, accepted untried) .1) (histories (a ∷ []) g)
 
   -- the step of a task that is not there is refused, whatever its record
   pub no-task : (t : ℕ) → n ≤ t → figure w (step t) .1 ≡ refused 7

@@ -1,0 +1,32 @@
+-- Of an accepted step, in any state: its hardware CAS is won or lost by the memory before it.
+use mathlib.Core.Path.{_≡_, refl}
+use mathlib.Core.Bool.{Bool, true, false, cond}
+use mathlib.Core.Option.{none}
+use mathlib.Core.List.{List, _∷_}
+use Prim.Native.Nat.{ℕ}
+use lib.Dec.{eqb}
+use Rattle.lines.specs.declared.Field.the-variants.{D}
+use Rattle.lines.specs.Record.{noValue, recordAt}
+use Rattle.questions.specs.declared.State.{State}
+use Rattle.questions.specs.Questions.{refusal, fit, stepQuestions}
+use Rattle.cells.specs.Pool.{word}
+use Rattle.cells.specs.Turn.{Touched}
+use Rattle.cells.specs.Step.{current, answers}
+use Rattle.cells.specs.Machine.{triedBy}
+use Rattle.cells.proofs.Stepping.{own-acting}
+use Rattle.history.specs.History.{step}
+use Rattle.figure.specs.Attempts.{judged}
+use Rattle.figure.proofs.Attempts.{judge}
+use Rattle.refinement.specs.Moments.{seesPool}
+
+value-of : (c : Bool) (m m′ : Touched) → m .value ≡ 1 → m′ .value ≡ 0 → cond c m m′ .value ≡ cond c 1 0
+value-of true m m′ e f = e
+value-of false m m′ e f = f
+
+-- A step's attempt is won exactly if the memory before it had D none, at line 2, or the held block current, at line 30; neither is guessed.
+pub cell-attempts-judged : (state : State) (words : List ℕ) (task : ℕ) → refusal ((6, fit state words) ∷ stepQuestions (state .tasks) (recordAt (state .records) task) task) ≡ none
+    → triedBy state words (step task) ≡ judged (seesPool (state, words) task)
+cell-attempts-judged s p t g =
+    let r = recordAt (s .records) t in
+    judge (recordAt (s .records)) (current s) (λ k. word p) t (answers s p r) (own-acting s p t g .line)
+    (λ b n. value-of (eqb (word p b D) noValue) _ _ refl refl) (λ k b n. value-of (eqb (current s (r .cell)) b) _ _ refl refl)
