@@ -126,7 +126,7 @@ struct Standing {
     // Whether there was an open, and whether the last one acted.
     begun: bool,
     open: bool,
-    // Whether to go on: no line was bad, and all was printed.
+    // Whether to go on: no line was bad, all was printed, and the input has not ended.
     goes: bool,
     // The next move's number.
     action: u32,
@@ -234,7 +234,7 @@ struct Played {
     count: usize,
 }
 
-// The lines of a part of the input. Of less than the longest line, what comes next is waited for.
+// The lines of a part of the input. Less than the longest line is left for later, unless the input has ended.
 fn play_lines(s: &[u8], before: Standing, ended: bool) -> Played
     ensures { λ r. ⌜ r .count ≤ length (now (s .entry)) ⌝ }
 {
@@ -279,6 +279,7 @@ fn fill(fd: i32, name: &[u8], buf: &mut [u8], held: usize) -> Input
     }
 }
 
+// Fills the buffer, plays its lines, and keeps the rest for the next part.
 fn play_part(fd: i32, name: &[u8], buf: &mut [u8], before: Standing, held: usize) -> Played
     requires { ⌜ held ≤ length (now buf) ⌝ }
     ensures { λ r. ⌜ r .count ≤ length (now (buf .exit)) ⌝ }
