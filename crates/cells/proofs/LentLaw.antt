@@ -65,6 +65,6 @@ module _ (s : State) (p : List ℕ) (t : ℕ) where
   same a Acted e h = rw e
   same a (Ended f) e h = rw e
 
-  pub lent-own : steppedLent s p t (recordAt (s .records) t) ≡ handed (stepped s p t)
+  pub lent-own : steppedLent s p t (recordAt (s .records) t) ≡ lent (stepped s p t) (recordAt (stepped s p t .state .records) t)
   unfolding steppedLent
   lent-own = rw (set-getD (s .records) t idle) (same (stepped s p t) (stepped s p t .outcome) refl (step-untouched s p t))
