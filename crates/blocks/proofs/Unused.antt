@@ -14,7 +14,7 @@ use Rattle.lines.specs.declared.Record.{Record}
 use Rattle.questions.specs.declared.State.{State}
 use Rattle.lines.specs.Record.{isIdle, recordAt}
 use Rattle.questions.specs.Questions.{holds, hasTaken, fit, fitTests}
-use Rattle.blocks.specs.Blocks.{isCurrent, usedByTask, used, usesBlock, after, unusedFrom, unused}
+use Rattle.blocks.specs.Blocks.{isCurrent, usedByTask, used, usesBlock, blockAfter, unusedFrom, unused}
 use Rattle.questions.proofs.Tests.{nth, blocks-true}
 use Rattle.blocks.proofs.Counting.{count, gap, count-or, count-and, count-none, count-one, count-any, count-less}
 
@@ -60,10 +60,10 @@ Found s o = (b : ℕ) × (o ≡ some b) × (used s b ≡ false) × (b < s .block
 abbrev Next : ℕ → ℕ → ℕ → Type 0
 Next n b a = ((a ≡ b + 1) × (b + 1 < n)) ⊎ ((a ≡ 0) × (b + 1 ≡ n))
 
-next : (n b : ℕ) → b < n → Next n b (after n b)
+next : (n b : ℕ) → b < n → Next n b (blockAfter n b)
 next n b h = go (eqb (b + 1) n) refl
   where
-    go : (x : Bool) → eqb (b + 1) n ≡ x → Next n b (after n b)
+    go : (x : Bool) → eqb (b + 1) n ≡ x → Next n b (blockAfter n b)
     go true e = inr (rw e, eqb-true (b + 1) n e)
     go false e = let d = eqb-false (b + 1) n e in inl (rw e, omega arith)
 
@@ -80,11 +80,11 @@ module _ (s : State) (x : ℕ) (l : x < s .blocks) (e : used s x ≡ false) wher
 
   meets : (b k : ℕ) → b < s .blocks → Ahead b k → Found s (unusedFrom s b k)
   meets b zero h d = absurd (⊎-elim (λ y. omega (arith, y .0, y .1)) (λ y. omega (arith, y .0, y .1)) d)
-  meets b (suc k) h d = go (used s b) refl (meets (after (s .blocks) b) k)
+  meets b (suc k) h d = go (used s b) refl (meets (blockAfter (s .blocks) b) k)
     where
-      go : (y : Bool) → used s b ≡ y → (after (s .blocks) b < s .blocks → Ahead (after (s .blocks) b) k → Found s (unusedFrom s (after (s .blocks) b) k)) → Found s (unusedFrom s b (suc k))
+      go : (y : Bool) → used s b ≡ y → (blockAfter (s .blocks) b < s .blocks → Ahead (blockAfter (s .blocks) b) k → Found s (unusedFrom s (blockAfter (s .blocks) b) k)) → Found s (unusedFrom s b (suc k))
       go false u more = rw u (b, refl, u, h)
-      go true u more = let o = onward b (after (s .blocks) b) k (next (s .blocks) b h) (λ q. false≢true (sym e ∙ rw (← q) u)) d in rw u (more (o .0) (o .1))
+      go true u more = let o = onward b (blockAfter (s .blocks) b) k (next (s .blocks) b h) (λ q. false≢true (sym e ∙ rw (← q) u)) d in rw u (more (o .0) (o .1))
 
   -- all of them, from any b
   round : (b : ℕ) → b < s .blocks → Found s (unusedFrom s b (s .blocks))
@@ -94,7 +94,7 @@ module _ (s : State) (x : ℕ) (l : x < s .blocks) (e : used s x ≡ false) wher
       go (yes m) = inl (m, omega arith)
       go (no m) = inr (omega arith, omega arith)
 
-pub after-below : (n b : ℕ) → b < n → after n b < n
+pub after-below : (n b : ℕ) → b < n → blockAfter n b < n
 after-below n b h = ⊎-elim (λ y. omega (arith, y .0, y .1)) (λ y. omega (arith, y .0, y .1)) (next n b h)
 
 -- In every fit state, a task whose next line is 4 finds an unused block.
@@ -105,4 +105,4 @@ one-is-unused s p t e l g =
     let test = nth (fitTests s p) e in
     let enough = blocks-true (s .tasks) (s .cells) (s .blocks) (length p) (test 2) .0 in
     let free = gap (used s) (s .blocks) (few s t enough l g) in
-    round s (free .0) (free .1) (free .2) (after (s .blocks) (s .last)) (after-below (s .blocks) (s .last) (ltb-true _ _ (test 4)))
+    round s (free .0) (free .1) (free .2) (blockAfter (s .blocks) (s .last)) (after-below (s .blocks) (s .last) (ltb-true _ _ (test 4)))

@@ -47,16 +47,16 @@ holderSearchOf (Unused n) = (false, n)
 -- THE SEARCH FOR AN UNUSED BLOCK
 
 -- the block after b, going round after the last
-abbrev pub after : ℕ → ℕ → ℕ
-after blocks b = cond (eqb (b + 1) blocks) 0 (b + 1)
+abbrev pub blockAfter : ℕ → ℕ → ℕ
+blockAfter blocks b = cond (eqb (b + 1) blocks) 0 (b + 1)
 
 -- the first unused of k blocks going upward from b, if there is one
 abbrev pub unusedFrom : State → ℕ → ℕ → Option ℕ
 unusedFrom s b zero = none
-unusedFrom s b (suc k) = cond (used s b) (unusedFrom s (after (s .blocks) b) k) (some b)
+unusedFrom s b (suc k) = cond (used s b) (unusedFrom s (blockAfter (s .blocks) b) k) (some b)
 
 unfoldable pub unused : State → Option ℕ
-unused s = unusedFrom s (after (s .blocks) (s .last)) (s .blocks)
+unused s = unusedFrom s (blockAfter (s .blocks) (s .last)) (s .blocks)
 
 -- what line 4 asks about b: whether one of the first cells names it, and if none does, the tasks' records
 unfoldable pub blockSearch : State → ℕ → ℕ → Bool × ℕ
@@ -65,7 +65,7 @@ blockSearch s cells b = cond (anyFrom (λ k. eqb (getD (s .current) k 0) b) 0 ce
 -- b, then up to k blocks after it, until one is unused: the block asked about last, with its search
 abbrev pub asked : State → ℕ → ℕ → ℕ → ℕ × (Bool × ℕ)
 asked s cells b zero = (b, blockSearch s cells b)
-asked s cells b (suc k) = cond (blockSearch s cells b .0) (asked s cells (after (s .blocks) b) k) (b, blockSearch s cells b)
+asked s cells b (suc k) = cond (blockSearch s cells b .0) (asked s cells (blockAfter (s .blocks) b) k) (b, blockSearch s cells b)
 
 -- whether there is a place for each task and each cell, and a block to start from: so in a fit state
 abbrev pub searchable : State → Bool

@@ -4,7 +4,7 @@ ghost use lib.Dec.{eqb};
 ghost use lib.ListN.{getD};
 ghost use Prim.Native.Nat.{_≤_, _<_};
 ghost use Rattle.lines.specs.Basics.{anyFrom};
-ghost use Rattle.blocks.specs.Blocks.{usesBlock, holderSearch, holderSearchOf, after, asked, found, foundOf};
+ghost use Rattle.blocks.specs.Blocks.{usesBlock, holderSearch, holderSearchOf, blockAfter, asked, found, foundOf};
 use lines::Record;
 use questions::State;
 
@@ -56,7 +56,7 @@ fn uses_block(r: Record, b: u32) -> bool
 
 fn block_after(blocks: u32, b: u32) -> u32
     requires { ⌜ b < blocks ⌝ }
-    ensures { λ r. ⌜ r ≡ after blocks b ⌝ }
+    ensures { λ r. ⌜ r ≡ blockAfter blocks b ⌝ }
 {
     if b + 1 == blocks { 0 } else { b + 1 }
 }

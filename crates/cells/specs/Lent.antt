@@ -15,11 +15,11 @@ isRefused o = not (acts o)
 
 -- what the entry leaves and answers, and the lent record
 pub record Lent : Type 0 where
-  pub after : After
+  pub entry : After
   pub «record» : Record
 
 abbrev pub lent : After → Record → Lent
-lent a r = record { after = a; «record» = r }
+lent a r = record { entry = a; «record» = r }
 
 -- refused: all as handed in, the state without the lent record; otherwise the lent record is the state's
 unfoldable pub steppedLent : State → List ℕ → (task : ℕ) → Record → Lent

@@ -23,7 +23,7 @@ use Rattle.consensus.specs.declared.OnceState.{OnceState}
 use Rattle.consensus.specs.Figure.{stageOf, GoesOn, idleOffer, Leaves, withStep, leaves}
 use Rattle.consensus.specs.Questions.{offerAt, freshCell, onceAt, hasOffered, isIdleOffer, isStep, offerTests, offerFit, offersFit, onceFit, offerQuestions, turnQuestions}
 use Rattle.consensus.specs.Entries.{OnceAfter, onceAfter, orRefused, replaced, noted, firstOffer, offerBegun, storedBack, onceStepped}
-use Rattle.consensus.specs.History.{Move, offer, step, MoveEvent, refused, begun, offerEvent, stepEvent, once, OnceCall, OnceCalls, tallied, tally}
+use Rattle.consensus.specs.History.{Move, offer, step, MoveEvent, refused, admitted, offerEvent, stepEvent, once, OnceCall, OnceCalls, tallied, tally}
 use Rattle.consensus.specs.Consensus.{May}
 use Rattle.consensus.proofs.Classes.{busy, lies-in}
 use Rattle.consensus.proofs.Invariant as I
@@ -59,7 +59,7 @@ is-not n h = go (eqb n noValue) refl
     go false e = refl
 
 module _ (s : OnceState) (b : OnceCalls) (S : Stands s b) where
-  fits : (t : ℕ) (o : Option OnceCall) → b .pending t ≡ o → Doing (s .tasks) (s .cells) (b .begun) t o (offerAt s t) → offerFit (offerAt s t) (s .cells) ≡ true
+  fits : (t : ℕ) (o : Option OnceCall) → b .pending t ≡ o → Doing (s .tasks) (s .cells) (b .ids) t o (offerAt s t) → offerFit (offerAt s t) (s .cells) ≡ true
   unfolding offerFit
   fits t none e d = rw d refl
   fits t (some c) e P =
@@ -79,7 +79,7 @@ module _ (s : OnceState) (b : OnceCalls) (S : Stands s b) where
   is-fit = rw (S .tasks-ok, S .cells-ok, all-from (λ t. offerFit (offerAt s t) (s .cells)) 0 (s .tasks) (λ t l h. fits t (b .pending t) refl (S .sound .each-task t))) refl
 
   -- A REFUSED MOVE changes nothing but the next one's number
-  passes : (n v : ℕ) (cells : ℕ → OnceCell) (offers : ℕ → Offer) → Sound n v cells offers b → Sound n v cells offers (tallied b (b .begun) (b .pending) (b .finished))
+  passes : (n v : ℕ) (cells : ℕ → OnceCell) (offers : ℕ → Offer) → Sound n v cells offers b → Sound n v cells offers (tallied b (b .ids) (b .pending) (b .finished))
   passes n v cells offers G = record {
     each-cell = G .each-cell;
     each-task = G .each-task;
@@ -88,7 +88,7 @@ module _ (s : OnceState) (b : OnceCalls) (S : Stands s b) where
     one-offer = G .one-offer;
   }
 
-  stays : Stands s (tallied b (b .begun) (b .pending) (b .finished))
+  stays : Stands s (tallied b (b .ids) (b .pending) (b .finished))
   stays = record { sound = passes (s .tasks) (s .cells) (onceAt s) (offerAt s) (S .sound); tasks-ok = S .tasks-ok; cells-ok = S .cells-ok; words-16 = S .words-16; offers-32 = S .offers-32 }
 
   few-tasks : s .tasks ≤ 32
@@ -125,7 +125,7 @@ module _ (s : OnceState) (b : OnceCalls) (S : Stands s b) where
   -- what a move gives, and what holds after it
   pub record Acts (a : Move) (x : OnceState × MoveEvent) : Type 0 where
     pub may : May (s .cells) b a (x .1)
-    pub after : Stands (x .0) (tally b a (x .1))
+    pub stands : Stands (x .0) (tally b a (x .1))
     pub same-size : x .0 .cells ≡ s .cells
 
   -- A BEGIN
@@ -139,9 +139,9 @@ module _ (s : OnceState) (b : OnceCalls) (S : Stands s b) where
     begun-is o e = rw (is-fit, e) refl
 
     begins : (o : Option ℕ) → refusal qs ≡ o → Acts (offer t k w) (once s (offer t k w))
-    begins (some n) e = subst (λ (y : OnceAfter). Acts (offer t k w) (y .state, offerEvent (y .gives))) (sym (begun-is (some n) e)) (record { may = tt; after = stays; same-size = refl })
+    begins (some n) e = subst (λ (y : OnceAfter). Acts (offer t k w) (y .state, offerEvent (y .gives))) (sym (begun-is (some n) e)) (record { may = tt; stands = stays; same-size = refl })
     begins none e = subst (λ (y : OnceAfter). Acts (offer t k w) (y .state, offerEvent (y .gives))) (sym (begun-is none e))
-        (record { may = (was-idle (s .tasks) (s .cells) (onceAt s) (offerAt s) b (S .sound) t k w lt few-tasks lk is-idle new some-w .0, lk); after = replaces k (noted (onceAt s k) t) t (firstOffer k w) (tally b (offer t k w) begun) lk lt (begins-sound (s .tasks) (s .cells) (onceAt s) (offerAt s) b (S .sound) t k w lt few-tasks lk is-idle new some-w); same-size = refl })
+        (record { may = (was-idle (s .tasks) (s .cells) (onceAt s) (offerAt s) b (S .sound) t k w lt few-tasks lk is-idle new some-w .0, lk); stands = replaces k (noted (onceAt s k) t) t (firstOffer k w) (tally b (offer t k w) admitted) lk lt (begins-sound (s .tasks) (s .cells) (onceAt s) (offerAt s) b (S .sound) t k w lt few-tasks lk is-idle new some-w); same-size = refl })
       where
         lt : t < s .tasks
         lt = ltb-true t (s .tasks) (yes-to qs e 7)
@@ -175,7 +175,7 @@ module _ (s : OnceState) (b : OnceCalls) (S : Stands s b) where
     stepped-is o e = rw (is-fit, e) refl
 
     -- a pending call's step is not refused
-    goes-through : (c : OnceCall) → Pends (s .tasks) (s .cells) (b .begun) t c r → refusal ts ≡ none
+    goes-through : (c : OnceCall) → Pends (s .tasks) (s .cells) (b .ids) t c r → refusal ts ≡ none
     goes-through c P = rw (lt-ltb t (s .tasks) (P .low-task), not-idle (isIdleOffer r) refl) refl
       where
         not-idle : (i : Bool) → isIdleOffer r ≡ i → isIdleOffer r ≡ false
@@ -185,24 +185,24 @@ module _ (s : OnceState) (b : OnceCalls) (S : Stands s b) where
     no-call : (n : ℕ) → refusal ts ≡ some n → b .pending t ≡ none
     no-call n e = go (b .pending t) (S .sound .each-task t)
       where
-        go : (o : Option OnceCall) → Doing (s .tasks) (s .cells) (b .begun) t o r → o ≡ none
+        go : (o : Option OnceCall) → Doing (s .tasks) (s .cells) (b .ids) t o r → o ≡ none
         go none d = refl
         go (some c) d = absurd (clash (goes-through c d) e)
 
     steps : (o : Option ℕ) → refusal ts ≡ o → Acts (step t) (once s (step t))
-    steps (some n) e = subst (λ (y : OnceAfter). Acts (step t) (y .state, stepEvent (stageOf r) (y .gives))) (sym (stepped-is (some n) e)) (record { may = no-call n e; after = stays; same-size = refl })
+    steps (some n) e = subst (λ (y : OnceAfter). Acts (step t) (y .state, stepEvent (stageOf r) (y .gives))) (sym (stepped-is (some n) e)) (record { may = no-call n e; stands = stays; same-size = refl })
     steps none e = subst (λ (y : OnceAfter). Acts (step t) (y .state, stepEvent (stageOf r) (y .gives))) (sym (stepped-is none e))
-        (let p = busy-offer (s .tasks) (s .cells) (b .begun) t (b .pending t) r (S .sound .each-task t) (not-true (isIdleOffer r) (yes-to ts e 11)) in
+        (let p = busy-offer (s .tasks) (s .cells) (b .ids) t (b .pending t) r (S .sound .each-task t) (not-true (isIdleOffer r) (yes-to ts e 11)) in
         acted (p .0) (p .1) (p .2))
       where
         may-go : (c : OnceCall) → b .pending t ≡ some c → (y : Leaves) → Leads (stageOf r) (withStep r) (onceAt s (r .cell)) y → May (s .cells) b (step t) (stepEvent (stageOf r) (y .gives))
         may-go c h y (goes m′ n w o f) = rw h tt
         may-go c h y (ends m′ w o f) = rw h tt
 
-        acted : (c : OnceCall) → b .pending t ≡ some c → Pends (s .tasks) (s .cells) (b .begun) t c r → Acts (step t) (replaced s (r .cell) (x .cell) t (x .offer), stepEvent (stageOf r) (x .gives))
+        acted : (c : OnceCall) → b .pending t ≡ some c → Pends (s .tasks) (s .cells) (b .ids) t c r → Acts (step t) (replaced s (r .cell) (x .cell) t (x .offer), stepEvent (stageOf r) (x .gives))
         acted c h P = record {
           may = may-go c h x (leads (stageOf r) t (withStep r) (onceAt s (r .cell)) (way-busy (stageOf r) (c .done) (P .way)));
-          after = replaces (r .cell) (x .cell) t (x .offer) (tally b (step t) (stepEvent (stageOf r) (x .gives))) (P .low-cell) (P .low-task) (step-sound (s .tasks) (s .cells) (onceAt s) (offerAt s) b (S .sound) t c h P);
+          stands = replaces (r .cell) (x .cell) t (x .offer) (tally b (step t) (stepEvent (stageOf r) (x .gives))) (P .low-cell) (P .low-task) (step-sound (s .tasks) (s .cells) (onceAt s) (offerAt s) b (S .sound) t c h P);
           same-size = refl;
         }
 

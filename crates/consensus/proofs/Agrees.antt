@@ -19,7 +19,7 @@ use Rattle.consensus.specs.declared.OnceState.{OnceState}
 use Rattle.consensus.specs.Figure.{stageOf, idleOffer}
 use Rattle.consensus.specs.Questions.{offerAt, onceAt, openOnce}
 use Rattle.consensus.specs.Entries.{onceOpened, onceStart}
-use Rattle.consensus.specs.History.{Move, step, MoveEvent, refused, begun, did, ended, once, OnceCall, OnceFinished, OnceCalls, noOffers, steps, hard, goneOn, wentOn, finishing, tally, tallyAll, offersOf, IsCall, finished, pending}
+use Rattle.consensus.specs.History.{Move, step, MoveEvent, refused, admitted, did, ended, once, OnceCall, OnceFinished, OnceCalls, noOffers, steps, hard, goneOn, wentOn, finishing, tally, tallyAll, offersOf, IsCall, finished, pending}
 use Rattle.consensus.specs.Consensus.{cellOf, Lone, Consensus, May, AllMay, RightOnce, OnceEnds}
 use Rattle.consensus.proofs.Classes.{tries}
 use Rattle.consensus.proofs.Lone.{Company, nobody, first, settled, crowded, Company-is}
@@ -31,15 +31,15 @@ use Rattle.consensus.proofs.Acts.{Stands, acts}
 -- WHAT HOLDS OF THE CALLS
 
 module _ (s : OnceState) (b : OnceCalls) (S : Sound (s .tasks) (s .cells) (onceAt s) (offerAt s) b) where
-  its : (t : ℕ) (c : OnceCall) → b .pending t ≡ some c → Pends (s .tasks) (s .cells) (b .begun) t c (offerAt s t)
-  its t c h = subst (λ o. Doing (s .tasks) (s .cells) (b .begun) t o (offerAt s t)) h (S .each-task t)
+  its : (t : ℕ) (c : OnceCall) → b .pending t ≡ some c → Pends (s .tasks) (s .cells) (b .ids) t c (offerAt s t)
+  its t c h = subst (λ o. Doing (s .tasks) (s .cells) (b .ids) t o (offerAt s t)) h (S .each-task t)
 
   module _ (f : OnceFinished) (is-in : f ∈ b .finished) (lone : Lone b f) where
     abbrev k : ℕ
     k = cellOf (f .call)
 
     -- where a call ended alone, nobody has tried, and nobody will
-    no-attempt : (c : OnceCall) → IsCall b c → cellOf c ≡ k → (d : Company) → Company-is d (onceAt s k) (on (offerAt s) k) → CallsOn d k (b .begun) (b .finished) → hard c ≡ 0
+    no-attempt : (c : OnceCall) → IsCall b c → cellOf c ≡ k → (d : Company) → Company-is d (onceAt s k) (on (offerAt s) k) → CallsOn d k (b .ids) (b .finished) → hard c ≡ 0
     no-attempt c i on-k nobody is h = absurd (h .1 f is-in refl)
     no-attempt c i on-k (first p) is h = absurd (h .1 f is-in refl)
     no-attempt c (finished g x) on-k settled is h = h g x on-k
@@ -68,12 +68,12 @@ module _ (s : OnceState) (b : OnceCalls) (S : Sound (s .tasks) (s .cells) (onceA
 
 stands-after : (l : List Move) (s : OnceState) (b : OnceCalls) → Stands s b → Stands (run once s l) (tallyAll b (history once s l))
 stands-after [] s b S = S
-stands-after (a ∷ l) s b S = stands-after l (once s a .0) (tally b a (once s a .1)) (acts s b S a .after)
+stands-after (a ∷ l) s b S = stands-after l (once s a .0) (tally b a (once s a .1)) (acts s b S a .stands)
 
 all-may : (l : List Move) (s : OnceState) (b : OnceCalls) (size : ℕ) → s .cells ≡ size → Stands s b → AllMay size b (history once s l)
 all-may [] s b size e S = tt
 all-may (a ∷ l) s b size e S = let A = acts s b S a in
-    (subst (λ n. May n b a (once s a .1)) e (A .may), all-may l (once s a .0) (tally b a (once s a .1)) size (A .same-size ∙ e) (A .after))
+    (subst (λ n. May n b a (once s a .1)) e (A .may), all-may l (once s a .0) (tally b a (once s a .1)) size (A .same-size ∙ e) (A .stands))
 
 -- FROM ANYWHERE A CALL ENDS
 
@@ -91,14 +91,14 @@ record Within (s : OnceState) (b : OnceCalls) (t : ℕ) (c : OnceCall) (few : �
 -- each further step is accepted, and the bound leaves room for no more than k that do not end the call
 ends-from : (k : ℕ) (s : OnceState) (b : OnceCalls) → Stands s b → (t : ℕ) (c : OnceCall) → b .pending t ≡ some c → 10 ≤ steps c + k → Within s b t c k
 ends-from zero s b S t c h m = absurd (omega (arith, calls-agree s b (S .sound) .few-pending t c h .0))
-ends-from (suc k) s b S t c h m = go (once s (step t) .1) refl (acts s b S (step t) .may) (ends-from k (once s (step t) .0) (tally b (step t) (once s (step t) .1)) (acts s b S (step t) .after) t)
+ends-from (suc k) s b S t c h m = go (once s (step t) .1) refl (acts s b S (step t) .may) (ends-from k (once s (step t) .0) (tally b (step t) (once s (step t) .1)) (acts s b S (step t) .stands) t)
   where
     b′ : OnceCalls
     b′ = tally b (step t) (once s (step t) .1)
 
     go : (e : MoveEvent) → once s (step t) .1 ≡ e → May (s .cells) b (step t) e → ((d : OnceCall) → b′ .pending t ≡ some d → 10 ≤ steps d + k → Within (once s (step t) .0) b′ t d k) → Within s b t c (suc k)
     go (refused n) e y rec = absurd (clash y h)
-    go begun e y rec = absurd y
+    go admitted e y rec = absurd y
     go (did ℓ) e y rec =
         let r = rec (goneOn b ℓ c) (ap (λ e. tally b (step t) e .pending t) e ∙ (upd-same (b .pending) t (wentOn b ℓ (b .pending t)) ∙ ap (wentOn b ℓ) h)) (omega (arith, length-append (c .done) (ℓ ∷ []))) in
         record { more = suc (r .more); at-most = omega (arith, r .at-most); end = r .end; is-finished = r .is-finished; is = r .is }

@@ -17,7 +17,7 @@ use Rattle.consensus.specs.declared.Offer.{Offer}
 use Rattle.consensus.specs.Figure.{writeX, idleOffer}
 use Rattle.consensus.specs.Questions.{isIdleOffer, hasOffered}
 use Rattle.consensus.specs.Entries.{firstOffer, noted}
-use Rattle.consensus.specs.History.{offer, begun, OnceId, OnceCall, OnceCalls, idOf, tally}
+use Rattle.consensus.specs.History.{offer, admitted, OnceId, OnceCall, OnceCalls, idOf, tally}
 use Rattle.consensus.proofs.Invariant as I
 use Rattle.consensus.proofs.Invariant.{Inv, finish}
 use Rattle.consensus.proofs.Keeping.{no-eq, no-T, no-winner}
@@ -39,7 +39,7 @@ module _ (n v : ℕ) (cells : ℕ → OnceCell) (offers : ℕ → Offer) (b : On
   i₀ = idOf b t k w
 
   abbrev B : List OnceId
-  B = b .begun
+  B = b .ids
 
   pub was-idle : (b .pending t ≡ none) × (offers t ≡ idleOffer)
   was-idle = idle-offer n v B t (b .pending t) (offers t) (S .each-task t) is-idle
@@ -126,7 +126,7 @@ module _ (n v : ℕ) (cells : ℕ → OnceCell) (offers : ℕ → Offer) (b : On
   more u none r d = d
   more u (some c) r d = record { low-task = d .low-task; low-cell = d .low-cell; on-cell = d .on-cell; way = d .way; all-steps = d .all-steps; all-hard = d .all-hard; is-begun = inr (d .is-begun) }
 
-  its-task : (u : ℕ) → (u ≡ t) ⊎ (u ≢ t) → Doing n v (i₀ ∷ B) u (tally b (offer t k w) begun .pending u) (offers′ u)
+  its-task : (u : ℕ) → (u ≡ t) ⊎ (u ≢ t) → Doing n v (i₀ ∷ B) u (tally b (offer t k w) admitted .pending u) (offers′ u)
   its-task u (inl e) = rw (upd-at (b .pending) t (some (record { start = i₀; last = b .now; done = [] })) u e, upd-at offers t (firstOffer k w) u e, e)
       (record { low-task = low-task; low-cell = low-cell; on-cell = refl; way = inl refl; all-steps = refl; all-hard = refl; is-begun = inl refl })
   its-task u (inr ne) = rw (upd-off (b .pending) t (some (record { start = i₀; last = b .now; done = [] })) u ne, upd-off offers t (firstOffer k w) u ne) (more u (b .pending u) (offers u) (S .each-task u))
@@ -144,7 +144,7 @@ module _ (n v : ℕ) (cells : ℕ → OnceCell) (offers : ℕ → Offer) (b : On
   one i j (inr x) (inl e) et ek = absurd (clash-new i x (et ∙ ap (λ (i : OnceId). i .task) e) (ek ∙ ap (λ (i : OnceId). i .cell) e))
   one i j (inr x) (inr x′) et ek = S .one-offer i j x x′ et ek
 
-  pub begins-sound : Sound n v cells′ offers′ (tally b (offer t k w) begun)
+  pub begins-sound : Sound n v cells′ offers′ (tally b (offer t k w) admitted)
   begins-sound = record {
     each-cell = λ j. cell j (either j k);
     each-task = λ u. its-task u (either u t);

@@ -40,30 +40,30 @@ Company-is crowded m task = Unit {0}
 
 -- A STEP
 
-abbrev pub stepped : Company → Given → Company
-stepped nobody g = nobody
-stepped (first p) (Refuses n) = first p
-stepped (first p) GoesOn = first p
-stepped (first p) (Ends a) = settled
-stepped settled g = settled
-stepped crowded g = crowded
+abbrev pub companyAfter : Company → Given → Company
+companyAfter nobody g = nobody
+companyAfter (first p) (Refuses n) = first p
+companyAfter (first p) GoesOn = first p
+companyAfter (first p) (Ends a) = settled
+companyAfter settled g = settled
+companyAfter crowded g = crowded
 
 module _ (m : OnceCell) (task : ℕ → Offer) (p : ℕ) where
   abbrev r : Offer
   r = withStep (task p)
 
-  abbrev After : Company → Leaves → Type 0
-  After c x = Company-is (stepped c (x .gives)) (x .cell) (upd task p (x .offer))
+  abbrev Afterwards : Company → Leaves → Type 0
+  Afterwards c x = Company-is (companyAfter c (x .gives)) (x .cell) (upd task p (x .offer))
 
   module _ (others : (u : ℕ) → u ≢ p → stageOf (task u) ≡ nowhere) where
     still : (q : Offer) (u : ℕ) → u ≢ p → stageOf (upd task p q u) ≡ nowhere
     still q u ne = rw (upd-off task p q u ne) (others u ne)
 
-    runs-on : (m′ : OnceCell) (ℓ : Stage) (n w : ℕ) → stageOf (goOn m′ r n w .offer) ≡ ℓ → Runs p (m′ .x) (m′ .y) (m′ .c) ℓ → After (first p) (goOn m′ r n w)
+    runs-on : (m′ : OnceCell) (ℓ : Stage) (n w : ℕ) → stageOf (goOn m′ r n w .offer) ≡ ℓ → Runs p (m′ .x) (m′ .y) (m′ .c) ℓ → Afterwards (first p) (goOn m′ r n w)
     runs-on m′ ℓ n w e o = (still (goOn m′ r n w .offer), rw (upd-same task p (goOn m′ r n w .offer), e) o)
 
     -- alone it finds Y false, its own number in X, and C false
-    first-step : (ℓ : Stage) → task p .value ≢ none → Runs p (m .x) (m .y) (m .c) ℓ → After (first p) (does ℓ p r m)
+    first-step : (ℓ : Stage) → task p .value ≢ none → Runs p (m .x) (m .y) (m .c) ℓ → Afterwards (first p) (does ℓ p r m)
     first-step writeX s o = runs-on (putX m p) readY 2 (r .value) refl (record { alone = tt; own-x = λ a. refl; clear-y = λ a. o .clear-y tt; clear-c = o .clear-c })
     first-step readY s o = rw (eq-eqb (m .y) 0 (o .clear-y tt)) (runs-on m writeY 3 (r .value) refl (record { alone = tt; own-x = λ a. o .own-x tt; clear-y = λ a. o .clear-y tt; clear-c = o .clear-c }))
     first-step writeY s o = runs-on (putY m 1) readX 4 (r .value) refl (record { alone = tt; own-x = λ a. o .own-x tt; clear-y = λ a. absurd a; clear-c = o .clear-c })
@@ -98,12 +98,12 @@ module _ (m : OnceCell) (task : ℕ → Offer) (p : ℕ) where
       go true z = subst (λ ℓ. T (not (tries (stageOf (does ℓ p r m .offer))))) (sym (same-number ℓ lookD (eqb-true (number ℓ) 11 z))) (at-look s)
       go false z = by-lead (does ℓ p r m) l (rw z tt)
 
-  pub company-step : (c : Company) (ℓ : Stage) → stageOf (task p) ≡ ℓ → T (busy ℓ) → task p .value ≢ none → (m .d ≢ none → does ℓ p r m .cell .d ≡ m .d) → Company-is c m task → After c (does ℓ p r m)
+  pub company-step : (c : Company) (ℓ : Stage) → stageOf (task p) ≡ ℓ → T (busy ℓ) → task p .value ≢ none → (m .d ≢ none → does ℓ p r m .cell .d ≡ m .d) → Company-is c m task → Afterwards c (does ℓ p r m)
   company-step nobody ℓ e b s d h = absurd (subst (λ ℓ. T (busy ℓ)) (sym e ∙ h .0 p) b)
   company-step (first q) ℓ e b s d h = go (either p q)
     where
-      go : (p ≡ q) ⊎ (p ≢ q) → After (first q) (does ℓ p r m)
-      go (inl z) = subst (λ q. After (first q) (does ℓ p r m)) z
+      go : (p ≡ q) ⊎ (p ≢ q) → Afterwards (first q) (does ℓ p r m)
+      go (inl z) = subst (λ q. Afterwards (first q) (does ℓ p r m)) z
           (first-step (λ u ne. h .0 u (λ x. ne (x ∙ sym z))) ℓ s (subst (λ ℓ. Runs p (m .x) (m .y) (m .c) ℓ) e (subst (λ q. Runs q (m .x) (m .y) (m .c) (stageOf (task q))) (sym z) (h .1))))
       go (inr ne) = absurd (subst (λ ℓ. T (busy ℓ)) (sym e ∙ h .0 p ne) b)
   company-step settled ℓ e b s d h = (

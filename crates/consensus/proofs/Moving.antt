@@ -22,12 +22,12 @@ use Rattle.consensus.specs.Consensus.{cellOf}
 use Rattle.consensus.proofs.Classes.{busy, tries}
 use Rattle.consensus.proofs.Invariant as I
 use Rattle.consensus.proofs.Keeping.{Kept, keeps}
-use Rattle.consensus.proofs.Lone.{Company, nobody, first, settled, crowded, Company-is, stepped, company-step, lone-calm}
+use Rattle.consensus.proofs.Lone.{Company, nobody, first, settled, crowded, Company-is, companyAfter, company-step, lone-calm}
 use Rattle.consensus.proofs.Ways.{Leads, goes, ends, leads, goes-way, ends-path, path-row, way-busy, way-calm, flag-counts}
 use Rattle.consensus.proofs.Sound.{on, OfferedOn, CallsOn, CellSound, Pends, Doing, Ended, Sound, ends-elsewhere}
 
 module _ (n v : ℕ) (cells : ℕ → OnceCell) (offers : ℕ → Offer) (b : OnceCalls) (S : Sound n v cells offers b)
-    (t : ℕ) (c : OnceCall) (pending : b .pending t ≡ some c) (P : Pends n v (b .begun) t c (offers t)) where
+    (t : ℕ) (c : OnceCall) (pending : b .pending t ≡ some c) (P : Pends n v (b .ids) t c (offers t)) where
   abbrev r : Offer
   r = offers t
 
@@ -44,7 +44,7 @@ module _ (n v : ℕ) (cells : ℕ → OnceCell) (offers : ℕ → Offer) (b : On
   task = on offers k
 
   abbrev B : List OnceId
-  B = b .begun
+  B = b .ids
 
   abbrev C : CellSound k m task B (b .finished)
   C = S .each-cell k
@@ -56,7 +56,7 @@ module _ (n v : ℕ) (cells : ℕ → OnceCell) (offers : ℕ → Offer) (b : On
   mine = on-in (λ (r : Offer). r .cell) idleOffer offers k t refl
 
   abbrev Holds : Leaves → Type 0
-  Holds x = Kept (OfferedOn B k) m task t x × Company-is (stepped (C .company) (x .gives)) (x .cell) (upd task t (x .offer))
+  Holds x = Kept (OfferedOn B k) m task t x × Company-is (companyAfter (C .company) (x .gives)) (x .cell) (upd task t (x .offer))
 
   held : Holds (does ℓ t (withStep (task t)) m)
   held =
@@ -67,11 +67,11 @@ module _ (n v : ℕ) (cells : ℕ → OnceCell) (offers : ℕ → Offer) (b : On
   holds : Holds (leaves t r m)
   holds = subst (λ q. Holds (does ℓ t (withStep q) m)) mine held
 
-  goes-stepped : (d : Company) → stepped d GoesOn ≡ d
-  goes-stepped nobody = refl
-  goes-stepped (first p) = refl
-  goes-stepped settled = refl
-  goes-stepped crowded = refl
+  same-company : (d : Company) → companyAfter d GoesOn ≡ d
+  same-company nobody = refl
+  same-company (first p) = refl
+  same-company settled = refl
+  same-company crowded = refl
 
   -- THE CELL
 
@@ -89,7 +89,7 @@ module _ (n v : ℕ) (cells : ℕ → OnceCell) (offers : ℕ → Offer) (b : On
     fast = H .0 .fast;
     company = C .company;
     inv = H .0 .inv;
-    company-is = subst (λ d. Company-is d (x .cell) (upd task t (x .offer))) (ap (stepped (C .company)) g ∙ goes-stepped (C .company)) (H .1);
+    company-is = subst (λ d. Company-is d (x .cell) (upd task t (x .offer))) (ap (companyAfter (C .company)) g ∙ same-company (C .company)) (H .1);
     calls-on = C .calls-on;
     agreed = kept-agreed x H o;
     noted-all = kept-notes x H o;
@@ -108,7 +108,7 @@ module _ (n v : ℕ) (cells : ℕ → OnceCell) (offers : ℕ → Offer) (b : On
     calm : T (not (tries ℓ)) → hard (f₀ .call) ≡ 0
     calm = way-calm ℓ (c .done) (P .way)
 
-    calls : (d : Company) → Company-is d m task → CallsOn d k B (b .finished) → CallsOn (stepped d (Ends a)) k B (f₀ ∷ b .finished)
+    calls : (d : Company) → Company-is d m task → CallsOn d k B (b .finished) → CallsOn (companyAfter d (Ends a)) k B (f₀ ∷ b .finished)
     calls nobody is h = absurd (subst (λ ℓ. T (busy ℓ)) (sym (ap stageOf mine) ∙ is .0 t) is-busy)
     calls (first p) is h = all-ended (λ f. hard (f .call) ≡ 0) (calm (subst (λ q. T (not (tries (stageOf q)))) mine (lone-calm m task t p (rw mine is-busy) is))) (λ f i e. absurd (h .1 f i e))
     calls settled is h = all-ended (λ f. hard (f .call) ≡ 0) (calm (subst (λ q. T (not (tries (stageOf q)))) mine (is .1 t))) h
@@ -127,9 +127,9 @@ module _ (n v : ℕ) (cells : ℕ → OnceCell) (offers : ℕ → Offer) (b : On
     here-ends x g H o d = record {
       winner = H .0 .winner;
       fast = H .0 .fast;
-      company = stepped (C .company) (Ends a);
+      company = companyAfter (C .company) (Ends a);
       inv = H .0 .inv;
-      company-is = subst (λ g. Company-is (stepped (C .company) g) (x .cell) (upd task t (x .offer))) g (H .1);
+      company-is = subst (λ g. Company-is (companyAfter (C .company) g) (x .cell) (upd task t (x .offer))) g (H .1);
       calls-on = calls (C .company) (C .company-is) (C .calls-on);
       agreed = all-ended (λ f. (f .agreed .value ≡ x .cell .d) × (x .cell .d ≢ I.none)) d (kept-agreed x H o);
       noted-all = kept-notes x H o;

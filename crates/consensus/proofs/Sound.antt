@@ -87,11 +87,11 @@ pub record Ended (now : ℕ) (B : List OnceId) (f : OnceFinished) : Type 0 where
 -- ALL OF IT
 
 pub record Sound (n v : ℕ) (cells : ℕ → OnceCell) (offers : ℕ → Offer) (b : OnceCalls) : Type 0 where
-  pub each-cell : (k : ℕ) → CellSound k (cells k) (on offers k) (b .begun) (b .finished)
-  pub each-task : (t : ℕ) → Doing n v (b .begun) t (b .pending t) (offers t)
-  pub each-end : (f : OnceFinished) → f ∈ b .finished → Ended (b .now) (b .begun) f
-  pub begun-before : (i : OnceId) → i ∈ b .begun → i .at < b .now
-  pub one-offer : (i j : OnceId) → i ∈ b .begun → j ∈ b .begun → i .task ≡ j .task → i .cell ≡ j .cell → i ≡ j
+  pub each-cell : (k : ℕ) → CellSound k (cells k) (on offers k) (b .ids) (b .finished)
+  pub each-task : (t : ℕ) → Doing n v (b .ids) t (b .pending t) (offers t)
+  pub each-end : (f : OnceFinished) → f ∈ b .finished → Ended (b .now) (b .ids) f
+  pub begun-before : (i : OnceId) → i ∈ b .ids → i .at < b .now
+  pub one-offer : (i j : OnceId) → i ∈ b .ids → j ∈ b .ids → i .task ≡ j .task → i .cell ≡ j .cell → i ≡ j
 
 -- WHAT GROWS
 

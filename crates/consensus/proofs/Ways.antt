@@ -85,8 +85,8 @@ lost = (writeX ∷ readY ∷ []) ∷ (writeX ∷ readY ∷ writeY ∷ readX ∷ 
 abbrev tested : List (List Stage)
 tested = each testV (each setC lost)
 
-abbrev looked : List (List Stage)
-looked = each loadV tested ++ (tested ++ ((writeX ∷ readY ∷ writeY ∷ readX ∷ storeV ∷ readC ∷ []) ∷ []))
+abbrev lookedAtD : List (List Stage)
+lookedAtD = each loadV tested ++ (tested ++ ((writeX ∷ readY ∷ writeY ∷ readX ∷ storeV ∷ readC ∷ []) ∷ []))
 
 abbrev pub ways : Stage → List (List Stage)
 ways writeX = [] ∷ []
@@ -99,9 +99,9 @@ ways storeD = (writeX ∷ readY ∷ writeY ∷ readX ∷ storeV ∷ readC ∷ []
 ways setC = lost
 ways testV = each setC lost
 ways loadV = tested
-ways lookD = looked
-ways casD = each lookD looked
-ways readD = each casD (each lookD looked)
+ways lookD = lookedAtD
+ways casD = each lookD lookedAtD
+ways readD = each casD (each lookD lookedAtD)
 ways nowhere = []
 
 abbrev sameStages : List Stage → List Stage → Bool

@@ -8,7 +8,7 @@ use Prim.Native.Nat.{ℕ, _≤_, _<_}
 use lib.ListN.{replicate}
 use Rattle.history.specs.Basics.{_∈_}
 use Rattle.history.specs.History.{history}
-use Rattle.consensus.specs.History.{Move, offer, step, MoveEvent, refused, begun, did, ended, OnceId, OnceCall, OnceFinished, OnceCalls, noOffers, steps, hard, tally, offersOf, IsCall}
+use Rattle.consensus.specs.History.{Move, offer, step, MoveEvent, refused, admitted, did, ended, OnceId, OnceCall, OnceFinished, OnceCalls, noOffers, steps, hard, tally, offersOf, IsCall}
 use Rattle.consensus.specs.Paths.{oncePaths, onceTable}
 
 abbrev pub cellOf : OnceCall → ℕ
@@ -25,14 +25,14 @@ pub record Reported (f : OnceFinished) : Type 0 where
 -- the value was offered on the call's cell by a call begun before the answer
 pub record Valid (b : OnceCalls) (f : OnceFinished) : Type 0 where
   pub by : OnceId
-  pub is-begun : by ∈ b .begun
+  pub is-begun : by ∈ b .ids
   pub there : by .cell ≡ cellOf (f .call)
   pub offers : by .value ≡ f .agreed .value
   pub before : by .at < f .call .last
 
 -- every other call on its cell began after it ended
 abbrev pub Lone : OnceCalls → OnceFinished → Type 0
-Lone b f = (i : OnceId) → i ∈ b .begun → i .cell ≡ cellOf (f .call) → i .at ≢ f .call .start .at → f .call .last < i .at
+Lone b f = (i : OnceId) → i ∈ b .ids → i .cell ≡ cellOf (f .call) → i .at ≢ f .call .start .at → f .call .last < i .at
 
 pub record Consensus (b : OnceCalls) : Type 0 where
   pub agreement : (f g : OnceFinished) → f ∈ b .finished → g ∈ b .finished → cellOf (f .call) ≡ cellOf (g .call) → f .agreed .value ≡ g .agreed .value
@@ -43,7 +43,7 @@ pub record Consensus (b : OnceCalls) : Type 0 where
   -- if one call ends before any other on its cell begins, no call on it attempts a hardware CAS, before or after
   pub no-hardware : (f : OnceFinished) → f ∈ b .finished → Lone b f → (c : OnceCall) → IsCall b c → cellOf c ≡ cellOf (f .call) → hard c ≡ 0
   -- a task offers once on a cell
-  pub one-offer : (i j : OnceId) → i ∈ b .begun → j ∈ b .begun → i .task ≡ j .task → i .cell ≡ j .cell → i ≡ j
+  pub one-offer : (i j : OnceId) → i ∈ b .ids → j ∈ b .ids → i .task ≡ j .task → i .cell ≡ j .cell → i ≡ j
 
 abbrev pub IsPending : Option OnceCall → Type 0
 IsPending none = ⊥
@@ -53,11 +53,11 @@ IsPending (some c) = Unit {0}
 -- no other step goes on or ends
 abbrev pub May : ℕ → OnceCalls → Move → MoveEvent → Type 0
 May size b (offer t k w) (refused n) = Unit {0}
-May size b (offer t k w) begun = (b .pending t ≡ none) × (k < size)
+May size b (offer t k w) admitted = (b .pending t ≡ none) × (k < size)
 May size b (offer t k w) (did ℓ) = ⊥
 May size b (offer t k w) (ended ℓ a) = ⊥
 May size b (step t) (refused n) = b .pending t ≡ none
-May size b (step t) begun = ⊥
+May size b (step t) admitted = ⊥
 May size b (step t) (did ℓ) = IsPending (b .pending t)
 May size b (step t) (ended ℓ a) = IsPending (b .pending t)
 

@@ -13,7 +13,7 @@ use Rattle.history.proofs.Basics.{clash}
 use Rattle.consensus.specs.Figure.{Stage, writeX, readY, writeY, readX, storeV, readC, storeD, setC, testV, loadV, lookD, casD, readD}
 use Rattle.consensus.specs.Questions.{offerFit, offersFit, onceFit}
 use Rattle.consensus.specs.Entries.{onceStart, offerBegun, onceStepped}
-use Rattle.consensus.specs.History.{Move, offer, step, MoveEvent, refused, begun, did, ended, once, OnceId, finished}
+use Rattle.consensus.specs.History.{Move, offer, step, MoveEvent, refused, admitted, did, ended, once, OnceId, finished}
 use Rattle.consensus.specs.Consensus.{RightOnce}
 
 -- CALLS WRITTEN OUT
@@ -24,7 +24,7 @@ did-all t (ℓ ∷ l) = (step t, did ℓ) ∷ did-all t l
 
 -- task t offers w on cell k, does the steps l and then its last one, and hands back a value with its counts
 abbrev pub call : (t k w : ℕ) → List Stage → Stage → (value steps hard : ℕ) → List (Move × MoveEvent)
-call t k w l z v n h = ((offer t k w, begun) ∷ did-all t l) ++ ((step t, ended z (record { cell = k; value = v; steps = n; hard = h })) ∷ [])
+call t k w l z v n h = ((offer t k w, admitted) ∷ did-all t l) ++ ((step t, ended z (record { cell = k; value = v; steps = n; hard = h })) ∷ [])
 
 abbrev pub alone : List Stage
 alone = writeX ∷ readY ∷ writeY ∷ readX ∷ storeV ∷ readC ∷ []
@@ -60,7 +60,7 @@ never-offered r = go (r .calls .validity _ (inl refl) .is-begun) (r .calls .vali
     go (inr x) z = x
 
 -- a value that was offered on another cell
-pub offered-elsewhere : RightOnce 2 ((offer 1 1 9, begun) ∷ call 0 0 7 alone storeD 9 7 0) → ⊥
+pub offered-elsewhere : RightOnce 2 ((offer 1 1 9, admitted) ∷ call 0 0 7 alone storeD 9 7 0) → ⊥
 unfolding Basics.upd
 offered-elsewhere r = go (r .calls .validity _ (inl refl) .is-begun) (r .calls .validity _ (inl refl) .there) (r .calls .validity _ (inl refl) .offers)
   where
@@ -95,12 +95,12 @@ unfolding Basics.upd
 invented-count r = let e : _≡_ {A = ℕ} 6 7 = r .calls .reported _ (inl refl) .all-steps in omega arith
 
 -- a second offer of a task on a cell
-pub second-offer : RightOnce 1 (call 0 0 7 alone storeD 7 7 0 ++ ((offer 0 0 7, begun) ∷ [])) → ⊥
+pub second-offer : RightOnce 1 (call 0 0 7 alone storeD 7 7 0 ++ ((offer 0 0 7, admitted) ∷ [])) → ⊥
 unfolding Basics.upd
 second-offer r = let e : _≡_ {A = ℕ} 8 0 = ap (λ (i : OnceId). i .at) (r .calls .one-offer _ _ (inl refl) (inr (inl refl)) refl refl) in omega arith
 
 -- a pending call's step that is refused
-pub refused-step : RightOnce 1 ((offer 0 0 7, begun) ∷ (step 0, refused 6) ∷ []) → ⊥
+pub refused-step : RightOnce 1 ((offer 0 0 7, admitted) ∷ (step 0, refused 6) ∷ []) → ⊥
 unfolding Basics.upd
 refused-step r = clash (r .well-formed .1 .0) refl
 
@@ -122,15 +122,15 @@ all l = map did l
 abbrev cases : List Case
 cases =
     -- an offer of none by a task that has offered there is refused by 16, since that is asked first
-    record { tasks = 1; cells = 1; list = (offer 0 0 7 ∷ replicate 7 (step 0)) ++ (offer 0 0 noValue ∷ []); events = (begun ∷ all alone) ++ (ended storeD (record { cell = 0; value = 7; steps = 7; hard = 0 }) ∷ refused 16 ∷ []) } ∷
+    record { tasks = 1; cells = 1; list = (offer 0 0 7 ∷ replicate 7 (step 0)) ++ (offer 0 0 noValue ∷ []); events = (admitted ∷ all alone) ++ (ended storeD (record { cell = 0; value = 7; steps = 7; hard = 0 }) ∷ refused 16 ∷ []) } ∷
     -- every refusal, in the order of the questions
-    record { tasks = 1; cells = 1; list = offer 1 1 noValue ∷ offer 0 1 noValue ∷ offer 0 0 noValue ∷ step 1 ∷ step 0 ∷ offer 0 0 7 ∷ offer 0 0 noValue ∷ []; events = refused 7 ∷ refused 8 ∷ refused 10 ∷ refused 7 ∷ refused 11 ∷ begun ∷ refused 9 ∷ [] } ∷
+    record { tasks = 1; cells = 1; list = offer 1 1 noValue ∷ offer 0 1 noValue ∷ offer 0 0 noValue ∷ step 1 ∷ step 0 ∷ offer 0 0 7 ∷ offer 0 0 noValue ∷ []; events = refused 7 ∷ refused 8 ∷ refused 10 ∷ refused 7 ∷ refused 11 ∷ admitted ∷ refused 9 ∷ [] } ∷
     -- two collide: the loser decides before the winner stores V, and the winner follows it
     record {
       tasks = 2;
       cells = 1;
       list = offer 0 0 7 ∷ offer 1 0 9 ∷ (replicate 4 (step 0) ++ (replicate 7 (step 1) ++ replicate 3 (step 0)));
-      events = begun ∷ begun ∷ did writeX ∷ did readY ∷ did writeY ∷ did readX ∷
+      events = admitted ∷ admitted ∷ did writeX ∷ did readY ∷ did writeY ∷ did readX ∷
           (all (writeX ∷ readY ∷ setC ∷ testV ∷ lookD ∷ casD ∷ []) ++ (ended readD (record { cell = 0; value = 9; steps = 7; hard = 1 }) ∷ did storeV ∷ did readC ∷ ended lookD (record { cell = 0; value = 9; steps = 7; hard = 0 }) ∷ []));
     } ∷ []
 

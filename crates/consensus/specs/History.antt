@@ -23,7 +23,7 @@ pub data Move : Type 0 where
 -- finished, with what it hands back
 pub data MoveEvent : Type 0 where
   refused : (number : ℕ) → MoveEvent
-  begun : MoveEvent
+  admitted : MoveEvent
   did : Stage → MoveEvent
   ended : Stage → Agreement → MoveEvent
 
@@ -31,8 +31,8 @@ pub data MoveEvent : Type 0 where
 
 abbrev pub offerEvent : Given → MoveEvent
 offerEvent (Refuses n) = refused n
-offerEvent GoesOn = begun
-offerEvent (Ends a) = begun
+offerEvent GoesOn = admitted
+offerEvent (Ends a) = admitted
 
 abbrev pub stepEvent : Stage → Given → MoveEvent
 stepEvent ℓ (Refuses n) = refused n
@@ -66,7 +66,7 @@ pub record OnceFinished : Type 0 where
 -- the next move's number, the calls begun, each task's pending call, the finished calls
 pub record OnceCalls : Type 0 where
   pub now : ℕ
-  pub begun : List OnceId
+  pub ids : List OnceId
   pub pending : ℕ → Option OnceCall
   pub finished : List OnceFinished
 
@@ -81,7 +81,7 @@ abbrev pub hard : OnceCall → ℕ
 hard c = attempts (c .done)
 
 abbrev pub noOffers : OnceCalls
-noOffers = record { now = 0; begun = []; pending = λ t. none; finished = [] }
+noOffers = record { now = 0; ids = []; pending = λ t. none; finished = [] }
 
 abbrev pub idOf : OnceCalls → (task cell value : ℕ) → OnceId
 idOf b t k w = record { at = b .now; task = t; cell = k; value = w }
@@ -98,16 +98,16 @@ finishing none a l = l
 finishing (some c) a l = record { call = c; agreed = a } ∷ l
 
 abbrev pub tallied : OnceCalls → List OnceId → (ℕ → Option OnceCall) → List OnceFinished → OnceCalls
-tallied b i p f = record { now = suc (b .now); begun = i; pending = p; finished = f }
+tallied b i p f = record { now = suc (b .now); ids = i; pending = p; finished = f }
 
 abbrev pub tally : OnceCalls → Move → MoveEvent → OnceCalls
-tally b m (refused n) = tallied b (b .begun) (b .pending) (b .finished)
-tally b (offer t k w) begun = tallied b (idOf b t k w ∷ b .begun) (upd (b .pending) t (some (record { start = idOf b t k w; last = b .now; done = [] }))) (b .finished)
-tally b (offer t k w) (did ℓ) = tallied b (b .begun) (b .pending) (b .finished)
-tally b (offer t k w) (ended ℓ a) = tallied b (b .begun) (b .pending) (b .finished)
-tally b (step t) begun = tallied b (b .begun) (b .pending) (b .finished)
-tally b (step t) (did ℓ) = tallied b (b .begun) (upd (b .pending) t (wentOn b ℓ (b .pending t))) (b .finished)
-tally b (step t) (ended ℓ a) = tallied b (b .begun) (upd (b .pending) t none) (finishing (wentOn b ℓ (b .pending t)) a (b .finished))
+tally b m (refused n) = tallied b (b .ids) (b .pending) (b .finished)
+tally b (offer t k w) admitted = tallied b (idOf b t k w ∷ b .ids) (upd (b .pending) t (some (record { start = idOf b t k w; last = b .now; done = [] }))) (b .finished)
+tally b (offer t k w) (did ℓ) = tallied b (b .ids) (b .pending) (b .finished)
+tally b (offer t k w) (ended ℓ a) = tallied b (b .ids) (b .pending) (b .finished)
+tally b (step t) admitted = tallied b (b .ids) (b .pending) (b .finished)
+tally b (step t) (did ℓ) = tallied b (b .ids) (upd (b .pending) t (wentOn b ℓ (b .pending t))) (b .finished)
+tally b (step t) (ended ℓ a) = tallied b (b .ids) (upd (b .pending) t none) (finishing (wentOn b ℓ (b .pending t)) a (b .finished))
 
 abbrev pub tallyAll : OnceCalls → List (Move × MoveEvent) → OnceCalls
 tallyAll b [] = b

@@ -94,8 +94,8 @@ module _ (w : World) (notes : Notes) (g : Ghost) (κ : Sim.Knowledge) (G : Good 
       (λ u z. lies-in stored busy tt (line (view w g j) u) (G .cells j .tasks u .owner z .has-stored))
       (knows-more (view w g j) notes κ others (λ u b. let ne = busy-other w g (known notes κ) G t op a j u b in ((λ n v z. (ne, z)), λ z. (ne, z))) (G .cells j))
 
-  begun : Inv (moved (before (cellOf op)) t (firstOf op)) κ₁
-  begun = go op (a .values)
+  kept-there : Inv (moved (before (cellOf op)) t (firstOf op)) κ₁
+  kept-there = go op (a .values)
     where
       s : View
       s = before (cellOf op)
@@ -121,7 +121,7 @@ module _ (w : World) (notes : Notes) (g : Ghost) (κ : Sim.Knowledge) (G : Good 
   begun-good p κ′ grown = record { on-path = p; eager = grown .fresh-early; cells = λ j. knows-more (view w′ g′ j) notes others κ′ (knows j) (go j (either j (cellOf op))) }
     where
       go : (j : ℕ) → (j ≡ cellOf op) ⊎ (j ≢ cellOf op) → Inv (view w′ g′ j) κ₁
-      go j (inl e) = subst (λ i. Inv (view w′ g′ i) κ₁) (sym e) (subst (λ (v : View). Inv v κ₁) (sym here) begun)
+      go j (inl e) = subst (λ i. Inv (view w′ g′ i) κ₁) (sym e) (subst (λ (v : View). Inv v κ₁) (sym here) kept-there)
       go j (inr e) = subst (λ (v : View). Inv v κ₁) (sym (there j e)) (kept-before j)
 
       knows : (j u : ℕ) → T (busy (lineOf (on (w′ .records) j u))) → ((n v : ℕ) → (u ≢ t) × κ .saw u n v → κ′ .saw u n v) × ((u ≢ t) × κ .early u → κ′ .early u)

@@ -57,7 +57,7 @@ traces-complete w r s h [] = h
 traces-complete w r s h (a ∷ l) = traces-complete (figure w a .0) (enterLine (λ t. lineOf (w .records t)) r a (figure w a .1)) (act-sound w r s a) (act-complete w r s h a) l
 
 pub start-sound : (n v : ℕ) (vs : List ℕ) → Sound (opening n v vs) noTrace
-start-sound n v vs = record { pending = λ t. inl (refl, refl); begun = λ t. inl refl }
+start-sound n v vs = record { pending = λ t. inl (refl, refl); as-begun = λ t. inl refl }
 
 pub calls-on-paths : (n v : ℕ) (vs : List ℕ) (l : List Action) (x : Traced) → x ∈ figureTraces (opening n v vs) noTrace l .done → CompleteCall x
 calls-on-paths n v vs l = traces-complete (opening n v vs) noTrace (start-sound n v vs) (λ x i. absurd i) l

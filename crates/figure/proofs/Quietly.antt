@@ -88,14 +88,14 @@ module _ (w : World) (g : Ghost) (κ : Knowledge) (G : Good w g κ) (marks : (k 
   own-kept : (x : Next) → n ≡ x → (a : Tally) → tallyOf (recordAfter x) ≡ some a → QuietIn w t → Quiet (upd (w .cell) k m (recordAfter n .cell)) (on (w′ .records) (recordAfter n .cell)) t
   own-kept (Go r) e a d z =
       let c : recordAfter n .cell ≡ k = same-cell (stays .0) in
-      rw c (rw (upd-same (w .cell) k m, on-changed (w .records) t (recordAfter n) k (stays .0)) (subst (λ (y : Next). Quiet m (upd (on (w .records) k) t (recordAfter y)) t) (sym e) (stepped r e)))
+      rw c (rw (upd-same (w .cell) k m, on-changed (w .records) t (recordAfter n) k (stays .0)) (subst (λ (y : Next). Quiet m (upd (on (w .records) k) t (recordAfter y)) t) (sym e) (went-on r e)))
     where
       same-cell : (recordAfter n .cell ≡ k) ⊎ (recordAfter n ≡ idle) → recordAfter n .cell ≡ k
       same-cell (inl z) = z
       same-cell (inr z) = absurd (let y : recordAfter (Go r) ≡ idle = subst (λ (y : Next). recordAfter y ≡ idle) e z in let x : Opt.none ≡ some a = rw y at d in let u : _≡_ {A = ℕ} 0 1 = cc in omega arith)
 
-      stepped : (r : Record) → n ≡ Go r → Quiet m (upd (on (w .records) k) t r) t
-      stepped r e = subst (λ (y : Next). Goes y) e
+      went-on : (r : Record) → n ≡ Go r → Quiet m (upd (on (w .records) k) t r) t
+      went-on r e = subst (λ (y : Next). Goes y) e
           (subst (λ (p : Record). let x = accessCell (w .cell k) (accessOf t p) in Goes′ (x .cell) (nextOf t p (x .value))) here
           (quiet-step (w .cell k) (on (w .records) k) t z (lineOf (on (w .records) k t)) refl (z .line)))
         where

@@ -40,16 +40,16 @@ module _ (v : ℕ) (w : World) (i : Reachable v w) where
   keeps : (w′ : World) (notes : Notes) (g′ : Ghost) → Sim.Keeps doingIn clock (names figure sees) Inv x (w′, notes) g′ trivial → Reachable v w′
   keeps w′ notes g′ k = record { tasks = i .tasks; notes = notes; ghost = g′; holds = k trivial (grown (w′, notes) g′) }
 
-  after : (a : Action) (e : Event) (w′ : World) (notes : Notes) → Forward doingIn clock (names figure sees) Inv x g trivial a (w′, notes) e → Follows doing (w .cells) w a w′ e → Reachable v w′
-  after (begin t op) (refused n) w′ notes f s = keeps w′ notes _ f
-  after (begin t op) (accepted y) w′ notes f s = keeps w′ notes _ f
-  after (begin t op) (answered y r) w′ notes f s = absurd s
-  after (step t) (refused n) w′ notes f s = keeps w′ notes _ f
-  after (step t) (accepted y) w′ notes f s = keeps w′ notes _ (f .keeps)
-  after (step t) (answered y r) w′ notes f s = keeps w′ notes _ (f .moves .keeps)
+  by-event : (a : Action) (e : Event) (w′ : World) (notes : Notes) → Forward doingIn clock (names figure sees) Inv x g trivial a (w′, notes) e → Follows doing (w .cells) w a w′ e → Reachable v w′
+  by-event (begin t op) (refused n) w′ notes f s = keeps w′ notes _ f
+  by-event (begin t op) (accepted y) w′ notes f s = keeps w′ notes _ f
+  by-event (begin t op) (answered y r) w′ notes f s = absurd s
+  by-event (step t) (refused n) w′ notes f s = keeps w′ notes _ f
+  by-event (step t) (accepted y) w′ notes f s = keeps w′ notes _ (f .keeps)
+  by-event (step t) (answered y r) w′ notes f s = keeps w′ notes _ (f .moves .keeps)
 
   pub next-reachable : (a : Action) → Reachable v (figure w a .0)
-  next-reachable a = after a (figure w a .1) (figure w a .0) _ (forward (i .tasks) v w (i .notes) g trivial (i .holds) a) (follows w (i .holds .good .on-path) a)
+  next-reachable a = by-event a (figure w a .1) (figure w a .0) _ (forward (i .tasks) v w (i .notes) g trivial (i .holds) a) (follows w (i .holds .good .on-path) a)
 
 module _ (n v : ℕ) (vs : List ℕ) (some-values : (k : ℕ) → getD vs k 0 ≢ noValue) where
   pub opening-reachable : Reachable v (opening n v vs)

@@ -184,7 +184,7 @@ Begins op q = (q ≡ idle) ⊎ (op ≡ opOf q)
 -- a trace of the figure, now w, whose pending calls keep to the paths: each task with the lines that its call did
 pub record Sound (w : World) (r : Trace) : Type 0 where
   pub pending : (t : ℕ) → OnPath (w .tasks) (w .cells) t (r .did t) (w .records t)
-  pub begun : (t : ℕ) → Begins (r .op t) (w .records t)
+  pub as-begun : (t : ℕ) → Begins (r .op t) (w .records t)
 
 -- what holds of the new one and of all before
 pub with-first : {A : Type 0} (P : A → Type 0) (a : A) (l : List A) → P a → ((x : A) → x ∈ l → P x) → (x : A) → x ∈ (a ∷ l) → P x
@@ -217,13 +217,13 @@ module _ (w : World) (r : Trace) (s : Sound w r) where
   put t q did o = upd-both (OnPath (w .tasks) (w .cells)) (r .did) (w .records) t did q o (s .pending)
 
   put-begun : (t : ℕ) (q : Record) → Begins (r .op t) q → (u : ℕ) → Begins (r .op u) (upd (w .records) t q u)
-  put-begun t q b u = upd-cases (Begins (r .op u)) (w .records) t q u (λ e. rw e b) (λ e. s .begun u)
+  put-begun t q b u = upd-cases (Begins (r .op u)) (w .records) t q u (λ e. rw e b) (λ e. s .as-begun u)
 
   begin-sound : (t : ℕ) (op : Op) {f : WorldAfter} → Begun w t op f → Sound (f .world) (enterLine now r (begin t op) (eventOf untried (f .outcome)))
   begin-sound t op (refuses n) = s
   begin-sound t op (starts a) = record {
     pending = put t (firstOf op) [] (inr (a .task, first-on-path w t op a));
-    begun = upd-both (λ u. Begins) (r .op) (w .records) t op (firstOf op) (kind op) (s .begun);
+    as-begun = upd-both (λ u. Begins) (r .op) (w .records) t op (firstOf op) (kind op) (s .as-begun);
   }
     where
       kind : (op : Op) → Begins op (firstOf op)
@@ -235,7 +235,7 @@ module _ (w : World) (r : Trace) (s : Sound w r) where
     q = w .records t
 
     pub its-op : r .op t ≡ opOf q
-    its-op = go (s .begun t)
+    its-op = go (s .as-begun t)
       where
         go : Begins (r .op t) q → r .op t ≡ opOf q
         go (inl i) = absurd (false≢true (sym (not-idle q (o .line)) ∙ ap isIdle i))
@@ -243,8 +243,8 @@ module _ (w : World) (r : Trace) (s : Sound w r) where
 
     line-sound : (c : Cell) {n : Next} → Leads (lineOf q) (counted q (triedIn w t q)) n → Then (w .cells) (r .did t) q o n
         → Sound (withBoth w (q .cell) c t (recordAfter n)) (enterLine now r (step t) (eventOf (triedIn w t (w .records t)) (outcomeOf n)))
-    line-sound c (goes f) k = record { pending = put t _ (didLine now r t) (inr (m, k)); begun = put-begun t _ (inr its-op) }
-    line-sound c (done f) k = record { pending = put t idle [] (inl (refl, refl)); begun = put-begun t idle (inl refl) }
+    line-sound c (goes f) k = record { pending = put t _ (didLine now r t) (inr (m, k)); as-begun = put-begun t _ (inr its-op) }
+    line-sound c (done f) k = record { pending = put t idle [] (inl (refl, refl)); as-begun = put-begun t idle (inl refl) }
 
   step-sound : (t : ℕ) {f : WorldAfter} → Stepped w t (r .did t) f → Sound (f .world) (enterLine now r (step t) (eventOf (triedIn w t (w .records t)) (f .outcome)))
   unfolding figureRan
@@ -260,7 +260,7 @@ module _ (w : World) (r : Trace) (s : Sound w r) where
 pub act-on-path : (w : World) → AllOnPath w → (a : Action) → AllOnPath (figure w a .0)
 act-on-path w p a =
     let r : Trace = record { op = λ t. opOf (w .records t); did = λ t. p t .0; done = [] } in
-    let s : Sound w r = record { pending = λ t. p t .1; begun = λ t. inr refl } in
+    let s : Sound w r = record { pending = λ t. p t .1; as-begun = λ t. inr refl } in
     λ t. (enterLine (λ t. lineOf (w .records t)) r a (figure w a .1) .did t, act-sound w r s a .pending t)
 
 pub run-on-path : (w : World) → AllOnPath w → (l : List Action) → AllOnPath (run figure w l)

@@ -64,8 +64,8 @@ phaseAfter s t delay = late t
 phaseAfter s t settle = settled
 phaseAfter s t (land u) = settled
 
-abbrev pub after : View → ℕ → Cell → Record → Change → View
-after s t m q x = record { cell = m; task = upd (s .task) t q; value = valueAfter s t x; placed = placedAfter s t x; phase = phaseAfter s t x }
+abbrev pub viewAfter : View → ℕ → Cell → Record → Change → View
+viewAfter s t m q x = record { cell = m; task = upd (s .task) t q; value = valueAfter s t x; placed = placedAfter s t x; phase = phaseAfter s t x }
 
 -- when it may
 abbrev pub Can : View → Knowledge → ℕ → Change → Type 0
@@ -90,7 +90,7 @@ pub record Future (s : View) (κ : Knowledge) (κ⁺ : Phase → ℕ → Knowled
 pub record Step (s : View) (κ : Knowledge) (κ⁺ : Phase → ℕ → Knowledge) (t : ℕ) (m : Cell) (q : Record) : Type 0 where
   pub change : Change
   pub can : Can s κ t change
-  pub kept : Inv (after s t m q change) (κ⁺ (phaseAfter s t change) (valueAfter s t change))
+  pub kept : Inv (viewAfter s t m q change) (κ⁺ (phaseAfter s t change) (valueAfter s t change))
   pub current : phaseAfter s t change ≢ settled → m .current ≡ s .cell .current
 
 -- the value v that a call has seen which answers a, by the number of the rule that names the moment

@@ -28,7 +28,7 @@ use Rattle.figure.proofs.Invariant.{none, View, Knowledge, TaskOf, line
 use Rattle.figure.proofs.Frame as Frame
 use Rattle.figure.proofs.Frame.{Grows}
 use Rattle.figure.proofs.Notes.{Holder, keeps-loaded, keeps-stored, keeps-decided, keeps-replaced, notes-held, notes-loaded, notes-stored, notes-decided, notes-replaced}
-use Rattle.figure.proofs.Steps.{Change, still, act, freeze, delay, settle, land, valueAfter, placedAfter, phaseAfter, after, Can, Future, Out, each}
+use Rattle.figure.proofs.Steps.{Change, still, act, freeze, delay, settle, land, valueAfter, placedAfter, phaseAfter, viewAfter, Can, Future, Out, each}
 use Rattle.figure.proofs.Views.{on, on-in, on-it, on-changed, view, placed-changed, on-others}
 use Rattle.figure.proofs.Operations.{busy-line, busy-doing, swap-yes, apply-here, apply-there}
 
@@ -266,7 +266,7 @@ module _ (w : World) (notes : Notes) (g : Ghost) (κ : Sim.Knowledge) (G : Good 
     abbrev pub w′ : World
     w′ = withBoth w k m t q′
 
-    view-here : view w′ (g′ x) k ≡ after s t m q′ x
+    view-here : view w′ (g′ x) k ≡ viewAfter s t m q′ x
     view-here = λ i. record { cell = upd-same (w .cell) k m i; task = on-changed (w .records) t q′ k stays i; value = value-here x c i; placed = placed-is x i; phase = phase-here x i }
 
     view-there : (j : ℕ) → j ≢ k → view w′ (g′ x) j ≡ record { cell = w .cell j; task = on (w .records) j; value = g .cells j; placed = g′ x .placed; phase = g .phase j }
@@ -280,7 +280,7 @@ module _ (w : World) (notes : Notes) (g : Ghost) (κ : Sim.Knowledge) (G : Good 
         go (inr z) = (n′, sym (ap tallyOf (upd-off (w .records) t q′ u z)) ∙ e)
 
     -- the invariant holds again with whatever is known by then
-    pub kept-all : Inv (after s t m q′ x) (κ⁺ (phaseAfter s t x) (valueAfter s t x)) → AllOnPath w′ → (κ′ : Sim.Knowledge) → Grown doingIn clock (names figure sees) (w, notes) (w′, notes′) (g′ x) κ κ′ → Good w′ (g′ x) (known notes′ κ′)
+    pub kept-all : Inv (viewAfter s t m q′ x) (κ⁺ (phaseAfter s t x) (valueAfter s t x)) → AllOnPath w′ → (κ′ : Sim.Knowledge) → Grown doingIn clock (names figure sees) (w, notes) (w′, notes′) (g′ x) κ κ′ → Good w′ (g′ x) (known notes′ κ′)
     kept-all kept on-path κ′ grown = record { on-path = on-path; eager = grown .fresh-early; cells = λ j. go j (either j k) }
       where
         -- a task that is busy on cell j now

@@ -302,7 +302,7 @@ no-finished-call-left-out l out r = let p = late-has l r in out (point decider (
 -- WRONG ANSWERS: no linearization has them
 
 -- a call of one step or more, finished as reported
-abbrev pub ended : (begun task : ℕ) → Op → List Action → (last steps won lost : ℕ) → Response → FinishedCall
+abbrev pub ended : (at task : ℕ) → Op → List Action → (last steps won lost : ℕ) → Response → FinishedCall
 ended n t op l last steps won lost a = record {
   call = record { start = record { at = n; task = t; op = op; before = l }; last = last; steps = steps; won = won; lost = lost };
   report = report (kindOf op) a steps won lost;

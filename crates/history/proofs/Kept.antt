@@ -134,7 +134,7 @@ module _ {values : ℕ → ℕ} {g : Ghost} {b : Calls} {past : ℕ → ℕ → 
 
   -- A SWAP TAKES EFFECT: task u's, at the moment m, behind all others on its cell
 
-  module _ (u : ℕ) (c : Call) (busy : b .pending u ≡ some c) (unplaced : T (not (g .placed u))) (m : ℕ) (begun : c .start .at < m) (lasts : m ≤ c .last) (firm≤ : firm (cell-of c) ≤ m)
+  module _ (u : ℕ) (c : Call) (busy : b .pending u ≡ some c) (unplaced : T (not (g .placed u))) (m : ℕ) (from-begin : c .start .at < m) (lasts : m ≤ c .last) (firm≤ : firm (cell-of c) ≤ m)
       (says : reply (g .cells (cell-of c)) (c .start .op) ≡ Yes) where
     abbrev op : Op
     op = c .start .op

@@ -170,7 +170,7 @@ module _ {values : ℕ → ℕ} (g : Ghost) {b : Calls} {past : ℕ → ℕ → 
     go-onto freeze p = put-freeze p
     go-onto store (f, p, e) =
         let froze : was kk ≡ g .since kk = rw p refl in
-        let begun : c .start .at < was kk = subst (λ (c : Call). c .start .at < was (cell-of c)) (some-inj (e .1) busy) (e .2) in
+        let was-begun : c .start .at < was kk = subst (λ (c : Call). c .start .at < was (cell-of c)) (some-inj (e .1) busy) (e .2) in
         put-phase (late t) (omega arith) (omega (arith, k .bound kk)) (λ w h. let q : t ≡ w = cc in rw (← q)
         (record { call = advance b x c; busy = now-busy; on = refl; after-begin = omega arith; by-last-step = omega (arith, k .bound kk); unplaced = f }))
     go-onto settle may = put-phase settled (omega (arith, k .bound kk)) (omega arith) (λ w h. settled-late refl h)
@@ -203,40 +203,40 @@ module _ {values : ℕ → ℕ} (g : Ghost) {b : Calls} {past : ℕ → ℕ → 
       abbrev mark : Mark
       mark = record { spot = spot; call = c .start; answer = a }
 
-      leaving : MovesOne 1 t going ended
-      leaving = leaves b dated t x c busy r
+      goes-off : MovesOne 1 t going ended
+      goes-off = leaves b dated t x c busy r
 
       off : (u : ℕ) (d : Call) → ended .pending u ≡ some d → u ≢ t
       off u d j q = ended-idle b dated t x c busy r d (rw q at j)
 
       was-pending : (u : ℕ) (d : Call) → ended .pending u ≡ some d → going .pending u ≡ some d
-      was-pending u d j = sym (leaving .others u (off u d j)) ∙ j
+      was-pending u d j = sym (goes-off .others u (off u d j)) ∙ j
 
       module _ (g' : Ghost) (past' : ℕ → ℕ → ℕ) (firm' : ℕ → ℕ) (K : Kept values g' going past' firm' ms) where
         abbrev Before : Point → Response → Type 0
         Before = Entry (g' .placed) (g' .when) (going .pending) ms
 
-        abbrev After : Point → Response → Type 0
-        After = Entry (g' .placed) (g' .when) (ended .pending) (mark ∷ ms)
+        abbrev Thereafter : Point → Response → Type 0
+        Thereafter = Entry (g' .placed) (g' .when) (ended .pending) (mark ∷ ms)
 
-        new : After (pointOf mark) a
+        new : Thereafter (pointOf mark) a
         new = of-finished mark (inl refl)
 
         -- who stood there stands there still, if it is not the one that ends
-        old : (T (g' .placed t) → After (point c (g' .when t)) Yes) → (e : Point) (z : Response) → Before e z → After e z
+        old : (T (g' .placed t) → Thereafter (point c (g' .when t)) Yes) → (e : Point) (z : Response) → Before e z → Thereafter e z
         old mine e z (of-finished m j) = of-finished m (inr j)
         old mine e z (of-pending u d j p) = go (either u t)
           where
-            go : (u ≡ t) ⊎ (u ≢ t) → After (point d (g' .when u)) Yes
-            go (inl q) = subst (λ (d : Call). After (point d (g' .when u)) Yes) (some-inj now-busy (rw q at j)) (subst (λ u. After (point c (g' .when u)) Yes) (sym q) (mine (subst (λ u. T (g' .placed u)) q p)))
-            go (inr q) = of-pending u d (leaving .others u q ∙ j) p
+            go : (u ≡ t) ⊎ (u ≢ t) → Thereafter (point d (g' .when u)) Yes
+            go (inl q) = subst (λ (d : Call). Thereafter (point d (g' .when u)) Yes) (some-inj now-busy (rw q at j)) (subst (λ u. Thereafter (point c (g' .when u)) Yes) (sym q) (mine (subst (λ u. T (g' .placed u)) q p)))
+            go (inr q) = of-pending u d (goes-off .others u q ∙ j) p
 
-        split : (e : Point) (z : Response) → After e z → ((e ≡ pointOf mark) × (z ≡ a)) ⊎ Before e z
+        split : (e : Point) (z : Response) → Thereafter e z → ((e ≡ pointOf mark) × (z ≡ a)) ⊎ Before e z
         split e z (of-finished m (inl q)) = inl (ap pointOf q, ap (λ (m : Mark). m .answer) q)
         split e z (of-finished m (inr j)) = inr (of-finished m j)
         split e z (of-pending u d j p) = inr (of-pending u d (was-pending u d j) p)
 
-        leave-kept : Timeline values past' After → c .start .at < spot .moment → spot .moment ≤ n → spot .moment < firm' kk → ((j : ℕ) → g' .phase j ≢ late t) → Kept values g' ended past' firm' (mark ∷ ms)
+        leave-kept : Timeline values past' Thereafter → c .start .at < spot .moment → spot .moment ≤ n → spot .moment < firm' kk → ((j : ℕ) → g' .phase j ≢ late t) → Kept values g' ended past' firm' (mark ∷ ms)
         leave-kept line low high below unlate = record {
           line = line;
           ends = K .ends;
@@ -245,7 +245,7 @@ module _ {values : ℕ → ℕ} (g : Ghost) {b : Calls} {past : ℕ → ℕ → 
           marked = rw (ended-finished b dated t x c busy r) (record { call = refl; answer = refl; after-begin = low; by-last-step = high; sided = sided }, K .marked);
           stands = λ u d j p. K .stands u d (was-pending u d j) p;
           lates = λ j u q. let p = K .lates j u q in
-              record { call = p .call; busy = leaving .others u (λ e. unlate j (rw e at q)) ∙ p .busy; on = p .on; after-begin = p .after-begin; by-last-step = p .by-last-step; unplaced = p .unplaced };
+              record { call = p .call; busy = goes-off .others u (λ e. unlate j (rw e at q)) ∙ p .busy; on = p .on; after-begin = p .after-begin; by-last-step = p .by-last-step; unplaced = p .unplaced };
         }
           where
             firmed : (e : Point) (z : Response) → ((e ≡ pointOf mark) × (z ≡ a)) ⊎ Before e z → e .moment < firm' (cell e)
@@ -275,8 +275,8 @@ module _ {values : ℕ → ℕ} (g : Ghost) {b : Calls} {past : ℕ → ℕ → 
           from e z (inl q) = subst (λ (e : Point). Before g' (o .later) F K e z) (sym (q .0 ∙ same-point)) (subst (Before g' (o .later) F K (point c (g' .when t))) (sym (q .1 ∙ y)) there)
           from e z (inr j) = j
 
-          line : Timeline values (o .later) (After g' (o .later) F K)
-          line = regarded (K .line) (old g' (o .later) F K (λ p. subst (λ (e : Point). After g' (o .later) F K e Yes) same-point (subst (After g' (o .later) F K (pointOf mark)) y (new g' (o .later) F K))))
+          line : Timeline values (o .later) (Thereafter g' (o .later) F K)
+          line = regarded (K .line) (old g' (o .later) F K (λ p. subst (λ (e : Point). Thereafter g' (o .later) F K e Yes) same-point (subst (Thereafter g' (o .later) F K (pointOf mark)) y (new g' (o .later) F K))))
               (λ e z j. from e z (split g' (o .later) F K e z j))
 
           unlate : (j : ℕ) → g' .phase j ≢ late t
@@ -297,7 +297,7 @@ module _ {values : ℕ → ℕ} (g : Ghost) {b : Calls} {past : ℕ → ℕ → 
           K : Kept values g going past F ms
           K = phases-kept k₁ (g .phase) (g .since) F later (k₁ .lates)
 
-          joins : Joins (Before g past F K) (After g past F K) (pointOf mark) a
+          joins : Joins (Before g past F K) (Thereafter g past F K) (pointOf mark) a
           joins = record { old = old g past F K (λ p. absurd (T-not (g .placed t) f p)); new = new g past F K; split = split g past F K }
 
           unlates : (j : ℕ) → g .phase j ≢ late t

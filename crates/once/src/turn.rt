@@ -2,7 +2,7 @@
 ghost use mathlib.Core.Path.{_≡_};
 ghost use Prim.Native.Nat.{ℕ, _≤_};
 ghost use Rattle.consensus.specs.Figure.{given, stageOf, goOn, agree, does, withStep, leaves};
-ghost use Rattle.once.specs.Turns.{leaving};
+ghost use Rattle.once.specs.Turns.{leftBy};
 use crate::offers;
 use consensus::Agreement;
 use consensus::Offer;
@@ -18,7 +18,7 @@ pub struct Turn {
 }
 
 fn go_on(m: OnceCell, mut r: Offer, line: u32) -> Turn
-    ensures { λ n. ⌜ leaving (n .cell) (n .offer) (given (n .progress)) ≡ goOn m r line (r .value) ⌝ }
+    ensures { λ n. ⌜ leftBy (n .cell) (n .offer) (given (n .progress)) ≡ goOn m r line (r .value) ⌝ }
 {
     r.line = line;
     Turn {
@@ -29,7 +29,7 @@ fn go_on(m: OnceCell, mut r: Offer, line: u32) -> Turn
 }
 
 fn agree(m: OnceCell, r: Offer, value: u32) -> Turn
-    ensures { λ n. ⌜ leaving (n .cell) (n .offer) (given (n .progress)) ≡ agree m r value ⌝ }
+    ensures { λ n. ⌜ leftBy (n .cell) (n .offer) (given (n .progress)) ≡ agree m r value ⌝ }
 {
     let hard = if r.tried { 1 } else { 0 };
     Turn {
@@ -56,7 +56,7 @@ fn with_step(mut r: Offer) -> Offer
 
 pub fn take_turn(task: u32, r: Offer, m: OnceCell) -> Turn
     requires { ⌜ r .steps ≤ 9 ⌝ }
-    ensures { λ n. ⌜ leaving (n .cell) (n .offer) (given (n .progress)) ≡ leaves task r m ⌝ }
+    ensures { λ n. ⌜ leftBy (n .cell) (n .offer) (given (n .progress)) ≡ leaves task r m ⌝ }
 {
     let q = with_step(r);
     let line = r.line;
@@ -74,7 +74,7 @@ pub fn take_turn(task: u32, r: Offer, m: OnceCell) -> Turn
 // Whoever finds Y false and then its own number in X wins.
 fn split(task: u32, r: Offer, mut m: OnceCell) -> Turn
     requires { ⌜ (1 ≤ r .line) × (r .line ≤ 4) ⌝ }
-    ensures { λ n. ⌜ leaving (n .cell) (n .offer) (given (n .progress)) ≡ does (stageOf r) task r m ⌝ }
+    ensures { λ n. ⌜ leftBy (n .cell) (n .offer) (given (n .progress)) ≡ does (stageOf r) task r m ⌝ }
 {
     let line = r.line;
     match line {
@@ -106,7 +106,7 @@ fn split(task: u32, r: Offer, mut m: OnceCell) -> Turn
 // Decides alone, unless it finds contention.
 fn win(r: Offer, mut m: OnceCell) -> Turn
     requires { ⌜ (5 ≤ r .line) × (r .line ≤ 7) ⌝ }
-    ensures { λ n. ⌜ ((p : ℕ) → leaving (n .cell) (n .offer) (given (n .progress)) ≡ does (stageOf r) p r m) ⌝ }
+    ensures { λ n. ⌜ ((p : ℕ) → leftBy (n .cell) (n .offer) (given (n .progress)) ≡ does (stageOf r) p r m) ⌝ }
 {
     let line = r.line;
     match line {
@@ -131,7 +131,7 @@ fn win(r: Offer, mut m: OnceCell) -> Turn
 // Says that there is contention, and takes over the winner's value where it stands.
 fn lose(mut r: Offer, mut m: OnceCell) -> Turn
     requires { ⌜ (8 ≤ r .line) × (r .line ≤ 10) ⌝ }
-    ensures { λ n. ⌜ ((p : ℕ) → leaving (n .cell) (n .offer) (given (n .progress)) ≡ does (stageOf r) p r m) ⌝ }
+    ensures { λ n. ⌜ ((p : ℕ) → leftBy (n .cell) (n .offer) (given (n .progress)) ≡ does (stageOf r) p r m) ⌝ }
 {
     let line = r.line;
     match line {
@@ -156,7 +156,7 @@ fn lose(mut r: Offer, mut m: OnceCell) -> Turn
 // Answers D, which the hardware CAS sets where it is none.
 fn decide(r: Offer, mut m: OnceCell) -> Turn
     requires { ⌜ (11 ≤ r .line) × (r .line ≤ 13) ⌝ }
-    ensures { λ n. ⌜ ((p : ℕ) → leaving (n .cell) (n .offer) (given (n .progress)) ≡ does (stageOf r) p r m) ⌝ }
+    ensures { λ n. ⌜ ((p : ℕ) → leftBy (n .cell) (n .offer) (given (n .progress)) ≡ does (stageOf r) p r m) ⌝ }
 {
     let line = r.line;
     match line {

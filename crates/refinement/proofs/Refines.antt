@@ -40,9 +40,9 @@ module _ {n v : ℕ} where
   further : {x : Pool} {w : World} → Together n v x w → (a : Action) → Together n v (pool x a .0) (figure w a .0)
   further g a = let b = acts g a in record { R = b .R; agree = b .agree; well = λ l. g .well (a ∷ l) }
 
-  after : (l : List Action) {x : Pool} {w : World} → Together n v x w → Together n v (run pool x l) (run figure w l)
-  after [] g = g
-  after (a ∷ l) g = after l (further g a)
+  all-together : (l : List Action) {x : Pool} {w : World} → Together n v x w → Together n v (run pool x l) (run figure w l)
+  all-together [] g = g
+  all-together (a ∷ l) g = all-together l (further g a)
 
   pub histories : (l : List Action) {x : Pool} {w : World} → Together n v x w → history pool x l ≡ history figure w l
   histories [] g = refl
@@ -76,7 +76,7 @@ module _ (old : State) (words : List ℕ) (tasks cells blocks : ℕ) (values : L
 
   module _ (actions : List Action) where
     pub together : Together tasks cells (run pool (start old words tasks cells blocks values) actions) (run figure (opening tasks cells values) actions)
-    together = after actions fresh
+    together = all-together actions fresh
 
     -- Action by action, the pool gives the events of figure 2 with a new block each time: refusals, answers, steps and hardware CAS attempts.
     pub same-history : history pool (start old words tasks cells blocks values) actions ≡ history figure (opening tasks cells values) actions

@@ -133,8 +133,8 @@ module _ {n v : ℕ} {R : Links} {s : State} {p : List ℕ} {w : World} (a : Agr
 
   -- A BEGIN
 
-  begun : (r : Record) → T (not (holdsAt (r .line))) → t < n → Same n v (gives (eventOf untried) (started s p t r)) (figureGives (eventOf untried) (worldAfter (withTask w t r) Acted))
-  begun r x l = record { R = R; agree = records-change a t r r l (no-blocks r x); event = refl }
+  begins-alike : (r : Record) → T (not (holdsAt (r .line))) → t < n → Same n v (gives (eventOf untried) (started s p t r)) (figureGives (eventOf untried) (worldAfter (withTask w t r) Acted))
+  begins-alike r x l = record { R = R; agree = records-change a t r r l (no-blocks r x); event = refl }
 
   at-first : (c : Bool) → T (not (holdsAt (cond c 10 15)))
   at-first true = tt
@@ -142,5 +142,5 @@ module _ {n v : ℕ} {R : Links} {s : State} {p : List ℕ} {w : World} (a : Agr
 
   pub begins : (op : Op) → Same n v (pool (s, p) (begin t op)) (figure w (begin t op))
   unfolding readBegun swapBegun figureBegun
-  begins (read k) = asked (λ v i. (8, ltb k v) ∷ (9, i) ∷ []) (eventOf untried) (eventOf untried) _ _ (λ _. refl) (λ l _. begun (firstRead k) tt l)
-  begins (swap k e x) = asked (λ v i. (8, ltb k v) ∷ (9, i) ∷ (10, not (eqb e noValue) && not (eqb x noValue)) ∷ []) (eventOf untried) (eventOf untried) _ _ (λ _. refl) (λ l _. begun (firstSwap k e x) (at-first (eqb e x)) l)
+  begins (read k) = asked (λ v i. (8, ltb k v) ∷ (9, i) ∷ []) (eventOf untried) (eventOf untried) _ _ (λ _. refl) (λ l _. begins-alike (firstRead k) tt l)
+  begins (swap k e x) = asked (λ v i. (8, ltb k v) ∷ (9, i) ∷ (10, not (eqb e noValue) && not (eqb x noValue)) ∷ []) (eventOf untried) (eventOf untried) _ _ (λ _. refl) (λ l _. begins-alike (firstSwap k e x) (at-first (eqb e x)) l)

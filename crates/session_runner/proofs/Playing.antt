@@ -66,8 +66,8 @@ module _ (n v : ℕ) (f : ℕ → Action) (l : List ℕ) (i : ℕ) (z : Totals) 
       playedOn n v i z (s, p) (drop i (map f l)) ≡ eventLine i t (eventOf untried o) ++ playedOn n v (i + 1) z′ (s′, p′) (drop (i + 1) (map f l))
   one-action {a = a} h ea ed et ez =
       let rest = drop (i + 1) (map f l) in
-      let after : After → List ℕ = λ x. eventLine i (taskOf a) (eventOf untried (x .outcome)) ++ playedOn n v (i + 1) (addEvent z (eventOf untried (x .outcome))) (x .state, x .pool) rest in
-      rw (map-at f l i h, ← (add-one i), ← ea, et, ez) (first a rest ∙ ap after (sym ed))
+      let prints-on : After → List ℕ = λ x. eventLine i (taskOf a) (eventOf untried (x .outcome)) ++ playedOn n v (i + 1) (addEvent z (eventOf untried (x .outcome))) (x .state, x .pool) rest in
+      rw (map-at f l i h, ← (add-one i), ← ea, et, ez) (first a rest ∙ ap prints-on (sym ed))
 
   pub no-action : length l ≤ i → playedOn n v i z (s, p) (drop i (map f l)) ≡ endText n v z s p
   unfolding playedOn eventLines

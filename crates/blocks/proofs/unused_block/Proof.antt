@@ -7,13 +7,13 @@ use borrow.Author.Needs.{needs}
 use native.Mathlib.Omega.{arith}
 use Rattle.questions.specs.declared.State.{State}
 use Rattle.blocks.specs.declared.HolderSearch.{HolderSearch}
-use Rattle.blocks.specs.Blocks.{holderSearchOf, after, asked, searchable, found}
+use Rattle.blocks.specs.Blocks.{holderSearchOf, blockAfter, asked, searchable, found}
 use Rattle.blocks.proofs.Unused.{after-below}
 use Rattle.blocks.proofs.Search.{choice, same-choice, searched, finds, finds-none}
 use Rattle.blocks.proofs.unused_block.Statement.{statement}
 use Rattle.blocks.proofs.unused_block.Tie as tie
 
-decides : (s : State) {b first : ℕ} {h x : HolderSearch} → searchable s ≡ true → first ≡ after (s .blocks) (s .last)
+decides : (s : State) {b first : ℕ} {h x : HolderSearch} → searchable s ≡ true → first ≡ blockAfter (s .blocks) (s .last)
     → (b, holderSearchOf h) ≡ asked s (s .cells) first (s .blocks - 1) → h ≡ x → choice (b, holderSearchOf x) ≡ found s
 decides s {b} g e a q =
     ap (λ (y : HolderSearch). choice (b, holderSearchOf y)) (sym q)

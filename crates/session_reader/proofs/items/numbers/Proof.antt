@@ -12,7 +12,7 @@ use Rattle.session_reader.proofs.items.numbers.Statement.{statement}
 use Rattle.session_reader.proofs.items.numbers.Tie as tie
 
 abbrev Inv-loop : tie.InvT-loop
-Inv-loop s at k out₀ i₀ n₀ out i n = (n ≤ k) × (i ≤ length s) × (at + 2 * n ≤ i) × (length out ≡ length out₀) × (counted.after (take n out) (numbers (k - n) (drop i s)) ≡ numbers k (drop at s))
+Inv-loop s at k out₀ i₀ n₀ out i n = (n ≤ k) × (i ≤ length s) × (at + 2 * n ≤ i) × (length out ≡ length out₀) × (counted.prefixed (take n out) (numbers (k - n) (drop i s)) ≡ numbers k (drop at s))
 
 abbrev μ-loop : tie.MeasureT-loop
 μ-loop s at k out₀ i₀ n₀ out i n = k - n
