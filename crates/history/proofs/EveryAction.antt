@@ -69,21 +69,20 @@ module _ {S N : Type 0} {machine : S → Action → S × Event} {note : N → S 
       m : Simulated M x b ms
       m = G .simulated
 
-  -- after all actions: the state with its notes, and the finished calls' marks
+  -- after all actions, what holds of the state that they lead to, with its notes; and the finished calls' marks
   pub record AtEnd (x : S × N) (b : Calls) (ms : List Mark) (l : List Action) : Type 1 where
     pub well-formed : WellFormed size b (history machine (x .0) l)
-    pub state : S × N
     pub finished : List Mark
-    pub good : Good state (enterAll b (history machine (x .0) l)) finished
-    pub all-marks : marks (beside machine note) names tasks x b ms l ≡ pendingMarks (beside machine note) names state (enterAll b (history machine (x .0) l)) tasks ++ finished
+    pub good : Good (run (beside machine note) x l) (enterAll b (history machine (x .0) l)) finished
+    pub all-marks : marks (beside machine note) names tasks x b ms l ≡ pendingMarks (beside machine note) names (run (beside machine note) x l) (enterAll b (history machine (x .0) l)) tasks ++ finished
 
   all : (l : List Action) (x : S × N) (b : Calls) (ms : List Mark) → Good x b ms → AtEnd x b ms l
-  all [] x b ms G = record { well-formed = tt; state = x; finished = ms; good = G; all-marks = refl }
+  all [] x b ms G = record { well-formed = tt; finished = ms; good = G; all-marks = refl }
   all (a ∷ l) x b ms G =
       let m = G .simulated in
       let k = tracked (M .doing) size (x .0) (machine (x .0) a .0) b (G .tracks) a (machine (x .0) a .1) (M .follows x (m .ghost) (knows b (m .past) (firm (m .ghost) (b .now))) (m .inv) a) in
       let r = all l (beside machine note x a .0) (enter b a (machine (x .0) a .1)) (marked (beside machine note) names x b a (machine (x .0) a .1) ++ ms) (next x b ms G a k) in
-      record { well-formed = (k .allowed, r .well-formed); state = r .state; finished = r .finished; good = r .good; all-marks = r .all-marks }
+      record { well-formed = (k .allowed, r .well-formed); finished = r .finished; good = r .good; all-marks = r .all-marks }
 
   pub at-end : (l : List Action) → AtEnd (start, blank) noCalls [] l
   at-end l = all l (start, blank) noCalls [] good-start

@@ -1,9 +1,9 @@
 -- Demand 3 from a machine's simulation.
 use mathlib.Core.List.{map}
 use Prim.Native.Nat.{ℕ}
-use Rattle.history.specs.History.{Action, Event}
+use Rattle.history.specs.History.{Action, Event, run}
 use Rattle.history.specs.Demand3.{Meets, clearAfter}
-use Rattle.history.specs.Moments.{Names, pointOf}
+use Rattle.history.specs.Moments.{Names, pointOf, beside}
 use Rattle.history.proofs.Simulation.{Simulation}
 use Rattle.history.proofs.Counts.{bounds-of}
 use Rattle.history.proofs.NoHardware.{no-hardware}
@@ -14,7 +14,7 @@ use Rattle.history.proofs.Moments.{placing, marks-linearize}
 -- sequential specification, its calls keep their bounds, and those without contention make no hardware CAS
 pub meets : {S N : Type 0} {machine : S → Action → S × Event} {note : N → S → Action → Event → N} {names : Names (S × N)} {start : S} {blank : N} {clear : S → ℕ → Type 0} {tasks size : ℕ} {values : ℕ → ℕ} →
     Simulation machine note names start blank clear tasks size values → Meets machine start (clearAfter machine start clear) size values
-meets {machine = machine} {start = start} {clear = clear} M l =
+meets {machine = machine} {note = note} {start = start} {blank = blank} {clear = clear} M l =
     let r = at-end M l in
     let G = r .good in
     record {
@@ -22,7 +22,7 @@ meets {machine = machine} {start = start} {clear = clear} M l =
       calls = record {
         linearization = map pointOf (placing M l);
         linearizes = marks-linearize M l;
-        bounds = bounds-of (within M (r .state) _ (r .finished) G) (G .ended);
+        bounds = bounds-of (within M (run (beside machine note) (start, blank) l) _ (r .finished) G) (G .ended);
         no-hardware = no-hardware machine start clear (M .doing) (M .Quiet) (G .quiet);
       };
     }

@@ -8,7 +8,7 @@ use Prim.Native.Nat.{ℕ, zero, suc, _<_}
 use native.Mathlib.Omega.{arith}
 use lib.Dec.{T}
 use Rattle.history.specs.Basics.{_∈_, Once}
-use Rattle.history.specs.History.{Action, Event, history, Response, Yes, Call, FinishedCall, Calls, noCalls, callsOf, pending, finished}
+use Rattle.history.specs.History.{Action, Event, history, run, Response, Yes, Call, FinishedCall, Calls, noCalls, callsOf, pending, finished}
 use Rattle.history.specs.Linearization.{Point, replies, Placed, Linearizes}
 use Rattle.history.specs.Moments.{before, itself, Spot, Mark, pointOf, replyOf, Names, beside, markOfPending, pendingMarks, sort, linearized}
 use Rattle.history.proofs.Basics.{either, clash, some-inj, point}
@@ -133,7 +133,7 @@ module _ {S N : Type 0} {machine : S → Action → S × Event} {note : N → S 
   r = at-end M l
 
   abbrev x : S × N
-  x = r .state
+  x = run (beside machine note) (start, blank) l
 
   abbrev b : Calls
   b = callsOf (history machine start l)
