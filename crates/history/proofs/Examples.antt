@@ -320,6 +320,24 @@ both-ended b f g rest at0 at1 all = two-calls b (f .call) (g .call) rest (λ e h
 pub one-of : (f : FinishedCall) (h : FinishedCall) → h ∈ (f ∷ []) → (h ≡ f) ⊎ (h ≡ f)
 one-of f h (inl q) = inl q
 
+-- RIGHT: a swap of equal values is placed as a swap
+abbrev equal-swap : List (Action × Event)
+equal-swap = (begin 0 (swap 0 5 5), accepted untried) ∷ (step 0, accepted untried) ∷ (step 0, accepted untried) ∷ (step 0, answers untried aSwap Yes 3 0 0) ∷ []
+
+abbrev equal-yes : FinishedCall
+equal-yes = ended 0 0 (swap 0 5 5) [] 3 3 0 0 Yes
+
+pub equal-swap-placed : Linearizes five (callsOf equal-swap) (point (equal-yes .call) 2 ∷ [])
+unfolding upd
+equal-swap-placed = record { sorted = ((λ x i. absurd i), tt); placed = placed; once = ((λ i. i), tt); answers = answers }
+  where
+    placed : (x : Point) → x ∈ (point (equal-yes .call) 2 ∷ []) → Placed (callsOf equal-swap) x
+    placed x (inl q) = rw q (record { call = equal-yes .call; end = 3; of-history = finished equal-yes (inl refl); is = refl; after-begin = omega arith; by-last-step = omega arith })
+
+    answers : (f : FinishedCall) → f ∈ (equal-yes ∷ []) →
+        (e : Point) × (e .call ≡ f .call .start) × (f .call .start .at < e .moment) × (e .moment ≤ f .call .last) × ((e, f .report .answer) ∈ replies five (point (equal-yes .call) 2 ∷ []))
+    answers f (inl q) = rw q (point (equal-yes .call) 2, refl, omega arith, omega arith, inl refl)
+
 pub two-of : (f g : FinishedCall) (h : FinishedCall) → h ∈ (g ∷ f ∷ []) → (h ≡ f) ⊎ (h ≡ g)
 two-of f g h (inl q) = inr q
 two-of f g h (inr (inl q)) = inl q
