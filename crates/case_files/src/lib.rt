@@ -1,16 +1,7 @@
 // The files that a program's arguments name, each of them a case.
-ghost use mathlib.Core.Path.{_≡_};
-ghost use lib.ListN.{length};
 ghost use Rattle.io.specs.Counts.{Counts};
 use libc::STDOUT_FILENO;
 use report::Input;
-
-// One byte more than a case may have, so that a longer one is noticed.
-pub fn file_space() -> [u8; 65537]
-    ensures { λ r. ⌜ 65537 ≡ length r ⌝ }
-{
-    [0; 65537]
-}
 
 // A file open for reading, negative where that failed, and how long its name is.
 pub struct Case {

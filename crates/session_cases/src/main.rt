@@ -1,7 +1,7 @@
 // Runs each session that an argument names, and writes its name and what it prints.
-use case_files::file_space;
 use case_files::read_case;
 use libc::STDOUT_FILENO;
+use session_runner::file_space;
 use session_runner::run_session;
 use session_runner::text_space;
 

@@ -1,8 +1,9 @@
 // Items of a form: its numbers, and what parts and ends them.
 use text::Numeral;
 use text::Place;
+ghost use mathlib.Core.Path.{_≡_};
 ghost use Prim.Native.Nat.{_≤_};
-ghost use lib.ListN.{length};
+ghost use lib.ListN.{length, drop};
 ghost use Rattle.text.specs.Answers.{PlaceIs, NumeralIs};
 ghost use Rattle.session_file.specs.Session.{space as «spaceOf», item as «itemOf», close as «closeOf»};
 ghost use Rattle.session_reader.specs.Answers.{NumbersAre};
@@ -33,11 +34,12 @@ pub fn close(s: &[u8], at: usize) -> Place
     text::starts_with(s, at, b")")
 }
 
-// Stores k numbers, each after a space.
+// Stores k numbers, each after a space, and nothing behind them. Where one is missing, the first k words are open.
 pub fn numbers(s: &[u8], at: usize, k: usize, out: &mut [u32]) -> Place
     requires { ⌜ at ≤ length (now s) ⌝ }
     requires { ⌜ k ≤ length (now out) ⌝ }
     ensures { λ r. ⌜ NumbersAre (now (s .entry)) at k (now (out .exit)) r ⌝ }
+    ensures { λ r. ⌜ drop k (now (out .exit)) ≡ drop k (now (out .entry)) ⌝ }
 {
     let mut i = at;
     let mut n = 0;

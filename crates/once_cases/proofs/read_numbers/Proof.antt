@@ -12,7 +12,7 @@ use Rattle.once_cases.proofs.read_numbers.Tie as tie
 past : (c : tie.After-read) → let e = c .before .before .before .before .before .before .args in (e .from + 2 * e .form ≤ c .read .given .0 .0) × (c .read .given .0 .0 ≤ length (e .s .now))
 past c =
     let e = c .before .before .before .before .before .before .args in
-    numbered (e .s .now) (e .from) (c .read .given .1) (e .form) _ (c .before .before .before .numbers2 .ensures)
+    numbered (e .s .now) (e .from) (c .read .given .1) (e .form) _ (c .before .before .before .numbers2 .ensures .0)
 
 starts-with-requires : tie.Need-starts-with-requires
 starts-with-requires c κs = past (c .before .before) .1
