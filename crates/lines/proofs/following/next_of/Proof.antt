@@ -1,5 +1,5 @@
 use borrow.Author.Needs.{needs}
-use Rattle.lines.proofs.Ranges.{no-line}
+use Rattle.lines.proofs.Ranges.{no-next}
 use Rattle.lines.proofs.following.next_of.Statement.{statement}
 use Rattle.lines.proofs.following.next_of.Tie as tie
 
@@ -17,8 +17,8 @@ next-of-spec =
     (λ c. c .next-read .ensures _)
     (λ c. c .next-swap .ensures)
     (λ c. c .next-install .ensures _)
-    (λ c. rw (no-line (c .before .before .args .r .line) _ (search needs)))
-    (λ c. rw (no-line (c .before .before .before .before .before .args .r .line) _ (search needs)))
-    (λ c. rw (no-line (c .before .before .args .r .line) _ (search needs)))
-    (λ c. rw (no-line (c .before .before .before .before .args .r .line) _ (search needs)))
-    (λ c. rw (no-line (c .before .before .before .before .before .args .r .line) _ (search needs))))
+    (λ c. no-next _ _ _ (search needs))
+    (λ c. no-next _ _ _ (search needs))
+    (λ c. no-next _ _ _ (search needs))
+    (λ c. no-next _ _ _ (search needs))
+    (λ c. no-next _ _ _ (search needs)))
