@@ -1,7 +1,8 @@
 #!/bin/sh
-# Makes the cases of sessions and of the once-only cells anew from the model and
-# compares them with the ones kept in crates/session_cases and crates/once_cases,
-# and likewise what crates/cells_cases prints and the pairs in examples/c.
+# Makes the cases of sessions, of the once-only cells and of the shaker anew from
+# the model and compares them with the ones kept in crates/session_cases,
+# crates/once_cases and crates/shake_cases, and likewise what crates/cells_cases,
+# crates/shake and crates/shaken_session print and the pairs in examples/c.
 # Ends with 1, naming the first difference, if data, args, a stdin, a stdout or
 # the pairs differ.
 set -u
@@ -43,6 +44,20 @@ compare() {
 
 compare make_cases.py session_cases
 compare make_once_cases.py once_cases
+compare make_shake_cases.py shake_cases
+
+# what the programs shake and shaken_session print for their stored arguments
+for crate in shake shaken_session; do
+    kept=$here/../crates/$crate
+    python3 -B "$here/shaker.py" $(cat "$kept/args") >"$all/shaken" || exit 1
+    if [ $crate = shaken_session ]; then
+        python3 -B "$here/session.py" <"$all/shaken" >"$all/played" && mv "$all/played" "$all/shaken" || exit 1
+    fi
+    if ! first=$(cmp "$all/shaken" "$kept/stdout" 2>&1); then
+        echo "check_cases: stdout of $crate differs: $first"
+        exit 1
+    fi
+done
 
 # the pairs of counts that are asked from C
 kept=$here/../examples/c/pairs
