@@ -5,11 +5,13 @@ use mathlib.Core.List.{List, [], _∷_, _++_}
 use Prim.Native.Nat.{ℕ}
 use Prim.Native.String.{String}
 use lib.ListN.{length, replicate}
-use Rattle.text.specs.Bytes.{bytes}
+use Rattle.text.specs.Bytes.{bytes, digits}
+use Rattle.text.specs.Lines.{numbers as spaced}
 use Rattle.text.specs.Readers.{word, digitsAfter, number}
 use Rattle.history.specs.History.{read, swap, Action, begin, step}
 use Rattle.session_shape.specs.Shape.{fits, deeper, shapedAfter}
 use Rattle.session_file.specs.Session.{Form, act, again, empty, with, Verdict, bad, session, short, numbers, manyWithin, values, opening, keyword, head, body, form, line, count, times, actions, formed, asked15, asked14, verdict}
+use Rattle.session_file.specs.Written.{written, writtenValues, openingLine, formLines, fileText}
 
 -- P1: its opening and 15 actions
 p1 :
@@ -19,9 +21,28 @@ p1 :
 unfolding word digitsAfter number fits deeper shapedAfter numbers manyWithin values opening keyword head body form line count times actions formed asked15 asked14 verdict
 p1 = refl
 
+-- the same file, written
+p1-written :
+    fileText (record { tasks = 2; cells = 1; blocks = 5; values = 5 ∷ [] })
+    (act (begin 0 (swap 0 5 7)) ∷ again 10 (with empty (act (step 0))) ∷ act (begin 1 (read 0)) ∷ again 3 (with empty (act (step 1))) ∷ [])
+    ≡ bytes "(open 2 1 5 (5))\n(swap 0 0 5 7)\n(again 10 (step 0))\n(read 1 0)\n(again 3 (step 1))\n"
+unfolding digits spaced written writtenValues openingLine formLines fileText
+p1-written = refl
+
 -- three times a step, and twice another: nine actions, as question 15 counts them and as they are made
 abbrev nine : Form
 nine = again 3 (with (with empty (act (step 0))) (again 2 (with empty (act (step 1)))))
+
+written-nine : written nine ≡ bytes "(again 3 (step 0) (again 2 (step 1)))"
+unfolding digits spaced written
+written-nine = refl
+
+-- an opening of several values, and of none
+openings :
+    (openingLine (record { tasks = 1; cells = 3; blocks = 5; values = 4294967294 ∷ 0 ∷ 10 ∷ [] }) ≡ bytes "(open 1 3 5 (4294967294 0 10))\n")
+    × (openingLine (record { tasks = 0; cells = 0; blocks = 0; values = [] }) ≡ bytes "(open 0 0 0 ())\n")
+unfolding digits spaced writtenValues openingLine
+openings = (refl, refl)
 
 counted : (count nine ≡ 9) × (actions nine ≡ step 0 ∷ step 1 ∷ step 1 ∷ step 0 ∷ step 1 ∷ step 1 ∷ step 0 ∷ step 1 ∷ step 1 ∷ [])
 unfolding count times actions

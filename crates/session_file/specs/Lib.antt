@@ -1,2 +1,4 @@
 pub mod Session
+pub mod Written
+pub mod Proper
 pub mod Examples

@@ -1,38 +1,19 @@
 -- How long the lines are.
-use mathlib.Core.Path.{_≡_, ap, _∙_}
-use mathlib.Core.List.{List, [], _∷_, _++_}
+use mathlib.Core.Path.{_≡_}
+use mathlib.Core.List.{List, [], _∷_}
 use Prim.Native.Nat.{ℕ, _+_, _≤_, _<_}
 use native.Mathlib.Omega.{arith}
-use lib.ListN.{length, length-append}
-use Rattle.text.specs.Bytes.{bytes, decimal}
+use lib.ListN.{length}
+use Rattle.text.specs.Bytes.{decimal}
 use Rattle.text.proofs.Decimal.{decimal-short}
-use Rattle.session_text.specs.Lines.{numbers, line}
-
-pub decimal-32 : (n : ℕ) → n ≤ 4294967295 → length (decimal n) ≤ 10
-decimal-32 n h = decimal-short 9 n (omega arith)
-
-pub decimal-64 : (n : ℕ) → n ≤ 18446744073709551615 → length (decimal n) ≤ 20
-decimal-64 n h = decimal-short 19 n (omega arith)
-
-numbers-length : (n : ℕ) (l : List ℕ) → length (numbers (n ∷ l)) ≡ 1 + (length (decimal n) + length (numbers l))
-unfolding numbers
-numbers-length n l = omega (arith, length-append (decimal n) (numbers l))
-
-none-length : length (numbers []) ≡ 0
-unfolding numbers
-none-length = omega arith
-
-pub line-length : (s l : List ℕ) → length (line s l) ≡ length s + length (numbers l) + 2
-line-length s l = length-append (s ++ numbers l) (bytes ")\n") ∙ ap (λ (n : ℕ). n + 2) (length-append s (numbers l))
+use Rattle.text.specs.Lines.{numbers, line}
+use Rattle.text.proofs.Spaced.{decimal-32, decimal-64, numbers-length, none-length, line-length}
 
 pub numbers-2 : (a b : ℕ) → a ≤ 4294967295 → b ≤ 4294967295 → length (numbers (a ∷ b ∷ [])) ≤ 22
 numbers-2 a b h k = omega (arith, numbers-length a (b ∷ []), numbers-length b [], none-length, decimal-32 a h, decimal-32 b k)
 
 pub numbers-3 : (a b c : ℕ) → a ≤ 4294967295 → b ≤ 4294967295 → c ≤ 4294967295 → length (numbers (a ∷ b ∷ c ∷ [])) ≤ 33
 numbers-3 a b c h i j = omega (arith, numbers-length a (b ∷ c ∷ []), numbers-2 b c i j, decimal-32 a h)
-
-pub line-1 : (s : List ℕ) (a : ℕ) → a ≤ 4294967295 → length (line s (a ∷ [])) ≤ length s + 13
-line-1 s a h = omega (arith, line-length s (a ∷ []), numbers-length a [], none-length, decimal-32 a h)
 
 pub line-2 : (s : List ℕ) (a b : ℕ) → a ≤ 4294967295 → b ≤ 4294967295 → length (line s (a ∷ b ∷ [])) ≤ length s + 24
 line-2 s a b h k = omega (arith, line-length s (a ∷ b ∷ []), numbers-2 a b h k)

@@ -1,4 +1,3 @@
-mod Toward
 mod Lengths
 mod Loops
 mod Acting

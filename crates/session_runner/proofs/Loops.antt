@@ -1,34 +1,14 @@
 -- One turn of each loop.
-use mathlib.Core.Path.{_≡_, ap, _∙_}
+use mathlib.Core.Path.{_≡_}
 use mathlib.Core.Bool.{cond}
 use mathlib.Core.List.{List, [], _++_}
 use Prim.Native.Nat.{ℕ, suc, _+_, _-_, _≤_, _<_}
-use native.Mathlib.Numerals.{add-one}
 use native.Mathlib.Omega.{arith}
 use borrow.Author.Tests.{ne-eqb}
-use lib.ListN.{length, drop, getD, length-append, drop-of-length-le}
-use lib.Seq.{drop-cons}
-use Rattle.text.specs.Bytes.{bytes, decimal}
 use Rattle.questions.specs.declared.State.{State}
 use Rattle.lines.specs.Record.{isIdle, recordAt}
 use Rattle.cells.specs.Look.{looked}
-use Rattle.session_text.specs.Lines.{numbers}
 use Rattle.session_text.specs.Printed.{lookLine, cellLines, pendingTasks}
-
--- NUMBERS
-
-pub numbers-at : (l : List ℕ) (i : ℕ) → i < length l → numbers (drop i l) ≡ (bytes " " ++ decimal (getD l i 0)) ++ numbers (drop (i + 1) l)
-unfolding numbers
-numbers-at l i h = rw (drop-cons l i 0 h, add-one)
-
-pub numbers-room : (l : List ℕ) (i : ℕ) → i < length l → length (numbers (drop i l)) ≡ 1 + (length (decimal (getD l i 0)) + length (numbers (drop (i + 1) l)))
-numbers-room l i h = ap length (numbers-at l i h) ∙ omega (arith, length-append (bytes " " ++ decimal (getD l i 0)) (numbers (drop (i + 1) l)))
-
-pub numbers-end : (l : List ℕ) (i : ℕ) → length l ≤ i → numbers (drop i l) ≡ []
-unfolding numbers
-numbers-end l i h = rw (drop-of-length-le l h)
-
--- CELLS AND TASKS
 
 module _ (s : State) where
   pub cell-at : (p : List ℕ) (k n : ℕ) → k < n → cellLines s p k (n - k) ≡ lookLine k (looked s p k) ++ cellLines s p (k + 1) (n - (k + 1))

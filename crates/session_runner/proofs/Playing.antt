@@ -6,11 +6,11 @@ use Prim.Native.Nat.{ℕ, zero, suc, _+_, _≤_, _<_}
 use native.Mathlib.Numerals.{add-one}
 use native.Mathlib.Omega.{arith}
 use borrow.Author.Tests.{le-leb, lt-leb}
-use lib.ListN.{length, take, drop, getD, replicate, drop-of-length-le, length-map, length-take, length-replicate}
+use lib.ListN.{length, take, drop, getD, replicate, drop-of-length-le, length-map, length-replicate}
 use lib.Seq.{length-take-le}
 use Rattle.io.specs.Counts.{Counts}
 use Rattle.text.specs.Append.{Appended}
-use Rattle.text.proofs.Appending.{nothing, whole}
+use Rattle.text.proofs.Appending.{nothing, entire}
 use Rattle.questions.specs.declared.State.{State}
 use Rattle.lines.specs.Answers.{Result}
 use Rattle.cells.specs.Answers.{Said, Refused, Acted, Ended, acts}
@@ -129,12 +129,6 @@ with-room s n h = rw (le-leb 2400000 n h)
 answer : (s : List ℕ) (n : ℕ) {a b c : ℕ} {v : Verdict} → v ≡ judged a b c s → a ≡ 32768 → b ≡ 40960 → c ≡ 65535 → 2400000 ≤ n → verdictText v ≡ printedWithin n s
 answer s n {a} {b} {c} e p q r h = ap verdictText (e ∙ right-sizes a b c s p q r) ∙ with-room s n h
 
--- what is appended from the start lies within the buffer
-counts : {old new : List ℕ} {r : ℕ} {t : List ℕ} → Appended old new 0 r t → Counts r new
-counts {old} {new} {r} x =
-    let h : r ≤ length new = omega (arith, length-take r new, ap length (x .stored .words), x .stored .next) in
-    (h, sym (length-take-le r new h))
-
 -- the text of the file s, r bytes at the start of the buffer, and nothing else changed
 module _ (s old new : List ℕ) (r : ℕ) where
   abbrev text : List ℕ
@@ -143,11 +137,8 @@ module _ (s old new : List ℕ) (r : ℕ) where
   abbrev Entire : Type 0
   Entire = (new ≡ text ++ drop r old) × ((r ≡ length text) × Counts r new)
 
-  entire : {t : List ℕ} → Appended old new 0 r t → t ≡ text → Entire
-  entire x e = (whole x ∙ ap (λ (l : List ℕ). l ++ drop r old) e, (omega (arith, x .stored .next, ap length e), counts x))
-
   pub all-printed : {a b c : ℕ} {v : Verdict} → Appended old new 0 r (verdictText v) → v ≡ judged a b c s → a ≡ 32768 → b ≡ 40960 → c ≡ 65535 → 2400000 ≤ length old → Entire
-  all-printed x e p q u h = entire x (answer s (length old) e p q u h)
+  all-printed x e p q u h = entire text x (answer s (length old) e p q u h)
 
 pub none-printed : (s old : List ℕ) → length old < 2400000 → Entire s old old 0
-none-printed s old h = entire s old old 0 (nothing old 0) (no-room s (length old) h)
+none-printed s old h = entire (text s old old 0) (nothing old 0) (no-room s (length old) h)

@@ -8,6 +8,7 @@ use cells::Outcome;
 use lines::records::idle;
 use questions::State;
 use session_reader::Reading;
+use text::numbered::put_bad;
 ghost use mathlib.Core.Path.{_≡_};
 ghost use mathlib.Core.List.{_++_, map};
 ghost use Prim.Native.Nat.{_≤_};
@@ -133,7 +134,7 @@ fn print(out: &mut [u8], found: Reading, values: &[u32], forms: &[u32], actions:
     ensures { λ r. ⌜ Appended (now (out .entry)) (now (out .exit)) 0 r (verdictText (verdictOf found (now (values .entry)) (now (forms .entry)) (now (actions .entry)))) ⌝ }
 {
     match found {
-        Reading::Bad(n) => printing::put_bad(out, 0, n),
+        Reading::Bad(n) => put_bad(out, 0, n),
         Reading::Session {
             tasks,
             cells,

@@ -1,6 +1,5 @@
 // The lines that a session prints. Room for any of them is 67 bytes, for a finished call 78, for the end 90; with the numbers that a session has,
 // the line of an action takes at most 36.
-ghost use mathlib.Core.Path.{_≡_};
 ghost use mathlib.Core.List.{[], _∷_};
 ghost use Prim.Native.Nat.{_+_, _≤_};
 ghost use lib.ListN.{length};
@@ -10,48 +9,14 @@ ghost use Rattle.cells.specs.Answers.{Ended};
 ghost use Rattle.cells.specs.Events.{kindAt, reportOf, eventOf};
 ghost use Rattle.text.specs.Append.{Appended};
 ghost use Rattle.text.specs.Bytes.{decimal};
-ghost use Rattle.session_text.specs.Lines.{line, numbers as «numbersOf», badLine, noLine, cellLine, kindWord, answerWord, doneStart, doneLine, endLine, Small};
+ghost use Rattle.text.specs.Lines.{line};
+ghost use Rattle.session_text.specs.Lines.{noLine, cellLine, kindWord, answerWord, doneStart, doneLine, endLine, Small};
 use lines::Answer;
 use lines::Finished;
 use rate::lisqotay_rate;
-
-pub fn wide(x: u32) -> u64
-    ensures { λ r. ⌜ (r ≡ x) × (r ≤ 4294967295) ⌝ }
-{
-    x as u64
-}
-
-// Numbers, each after a space.
-fn put_numbers(out: &mut [u8], at: usize, l: &[u64]) -> usize
-    requires { ⌜ at + length («numbersOf» (now l)) ≤ length (now out) ⌝ }
-    ensures { λ r. ⌜ Appended (now (out .entry)) (now (out .exit)) at r («numbersOf» (now (l .entry))) ⌝ }
-{
-    let mut i = 0;
-    let mut a = at;
-    while i < l.len() {
-        let b = text::put(out, a, b" ");
-        a = text::put_number(out, b, l[i]);
-        i += 1;
-    }
-    a
-}
-
-fn put_line(out: &mut [u8], at: usize, start: &[u8], l: &[u64]) -> usize
-    requires { ⌜ at + length (line (now start) (now l)) ≤ length (now out) ⌝ }
-    ensures { λ r. ⌜ Appended (now (out .entry)) (now (out .exit)) at r (line (now (start .entry)) (now (l .entry))) ⌝ }
-{
-    let a = text::put(out, at, start);
-    let b = put_numbers(out, a, l);
-    text::put(out, b, b")\n")
-}
-
-pub fn put_bad(out: &mut [u8], at: usize, n: u32) -> usize
-    requires { ⌜ at + 67 ≤ length (now out) ⌝ }
-    ensures { λ r. ⌜ Appended (now (out .entry)) (now (out .exit)) at r (badLine n) ⌝ }
-    ensures { λ r. ⌜ r ≤ at + 67 ⌝ }
-{
-    put_line(out, at, b"(bad", &[wide(n)])
-}
+use text::numbered::put_line;
+use text::numbered::put_numbers;
+use text::numbered::wide;
 
 fn put_pair(out: &mut [u8], at: usize, start: &[u8], a: u32, b: u32) -> usize
     requires { ⌜ (at + 67 ≤ length (now out)) × (length (now start) ≤ 12) ⌝ }

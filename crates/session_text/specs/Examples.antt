@@ -3,6 +3,7 @@ use mathlib.Core.Path.{_≡_, refl}
 use mathlib.Core.List.{List, [], _∷_}
 use Prim.Native.String.{String}
 use Rattle.text.specs.Bytes.{bytes, digits}
+use Rattle.text.specs.Lines.{numbers}
 use Rattle.text.specs.Readers.{word, digitsAfter, number}
 use Rattle.rate.specs.Rate.{rate}
 use Rattle.questions.specs.Questions.{fit, recordFit, cellsFit, recordsFit, hasNone, openQuestions}
@@ -13,7 +14,7 @@ use Rattle.cells.specs.Step.{ran, stepped}
 use Rattle.cells.specs.Look.{looked}
 use Rattle.session_shape.specs.Shape.{fits, deeper, shapedAfter}
 use Rattle.session_file.specs.Session as reader
-use Rattle.session_text.specs.Lines.{numbers, doneStart, eventLine}
+use Rattle.session_text.specs.Lines.{doneStart, eventLine}
 use Rattle.session_text.specs.Printed.{eventLines, cellLines, pendingTasks, endText, played, afterOpen, printed}
 
 abbrev Prints : List (String × String) → Type 0

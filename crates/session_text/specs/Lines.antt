@@ -2,19 +2,9 @@
 use mathlib.Core.List.{List, [], _∷_, _++_}
 use Prim.Native.Nat.{ℕ, _<_}
 use Rattle.text.specs.Bytes.{bytes, decimal}
+use Rattle.text.specs.Lines.{line}
 use Rattle.rate.specs.Rate.{rate}
 use Rattle.history.specs.History.{Kind, aRead, aSwap, Response, Value, Yes, No, Report, Event, refused, accepted, answered}
-
--- numbers, each after a space
-unfoldable pub numbers : List ℕ → List ℕ
-numbers [] = []
-numbers (n ∷ l) = bytes " " ++ decimal n ++ numbers l
-
-abbrev pub line : List ℕ → List ℕ → List ℕ
-line start l = start ++ numbers l ++ bytes ")\n"
-
-abbrev pub badLine : ℕ → List ℕ
-badLine n = line (bytes "(bad") (n ∷ [])
 
 abbrev pub noLine : (action number : ℕ) → List ℕ
 noLine i n = line (bytes "(no") (i ∷ n ∷ [])

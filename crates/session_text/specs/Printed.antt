@@ -12,7 +12,8 @@ use Rattle.cells.specs.Look.{looked}
 use Rattle.cells.specs.Machine.{Pool, pool}
 use Rattle.history.specs.History.{Action, taskOf, Event, refused, accepted, answered, history, run}
 use Rattle.session_file.specs.Session.{Opening, Verdict, bad, session, verdict}
-use Rattle.session_text.specs.Lines.{badLine, noLine, eventLine, cellLine, endLine}
+use Rattle.text.specs.Lines.{badLine}
+use Rattle.session_text.specs.Lines.{noLine, eventLine, cellLine, endLine}
 
 -- THE LINES OF A HISTORY, from action i on
 

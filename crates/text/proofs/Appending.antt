@@ -4,13 +4,19 @@ use mathlib.Core.List.{List, [], _∷_, _++_, append-assoc, append-nil, append-c
 use Prim.Native.Nat.{ℕ, suc, _+_, _-_, _≤_, _<_}
 use native.Mathlib.Numerals.{add-one}
 use native.Mathlib.Omega.{arith}
-use lib.ListN.{length, take, drop, getD, set, length-append, take-append-drop}
+use lib.ListN.{length, take, drop, getD, set, length-append, length-take, take-append-drop}
 use lib.Seq.{take-suc-set, take-suc, take-take, take-at, take-add, length-take-le, drop-drop, drop-set-lt}
 use Rattle.text.specs.Append.{Stored, Appended}
 
 -- from the start: the whole buffer
 pub whole : {o p : List ℕ} {r : ℕ} {t : List ℕ} → Appended o p 0 r t → p ≡ t ++ drop r o
 whole {o} {p} {r} {t} x = sym (take-append-drop r p) ∙ ap (λ (l : List ℕ). l ++ drop r p) (x .stored .words) ∙ ap (λ (l : List ℕ). t ++ l) (x .rest)
+
+-- what a promise about the whole buffer says: the text u and then what was there, u's length, and that it lies within
+pub entire : {o p : List ℕ} {r : ℕ} {t : List ℕ} (u : List ℕ) → Appended o p 0 r t → t ≡ u → (p ≡ u ++ drop r o) × ((r ≡ length u) × ((r ≤ length p) × (r ≡ length (take r p))))
+entire {o} {p} {r} u x e =
+    let h : r ≤ length p = omega (arith, length-take r p, ap length (x .stored .words), x .stored .next) in
+    (whole x ∙ ap (λ (l : List ℕ). l ++ drop r o) e, (omega (arith, x .stored .next, ap length e), (h, sym (length-take-le r p h))))
 
 -- what is the same from q on is the same from any later place on
 pub later : (a b : List ℕ) (q r : ℕ) → q ≤ r → drop q b ≡ drop q a → drop r b ≡ drop r a

@@ -1,3 +1,6 @@
 pub mod Appending
 pub mod Decimal
+pub mod Toward
+pub mod Spaced
 pub mod Reading
+pub mod ReadBack

@@ -1,4 +1,5 @@
 pub mod Bytes
+pub mod Lines
 pub mod Append
 pub mod Readers
 pub mod Answers

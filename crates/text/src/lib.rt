@@ -7,6 +7,8 @@ ghost use Rattle.text.specs.Append.{Appended};
 ghost use Rattle.text.specs.Readers.{word as «wordOf», number as «numberOf»};
 ghost use Rattle.text.specs.Answers.{PlaceIs, NumeralIs};
 
+pub mod numbered;
+
 // The place after what was looked for.
 pub enum Place {
     Nowhere,

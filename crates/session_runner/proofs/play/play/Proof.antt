@@ -13,7 +13,7 @@ use Rattle.session_reader.specs.Reading.{actAt}
 use Rattle.session_text.specs.Printed.{played}
 use Rattle.session_runner.specs.Loop.{playedOn, Few}
 use Rattle.session_runner.specs.Actions.{actOf, totalsOf}
-use Rattle.session_runner.proofs.Toward.{Toward, toward-start, toward-more, toward-last}
+use Rattle.text.proofs.Toward.{Toward, toward-start, toward-more, toward-last}
 use Rattle.session_runner.proofs.Playing.{one-action, no-action}
 use Rattle.cells.specs.Open.{After}
 use Rattle.cells.specs.Events.{eventOf}

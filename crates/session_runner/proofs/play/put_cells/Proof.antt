@@ -3,7 +3,7 @@ use borrow.Author.Needs.{needs}
 use Prim.Native.Nat.{_+_, _-_, _*_, _≤_, _<_}
 use native.Mathlib.Nat.{sub-zero}
 use Rattle.session_text.specs.Printed.{cellLines}
-use Rattle.session_runner.proofs.Toward.{Toward, toward-start, toward-more, toward-end}
+use Rattle.text.proofs.Toward.{Toward, toward-start, toward-more, toward-end}
 use Rattle.session_runner.proofs.Loops.{cell-at, cell-end}
 use Rattle.session_runner.proofs.play.put_cells.Statement.{statement}
 use Rattle.session_runner.proofs.play.put_cells.Tie as tie

@@ -1,5 +1,5 @@
 use native.Mathlib.Omega.{arith}
-use Rattle.session_runner.proofs.Lengths.{decimal-32}
+use Rattle.text.proofs.Spaced.{decimal-32}
 use borrow.Author.Needs.{needs}
 use Rattle.session_runner.proofs.printing.put_small.Statement.{statement}
 use Rattle.session_runner.proofs.printing.put_small.Tie as tie

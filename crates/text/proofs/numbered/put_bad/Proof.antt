@@ -1,9 +1,9 @@
 use native.Mathlib.Omega.{arith}
-use Rattle.session_runner.proofs.Lengths.{line-1}
+use Rattle.text.proofs.Spaced.{line-1}
 use Rattle.text.specs.Bytes.{bytes}
 use borrow.Author.Needs.{needs}
-use Rattle.session_runner.proofs.printing.put_bad.Statement.{statement}
-use Rattle.session_runner.proofs.printing.put_bad.Tie as tie
+use Rattle.text.proofs.numbered.put_bad.Statement.{statement}
+use Rattle.text.proofs.numbered.put_bad.Tie as tie
 
 put-line-requires : tie.Need-put-line-requires
 put-line-requires c κs = let h = line-1 (bytes "(bad") (c .before .wide .result) (c .before .wide .ensures .1) in omega (arith, h)
