@@ -1,0 +1,21 @@
+// Writes the session that is drawn from a seed: shake SEED N V B LENGTH.
+use libc::STDOUT_FILENO;
+use shaker::session_space;
+
+fn main() {
+    let mut n = [0u32; 5];
+    if !arguments::take(
+        &mut n,
+        b"usage: shake SEED N V B LENGTH\n",
+        b"shake: cannot write standard output",
+    ) {
+        return;
+    }
+    let mut out = session_space();
+    let end = shaker::shake(n[0], n[1], n[2], n[3], n[4], &mut out);
+    report::write_all(
+        STDOUT_FILENO,
+        &out[..end],
+        b"shake: cannot write standard output",
+    );
+}

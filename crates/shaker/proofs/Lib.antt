@@ -1,0 +1,9 @@
+mod Draws
+mod Acting
+mod Writing
+mod Starting
+mod Shaking
+pub mod Allowed
+pub mod Accepted
+pub mod ReadShaken
+pub mod NoNoLine

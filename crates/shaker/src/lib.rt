@@ -1,0 +1,146 @@
+// Sessions drawn from a seed.
+mod actions;
+mod drawing;
+mod generator;
+
+use lines::records::idle;
+use questions::State;
+use text::numbered::put_bad;
+use text::numbered::put_numbers;
+use text::numbered::wide;
+ghost use mathlib.Core.Path.{_≡_};
+ghost use mathlib.Core.Option.{Option·getD};
+ghost use mathlib.Core.List.{_++_};
+ghost use Prim.Native.Nat.{_+_, _*_, _≤_, _<_};
+ghost use lib.ListN.{length, drop, replicate};
+ghost use Rattle.io.specs.Counts.{Counts};
+ghost use Rattle.text.specs.Append.{Appended};
+ghost use Rattle.questions.specs.Questions.{refusal as «refusalOf»};
+ghost use Rattle.session_file.specs.Written.{openingLine};
+ghost use Rattle.session_text.specs.Printed.{blank as «blankOf»};
+ghost use Rattle.shaker.specs.Shaken.{shakeQuestions, zeroOpening, sessionText, shakenWithin};
+
+// As many bytes as a session may have; the longest that is drawn has fewer.
+const ROOM: usize = 65536;
+
+pub fn session_space() -> [u8; ROOM]
+    ensures { λ r. ⌜ r ≡ replicate 65536 0 ⌝ }
+    ensures { λ r. ⌜ 65536 ≡ length r ⌝ }
+{
+    [0; ROOM]
+}
+
+// The number of the first question answered no, or 0. With no values an opening is refused with 4 where it passes 1 to 3.
+fn refusal(tasks: u32, cells: u32, blocks: u32, count: u32) -> u32
+    ensures { λ n. ⌜ n ≡ Option·getD («refusalOf» (shakeQuestions tasks cells blocks count)) 0 ⌝ }
+{
+    let n = questions::open_refusal(5 * blocks as usize, tasks, cells, blocks, &[]);
+    if n < 4 {
+        return n;
+    }
+    if (1 <= count) & (count <= 3000) {
+        0
+    } else {
+        17
+    }
+}
+
+fn more_zeros() -> [u64; 16]
+    ensures { λ r. ⌜ r ≡ replicate 16 0 ⌝ }
+{
+    [0; 16]
+}
+
+// The first line, all values 0.
+fn put_opening(out: &mut [u8], tasks: u32, cells: u32, blocks: u32) -> usize
+    requires { ⌜ (0 < cells) × (cells ≤ 16) ⌝ }
+    requires { ⌜ 65536 ≤ length (now out) ⌝ }
+    ensures { λ r. ⌜ Appended (now (out .entry)) (now (out .exit)) 0 r (openingLine (zeroOpening tasks cells blocks)) ⌝ }
+    ensures { λ r. ⌜ r ≤ 100 ⌝ }
+{
+    let a = text::put(out, 0, b"(open");
+    let b = put_numbers(out, a, &[wide(tasks), wide(cells), wide(blocks)]);
+    let c = text::put(out, b, b" (0");
+    let values = more_zeros();
+    let more = cells as usize - 1;
+    let d = put_numbers(out, c, &values[..more]);
+    text::put(out, d, b"))\n")
+}
+
+fn blank() -> State
+    ensures { λ s. ⌜ s ≡ «blankOf» ⌝ }
+{
+    let r = idle();
+    State {
+        tasks: 0,
+        cells: 0,
+        blocks: 0,
+        last: 0,
+        current: [0; 16],
+        records: [r; 32],
+    }
+}
+
+// The session's lines, on a pool and with values that are all 0. What is left in the pool is open: it is the session's own.
+fn put_session(
+    out: &mut [u8],
+    pool: &mut [u32],
+    values: &[u32],
+    seed: u32,
+    tasks: u32,
+    cells: u32,
+    blocks: u32,
+    count: u32,
+) -> usize
+    requires { ⌜ (0 < tasks) × (tasks ≤ 32) × (0 < cells) × (cells ≤ 16) × (blocks ≤ 128) × (count ≤ 3000) ⌝ }
+    requires { ⌜ (now pool ≡ replicate (5 * blocks) 0) × (now values ≡ replicate cells 0) ⌝ }
+    requires { ⌜ 65536 ≤ length (now out) ⌝ }
+    ensures { λ r. ⌜ Appended (now (out .entry)) (now (out .exit)) 0 r (sessionText seed tasks cells blocks count) ⌝ }
+{
+    let at = put_opening(out, tasks, cells, blocks);
+    let first = cells::open(blank(), pool, tasks, cells, blocks, values);
+    let s = first.state;
+    actions::put_actions(out, at, s, pool, seed, tasks, cells, count)
+}
+
+fn pool_space() -> [u32; 640]
+    ensures { λ r. ⌜ r ≡ replicate 640 0 ⌝ }
+{
+    [0; 640]
+}
+
+fn value_space() -> [u32; 16]
+    ensures { λ r. ⌜ r ≡ replicate 16 0 ⌝ }
+{
+    [0; 16]
+}
+
+// Prints the session drawn from the seed, or the number of a refusal, at the start of out, and returns the text's length;
+// nothing where out has no ROOM. The bytes after the text are as they were.
+pub fn shake(seed: u32, tasks: u32, cells: u32, blocks: u32, count: u32, out: &mut [u8]) -> usize
+    ensures { λ r. ⌜ now (out .exit) ≡ shakenWithin (length (now (out .entry))) seed tasks cells blocks count ++ drop r (now (out .entry)) ⌝ }
+    ensures { λ r. ⌜ r ≡ length (shakenWithin (length (now (out .entry))) seed tasks cells blocks count) ⌝ }
+    ensures { λ r. ⌜ Counts r (now (out .exit)) ⌝ }
+{
+    if out.len() < ROOM {
+        return 0;
+    }
+    let n = refusal(tasks, cells, blocks, count);
+    if n != 0 {
+        return put_bad(out, 0, n);
+    }
+    let mut pool = pool_space();
+    let values = value_space();
+    let words = 5 * blocks as usize;
+    let v = cells as usize;
+    put_session(
+        out,
+        &mut pool[..words],
+        &values[..v],
+        seed,
+        tasks,
+        cells,
+        blocks,
+        count,
+    )
+}
