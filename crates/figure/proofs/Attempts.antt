@@ -13,7 +13,7 @@ use Rattle.lines.specs.declared.Access.{Access}
 use Rattle.lines.specs.declared.Access.the-variants.{DecideCas, InstallCas}
 use Rattle.lines.specs.Record.{noValue, idle}
 use Rattle.lines.specs.Lines.{Line, for13, for25, for28, l2, l30, lineOf, accessAt, accessOf, hardware, found, attempt}
-use Rattle.lines.proofs.Attempts.{none-tried}
+use Rattle.figure.proofs.Tries.{none-tried}
 use Rattle.questions.specs.Questions.{lineFit}
 use Rattle.questions.proofs.Numbers.{number, at-number}
 use Rattle.cells.specs.Events.{tried}

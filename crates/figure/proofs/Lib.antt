@@ -1,5 +1,6 @@
 pub mod AsBegun
 pub mod LineLaws
+pub mod Tries
 pub mod Records
 pub mod Paths
 pub mod Tallies

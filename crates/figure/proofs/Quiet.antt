@@ -16,7 +16,7 @@ use Rattle.lines.specs.Answers.{Next, Go, Done}
 use Rattle.lines.specs.Basics.{within}
 use Rattle.lines.specs.Record.{noValue}
 use Rattle.lines.specs.Lines.{Line, l1, l2, l3, l4, l5, l6, l7, l8, l10, l11, l12, l15, l16, l17, l18, l19, l20, l21, l22, l23, l24, l26, l27, l30, nowhere, lineOf, accessAt, counted, nextAt, hardware, attempt}
-use Rattle.lines.proofs.Attempts.{none-tried}
+use Rattle.figure.proofs.Tries.{none-tried}
 use Rattle.questions.proofs.Numbers.{number}
 use Rattle.history.specs.Basics.{upd}
 use Rattle.history.specs.History.{untried}

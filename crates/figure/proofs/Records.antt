@@ -13,7 +13,7 @@ use Rattle.cells.specs.Answers.{Refused, Acted}
 use Rattle.lines.specs.Answers.{Next, Go, Done}
 use Rattle.lines.specs.Record.{idle, isIdle}
 use Rattle.lines.specs.Lines.{Line, lineAt, lineOf, accessAt, accessOf, attempt, counted, nextOf, hardware}
-use Rattle.lines.proofs.Attempts.{tries}
+use Rattle.figure.proofs.Tries.{tries}
 use Rattle.questions.specs.Questions.{Question, refusal, ofKind, reads, swaps, lineFit, valuesFit, beginQuestions, swapQuestions, stepQuestions}
 use Rattle.history.specs.Basics.{upd, _∈_}
 use Rattle.history.specs.History.{Op, read, swap, cellOf, Action, begin, step, Report, untried, wins, losses, run}

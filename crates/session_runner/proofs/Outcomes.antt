@@ -10,7 +10,7 @@ use Rattle.lines.specs.declared.Record.{Record}
 use Rattle.lines.specs.Answers.{Next}
 use Rattle.lines.specs.Record.{recordAt, firstRead, firstSwap}
 use Rattle.lines.specs.Lines.{Line, lineOf, accessAt, accessOf, nextOf, attempt, counted, hardware}
-use Rattle.lines.proofs.Attempts.{tries}
+use Rattle.figure.proofs.Tries.{tries}
 use Rattle.questions.specs.declared.State.{State}
 use Rattle.questions.specs.Questions.{refusal, lineFit, fit, beginQuestions, swapQuestions, stepQuestions}
 use Rattle.blocks.specs.Blocks.{unused}
