@@ -1,8 +1,8 @@
 """The library of cells: pool, blocks, task records, the lines of figure 2.
 
 Written from document 01 ("Shared cells for the milling unit's tasks"), change
-requests 2 and 5 of document 02 and source document 003, figure 2, alone.  Their
-sentences are quoted in the comments where they decide something.
+requests 2, 5 and 7 of document 02 and source document 003, figure 2, alone.
+Their sentences are quoted in the comments where they decide something.
 """
 
 from typing import NamedTuple
@@ -146,6 +146,14 @@ class Record:
         the taking is line 4, so the next line is 5 to 8 or 30."""
         return self.line in TAKEN_LINES
 
+    def blocks(self):
+        """The blocks that the task uses: "once for each task holding it, once
+        for each task that has taken it" (change request 7)."""
+        if self.holds_a_block:
+            yield self.held
+        if self.has_taken_a_block:
+            yield self.installing
+
 
 class Cells:
     """N tasks, V cells and B blocks in a lent pool, as one opening left them."""
@@ -171,12 +179,16 @@ class Cells:
         self.last_taken = v - 1
         # "It leaves every task's record idle, its other fields 0."
         self.tasks = [Record() for _ in range(n)]
+        # "The state now stores, for each block, how many times it is used"
+        # (change request 7); so far by the cells alone.
+        self.counts = [1] * v + [0] * (MOST_BLOCKS - v)
 
     @classmethod
     def found(cls, n, v, b, pool, current, last_taken, tasks):
         """Any state with any pool, as it was found: nothing is asked and
-        nothing set.  "every entry takes any numbers and any state" (demand
-        1), and question 6 is asked before anything else."""
+        nothing set, but the counts are true until they are edited.  "every
+        entry takes any numbers and any state" (demand 1), and question 6 is
+        asked before anything else."""
         state = cls.__new__(cls)
         state.n = n
         state.v = v
@@ -186,22 +198,30 @@ class Cells:
         state.current = current
         state.last_taken = last_taken
         state.tasks = tasks
+        state.counts = state.fresh_counts()
         return state
 
     # ----------------------------------------------------------- the pool
 
+    def fresh_counts(self):
+        """"a fresh reading of the table": how many times each block is used,
+        "once for each cell whose current block it is, once for each task
+        holding it, once for each task that has taken it" (change request 7).
+        Of the 128 a state has room for, those below B are asked."""
+        counts = [0] * MOST_BLOCKS
+        for block in self.current:
+            count(counts, block, 1)
+        for record in self.tasks:
+            for block in record.blocks():
+                count(counts, block, 1)
+        return counts
+
     def is_used(self, block):
         """"A block is used while it is current, or held by a busy task that
         has done its first load, or taken by a task whose next line is 30";
-        "A taken block counts as used from line 4" (change request 2)."""
-        if block in self.current:
-            return True
-        for record in self.tasks:
-            if record.holds_a_block and record.held == block:
-                return True
-            if record.has_taken_a_block and record.installing == block:
-                return True
-        return False
+        "A taken block counts as used from line 4" (change request 2).  "taking
+        a block reads only the counts" (change request 7)."""
+        return self.counts[block] != 0
 
     def take_unused_block(self):
         """"The unused block taken is the first met going upward from the
@@ -229,7 +249,11 @@ class Cells:
         if self.last_taken >= self.b:
             return False
         # "each record is idle or busy"
-        return all(self.is_record_fit(record) for record in self.tasks)
+        if not all(self.is_record_fit(record) for record in self.tasks):
+            return False
+        # "A state whose counts differ from a fresh reading of the table is not
+        # fit" (change request 7); a block is one below B.
+        return self.counts[:self.b] == self.fresh_counts()[:self.b]
 
     def is_record_fit(self, record):
         if not record.busy:
@@ -314,15 +338,29 @@ class Cells:
         if number:
             return Refused(number)
         record = self.tasks[task]
+        cell = record.cell
+        before = [self.current[cell], *record.blocks()]
         record.steps += 1
         answer = self.do_line(task, record)
-        if answer is None:
-            return None
-        # "A call returns with its last step."
-        finished = Finished(record.kind, record.cell, answer, record.steps,
-                            record.won, record.lost)
-        record.clear()
+        finished = None
+        if answer is not None:
+            # "A call returns with its last step."
+            finished = Finished(record.kind, record.cell, answer, record.steps,
+                                record.won, record.lost)
+            record.clear()
+        # "Every entry keeps these counts true, a finishing step included"
+        # (change request 7); a begin uses no block.
+        after = [self.current[cell], *record.blocks()]
+        self.move_counts(before, after)
         return finished
+
+    def move_counts(self, before, after):
+        """The blocks that a step's cell and record named before it and name
+        after it."""
+        for block in before:
+            count(self.counts, block, -1)
+        for block in after:
+            count(self.counts, block, 1)
 
     def look(self, cell):
         """"Look answers what a read would return if it ran now and nothing
@@ -496,6 +534,12 @@ class Cells:
         if record.kind == SWAP:
             return value == record.expected
         return value
+
+
+def count(counts, block, by):
+    """Counts a block that is one of the 128."""
+    if block < MOST_BLOCKS:
+        counts[block] += by
 
 
 def open_refusal(n, v, b, pool, values):

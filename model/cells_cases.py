@@ -11,6 +11,9 @@ print `NAME R S T no N` or `NAME R S T shows V`: what begin a read, begin a
 swap, step and look answer, each asked of the case's own state.  100 stands for
 acted, 200 for ended, any other number for that refusal; a `!` after it would
 say that the refusal changed something.
+
+The state's counts of uses (change request 7) are those of a fresh reading, but
+for the block that z names, if there is one: its stored count is Z.
 """
 
 import re
@@ -30,7 +33,8 @@ PLAIN = dict(
     o=0, p=0, q=0,          # held, taken, steps
     r=0, s=0,               # hardware swaps won, lost
     t=0, u=0, v=5, w=7,     # of the calls: task, cell, expected, new
-    x=0, y=6)               # how many values open is given; the second
+    x=0, y=6,               # how many values open is given; the second
+    z=128, Z=0)             # a block whose stored count is given; the count
 
 KINDS = {1: cells.READ, 2: cells.SWAP}
 
@@ -43,7 +47,7 @@ def read_case(line):
     words, colon, name = line.partition(":")
     case = dict(PLAIN)
     for word in words.split(" ") if words else ():
-        if not (colon and re.fullmatch("[a-y](0|[1-9][0-9]*)", word)):
+        if not (colon and re.fullmatch("[a-zZ](0|[1-9][0-9]*)", word)):
             raise ValueError("not a case: %r" % line)
         case[word[0]] = int(word[1:])
     return case, name
@@ -80,14 +84,19 @@ def state_of(case):
         record.steps = case["q"]
         record.won = case["r"]
         record.lost = case["s"]
-    return cells.Cells.found(
+    state = cells.Cells.found(
         case["a"], case["b"], case["c"], pool_of(case),
         current[:case["b"]], case["d"], tasks[:case["a"]])
+    # the stored counts are those of a fresh reading, but for the one given; a
+    # state has counts of 128 blocks, so 128 gives none
+    if case["z"] < len(state.counts):
+        state.counts[case["z"]] = case["Z"]
+    return state
 
 
 def words_of(state):
     return (state.n, state.v, state.b, tuple(state.pool),
-            tuple(state.current), state.last_taken,
+            tuple(state.current), state.last_taken, tuple(state.counts),
             tuple(record.words() for record in state.tasks))
 
 

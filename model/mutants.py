@@ -24,7 +24,15 @@ import selftest
 
 HERE = os.path.dirname(os.path.abspath(__file__))
 
-TAKEN_USED = "if record.has_taken_a_block and record.installing == block:"
+# Which blocks a record uses, and how a step keeps the counts.
+HELD_USED = "if self.holds_a_block:"
+TAKEN_USED = "if self.has_taken_a_block:"
+CELLS_USED = """        for block in self.current:
+            count(counts, block, 1)
+"""
+AFTER = "after = [self.current[cell], *record.blocks()]"
+MOVE = "self.move_counts(before, after)"
+OPENED = "self.counts = [1] * v + [0] * (MOST_BLOCKS - v)"
 
 # What the hardware swaps find, how they count, and the line that says so.
 COUNTS = "\n            self.count_attempt(record, won)"
@@ -40,7 +48,7 @@ DONE = """(done %d %s %d %s %d %d %d)" % (
 MISREADINGS = [
     # document 01, "Readings to keep out"
     ("a block is reused as soon as it is replaced", "cells",
-     "if record.holds_a_block and record.held == block:", "if False:"),
+     HELD_USED, "if False:"),
     ("V is returned from an inactive block", "cells",
      "if pool[at + C] == 0:\n                return self.end_of_read",
      "if True:\n                return self.end_of_read"),
@@ -52,13 +60,74 @@ MISREADINGS = [
     # the pool
     ("a taken block is not used", "cells",
      TAKEN_USED, "if False:"),
-    ("a current block is not used", "cells",
-     "if block in self.current:", "if False:"),
+    ("a current block is not used", "cells", "return self.counts[block] != 0",
+     "return self.counts[block] - self.current.count(block) > 0"),
     ("only cell 0's block is current", "cells",
-     "if block in self.current:", "if block == self.current[0]:"),
-    ("only tasks 0 to 15 hold blocks", "cells",
-     "for record in self.tasks:\n            if record.holds_a_block",
-     "for record in self.tasks[:16]:\n            if record.holds_a_block"),
+     "return self.counts[block] != 0",
+     "return self.counts[block] - self.current[1:].count(block) > 0"),
+    ("only tasks 0 to 15 hold blocks", "cells", MOVE,
+     MOVE.replace("(before, after)", "(*((before, after) if task < 16 else"
+                  " (before[:1], after[:1])))")),
+    # change request 7: the counts that are kept
+    ("the counts are never moved", "cells", MOVE, "pass"),
+    ("the counts only grow", "cells", MOVE, MOVE.replace("before,", "(),")),
+    ("the counts only fall", "cells", MOVE, MOVE.replace(", after", ", ()")),
+    ("a finishing step moves no count", "cells", MOVE,
+     "if finished is None:\n            " + MOVE),
+    ("only a finishing step moves counts", "cells", MOVE,
+     "if finished is not None:\n            " + MOVE),
+    ("a finishing step keeps the hold counted", "cells", MOVE,
+     "if finished:\n            del before[1:2]\n        " + MOVE),
+    ("a finishing step keeps the taken block counted", "cells", MOVE,
+     "if finished:\n            del before[2:]\n        " + MOVE),
+    ("a failed swap keeps the taken block counted", "cells", MOVE,
+     "if finished and not finished.answer:\n            del before[2:]\n"
+     "        " + MOVE),
+    ("a won line 30 leaves the new block uncounted", "cells", MOVE,
+     "if before[0] != after[0]:\n            after = []\n        " + MOVE),
+    ("a won line 30 counts the new block twice", "cells", MOVE,
+     "if before[0] != after[0]:\n            del before[2:]\n        " + MOVE),
+    ("a won line 30 leaves the old block the cell's", "cells", MOVE,
+     "if before[0] != after[0]:\n            del before[0]\n        " + MOVE),
+    ("a won line 30 leaves the old block the task's", "cells", MOVE,
+     "if before[0] != after[0]:\n            del before[1]\n        " + MOVE),
+    ("a won line 30 frees the old block for all", "cells", MOVE, MOVE
+     + "\n        if before[0] != after[0]:\n"
+     "            self.counts[before[0]] = 0"),
+    ("line 4 counts nothing", "cells", MOVE,
+     "if record.line != 5:\n            " + MOVE),
+    ("line 5 counts the taken block", "cells", MOVE,
+     "if record.line == 5:\n            del after[2]\n"
+     "        if record.line == 6:\n            del before[2]\n        "
+     + MOVE),
+    ("the first load counts nothing", "cells", MOVE,
+     "if record.line not in (11, 16):\n            " + MOVE),
+    ("a read's first load counts nothing", "cells", MOVE,
+     "if record.line != 11:\n            " + MOVE),
+    ("a swap's first load counts nothing", "cells", MOVE,
+     "if record.line != 16:\n            " + MOVE),
+    ("a begin counts the cell's block", "cells",
+     "        record.line = 10 if record.runs_read_lines else 15\n",
+     "        record.line = 10 if record.runs_read_lines else 15\n"
+     "        count(self.counts, self.current[cell], 1)\n"),
+    ("a count is at most 1", "cells", "counts[block] += by",
+     "counts[block] = max(min(counts[block] + by, 1), 0)"),
+    ("a count is at most 2", "cells", "counts[block] += by",
+     "counts[block] = max(min(counts[block] + by, 2), 0)"),
+    ("a block counted once is unused", "cells",
+     "return self.counts[block] != 0", "return self.counts[block] > 1"),
+    ("a block is used when counted once", "cells",
+     "return self.counts[block] != 0", "return self.counts[block] == 1"),
+    ("opening counts nothing", "cells", OPENED,
+     "self.counts = [0] * MOST_BLOCKS"),
+    ("opening counts every block", "cells", OPENED,
+     "self.counts = [1] * MOST_BLOCKS"),
+    ("opening counts block 0 for every cell", "cells", OPENED,
+     "self.counts = [v] + [0] * (MOST_BLOCKS - 1)"),
+    ("opening counts one block too few", "cells", OPENED,
+     "self.counts = [1] * (v - 1) + [0] * (MOST_BLOCKS - v + 1)"),
+    ("the cell is forgotten with the call", "cells", AFTER,
+     AFTER.replace("cell]", "record.cell]")),
     # change request 2: the fill
     ("the fill leaves Y", "cells", "pool[nb + Y] = 0", "pass"),
     ("the fill leaves C", "cells", "pool[nb + C] = 0", "pass"),
@@ -108,29 +177,26 @@ MISREADINGS = [
      "                pool[nb + C] = 1"),
     # change request 2: from when on a taken block counts as used
     ("a taken block is used at line 30 alone", "cells", TAKEN_USED,
-     TAKEN_USED.replace("record.has_taken_a_block", "record.line == 30")),
+     TAKEN_USED.replace("self.has_taken_a_block", "self.line == 30")),
     ("a taken block is used until line 30", "cells", TAKEN_USED,
-     TAKEN_USED.replace("if ", "if record.line != 30 and ")),
+     TAKEN_USED.replace("if ", "if self.line != 30 and ")),
     ("a taken block is used from line 5", "cells", TAKEN_USED,
-     TAKEN_USED.replace("if ", "if record.line != 5 and ")),
+     TAKEN_USED.replace("if ", "if self.line != 5 and ")),
     ("a taken block is used from line 6", "cells", TAKEN_USED,
-     TAKEN_USED.replace("if ", "if record.line not in (5, 6) and ")),
+     TAKEN_USED.replace("if ", "if self.line not in (5, 6) and ")),
     ("a taken block is not used after line 5", "cells", TAKEN_USED,
-     TAKEN_USED.replace("if ", "if record.line != 6 and ")),
+     TAKEN_USED.replace("if ", "if self.line != 6 and ")),
     ("a taken block is not used after line 6", "cells", TAKEN_USED,
-     TAKEN_USED.replace("if ", "if record.line != 7 and ")),
+     TAKEN_USED.replace("if ", "if self.line != 7 and ")),
     ("a taken block is not used after line 7", "cells", TAKEN_USED,
-     TAKEN_USED.replace("if ", "if record.line != 8 and ")),
-    ("only tasks 0 to 15 have taken blocks", "cells", TAKEN_USED,
-     TAKEN_USED.replace("if ", "if record not in self.tasks[16:] and ")),
-    ("a filling task does not hold its block", "cells",
-     "if record.holds_a_block and record.held == block:",
-     "if (record.holds_a_block and not 4 <= record.line <= 8\n"
-     "                    and record.held == block):"),
-    ("a task from line 4 on does not hold its block", "cells",
-     "if record.holds_a_block and record.held == block:",
-     "if (record.holds_a_block and record.line not in (4, 5, 6, 7, 8, 30)\n"
-     "                    and record.held == block):"),
+     TAKEN_USED.replace("if ", "if self.line != 8 and ")),
+    ("only tasks 0 to 15 have taken blocks", "cells", MOVE,
+     MOVE.replace("(before, after)", "(*((before, after) if task < 16 else"
+                  " (before[:2], after[:2])))")),
+    ("a filling task does not hold its block", "cells", HELD_USED,
+     HELD_USED.replace(":", " and not 4 <= self.line <= 8:")),
+    ("a task from line 4 on does not hold its block", "cells", HELD_USED,
+     HELD_USED.replace(":", " and self.line not in (4, 5, 6, 7, 8, 30):")),
     # the lines
     ("17 goes on to 18", "cells",
      "record.line = 27 if pool[at + Y] != 0 else 18", "record.line = 18"),
@@ -424,6 +490,8 @@ TAKEN_FIT = "if record.has_taken_a_block and record.installing >= self.b:"
 SO_FAR = ("return (record.steps <= MOST_STEPS_SO_FAR\n"
           "                and record.won + record.lost <= MOST_HARD_SO_FAR)")
 SUM = "record.won + record.lost <= MOST_HARD_SO_FAR)"
+ALL_FIT = "if not all(self.is_record_fit(record) for record in self.tasks):"
+COUNTS_FIT = "return self.counts[:self.b] == self.fresh_counts()[:self.b]"
 IDLE_IS_FIT = "if not record.busy:\n            return True"
 FIT_MISREADINGS = [
     ("6 leaves out N", FIT, FIT + " not in (0, 1)"),
@@ -438,9 +506,9 @@ FIT_MISREADINGS = [
     ("a cell's block B", "block >= self.b for", "block > self.b for"),
     ("the last taken B", "self.last_taken >= self.b",
      "self.last_taken > self.b"),
-    ("the first task's record alone", "for record in self.tasks)\n\n    def",
-     "for record in self.tasks[:1])\n\n    def"),
-    ("any record", "return all(self.is_rec", "return any(self.is_rec"),
+    ("the first task's record alone", ALL_FIT,
+     ALL_FIT.replace("self.tasks", "self.tasks[:1]")),
+    ("any record", ALL_FIT, ALL_FIT.replace("all(", "any(")),
     ("idle records asked their kind", IDLE_IS_FIT,
      "if not record.busy:\n            return record.kind in (0, READ, SWAP)"),
     ("idle records asked their values", IDLE_IS_FIT,
@@ -613,6 +681,71 @@ FIT_MISREADINGS = [
      SO_FAR + " and (record.kind == SWAP or record.steps < 6)"),
     ("a read's hardware swaps are at most 1", SO_FAR,
      SO_FAR + " and (record.kind == SWAP or record.hard < 2)"),
+    # change request 7: the counts
+    ("no count is asked", COUNTS_FIT, "return True"),
+    ("counts at B and above are asked", COUNTS_FIT,
+     COUNTS_FIT.replace("[:self.b]", "")),
+    ("the count of block B is asked", COUNTS_FIT,
+     COUNTS_FIT.replace("self.b]", "self.b + 1]")),
+    ("the last block's count is not asked", COUNTS_FIT,
+     COUNTS_FIT.replace("self.b]", "self.b - 1]")),
+    ("the first block's count is not asked", COUNTS_FIT,
+     COUNTS_FIT.replace("[:", "[1:")),
+    ("the cells' first blocks' counts are not asked", COUNTS_FIT,
+     COUNTS_FIT.replace("[:", "[self.v:")),
+    ("the counts of the cells' first blocks alone are asked", COUNTS_FIT,
+     COUNTS_FIT.replace("self.b]", "self.v]")),
+    ("a count too high is taken", COUNTS_FIT, "return all(a >= b for a, b in"
+     " zip(self.counts[:self.b], self.fresh_counts()))"),
+    ("a count too low is taken", COUNTS_FIT, "return all(a <= b for a, b in"
+     " zip(self.counts[:self.b], self.fresh_counts()))"),
+    ("only used or unused is asked", COUNTS_FIT, "return all((a > 0) == (b >"
+     " 0) for a, b in zip(self.counts[:self.b], self.fresh_counts()))"),
+    ("only unused blocks' counts are asked", COUNTS_FIT, "return all(a == b or"
+     " b > 0 for a, b in zip(self.counts[:self.b], self.fresh_counts()))"),
+    ("only used blocks' counts are asked", COUNTS_FIT, "return all(a == b or"
+     " b == 0 for a, b in zip(self.counts[:self.b], self.fresh_counts()))"),
+    ("a count may be off by one", COUNTS_FIT, "return all(abs(a - b) < 2 for"
+     " a, b in zip(self.counts[:self.b], self.fresh_counts()))"),
+    *(("counts have %d bits" % bits, COUNTS_FIT, "return all((a - b) %% 2 ** %d"
+       " == 0 for a, b in zip(self.counts[:self.b], self.fresh_counts()))"
+       % bits) for bits in (1, 8, 16, 31)),
+    ("the reading leaves out the cells", CELLS_USED, ""),
+    ("the reading has cell 0 alone", CELLS_USED,
+     CELLS_USED.replace("current:", "current[:1]:")),
+    ("the reading has each cell's block once", CELLS_USED,
+     CELLS_USED.replace("self.current:", "set(self.current):")),
+    ("the reading leaves out what is held", HELD_USED, "if False:"),
+    ("the reading leaves out what is taken", TAKEN_USED, "if False:"),
+    ("the reading has what is held or taken once", TAKEN_USED,
+     TAKEN_USED.replace(":", " and self.held != self.installing:")),
+    ("the reading has task 0 alone", "for record in self.tasks:\n",
+     "for record in self.tasks[:1]:\n"),
+    ("the reading leaves out the last task", "for record in self.tasks:\n",
+     "for record in self.tasks[:-1]:\n"),
+    ("the reading leaves out held blocks that are current",
+     "            for block in record.blocks():\n                count",
+     "            for block in set(record.blocks()) - set(self.current):\n"
+     "                count"),
+    ("a busy task holds its block before the first load", HELD_USED,
+     "if self.busy:"),
+    ("an idle task holds its block", HELD_USED,
+     "if self.line not in (10, 15):"),
+    ("a read holds no block", HELD_USED,
+     HELD_USED.replace(":", " and self.kind == SWAP:")),
+    ("an equal swap holds no block", HELD_USED, HELD_USED.replace(
+        ":", " and (self.kind == READ or not self.runs_read_lines):")),
+    ("a deciding task holds no block", HELD_USED,
+     HELD_USED.replace(":", " and self.line > 3:")),
+    *(("a task at %d holds no block" % line, HELD_USED,
+       HELD_USED.replace(":", " and self.line != %d:" % line))
+      for line in (1, 2, 3, 4, 5, 6, 7, 8, 11, 12, *range(16, 25), 26, 27, 30)),
+    *(("a task at %d has taken no block" % line, TAKEN_USED,
+       TAKEN_USED.replace(":", " and self.line != %d:" % line))
+      for line in (5, 6, 7, 8, 30)),
+    *(("a task at %d has taken a block" % line, TAKEN_USED,
+       TAKEN_USED.replace(":", " or self.line == %d:" % line))
+      for line in (0, 2, 4, 24, 27)),
     ("7 before 6", "return 6\n", "return 6 if task is None or task < self.n"
      " else 7\n"),
     ("look does not ask 6", "return 6\n",
@@ -679,8 +812,7 @@ FILL_MISREADINGS = [
      "block = (self.last_taken + onward) % self.b",
      "block = (self.last_taken - onward) % self.b"),
     ("a block is taken before line 4", TAKEN_USED,
-     TAKEN_USED.replace("record.has", "(record.line == 4 or record.has")
-     .replace("block and", "block) and")),
+     TAKEN_USED.replace("self.has", "self.line == 4 or self.has")),
 ]
 
 # The same of won and lost where no opening leads: each must change what a step
@@ -709,6 +841,12 @@ ATTEMPT_MISREADINGS = [
      "if won and record.hard != 2:\n            record"),
     ("D 0 is none", COUNTS_2, COUNTS_2.replace("== NONE", "in (NONE, 0)")),
 ]
+
+# Those of the counts that a step keeps are told also by one of selftest.py's
+# states, which have three tasks.
+COUNT_MISREADINGS = [
+    (what, *edit) for what, where, *edit in MISREADINGS
+    if edit[0] in (MOVE, AFTER) and "task < 16" not in edit[1]]
 
 
 def edited(names, where, old, new):
@@ -796,6 +934,13 @@ def main():
         module = edited(("cells",), "cells", *edit)["cells"]
         return lambda state: selftest.attempt_answers(module, *state)
 
+    counts = {name: selftest.count_answers(cells, *state)
+              for name, state in selftest.COUNTS.items()}
+
+    def count_answers(edit):
+        module = edited(("cells",), "cells", *edit)["cells"]
+        return lambda state: selftest.count_answers(module, *state)
+
     found = [(what, tellers(misread(*edit)[0], sessions, cases.prints))
              for what, *edit in MISREADINGS]
     found += [(what, tellers(misread("rate", *edit)[0], sessions,
@@ -810,6 +955,9 @@ def main():
     found += [(what, tellers(attempt_answers(edit), selftest.ATTEMPTS,
                              attempts))
               for what, *edit in ATTEMPT_MISREADINGS]
+    found += [(what + ", in a state", tellers(count_answers(edit),
+                                              selftest.COUNTS, counts))
+              for what, *edit in COUNT_MISREADINGS]
     return report(found)
 
 

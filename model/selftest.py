@@ -1,6 +1,6 @@
 #!/usr/bin/env python3
-"""Self test of the model: P1 to P10, the fill, hardware swaps won and lost, and
-claims on drawn lists.
+"""Self test of the model: P1 to P10, the fill, hardware swaps won and lost, the
+counts of uses, and claims on drawn lists.
 
 The drawn lists check what documents 00 and 01 say of every list: counts by
 path, the figure with a new block each time, the bounds, the promise of no
@@ -217,7 +217,7 @@ def every_refusal_changes_nothing():
 
 def everything(model):
     return (list(model.pool), list(model.current), model.last_taken,
-            [record.words() for record in model.tasks])
+            list(model.counts), [record.words() for record in model.tasks])
 
 
 def unfit_states_are_refused():
@@ -243,15 +243,27 @@ def unfit_states_are_refused():
         lambda m: (setattr(m.tasks[0], "won", 2),
                    setattr(m.tasks[0], "lost", 2)),
     ]
-    for damage in damages:
+    count_damages = [
+        lambda m, block=block, by=by: m.counts.__setitem__(
+            block, m.counts[block] + by)
+        for block in range(5) for by in (1, -1, 256, 2 ** 32)]
+    for damage in damages + count_damages:
         model = cells.open_cells(2, 1, 5, [0] * 25, [5])
         model.begin_swap(0, 0, 5, 7)
         model.step(0)
         check("fit", model.is_fit(), True)
         damage(model)
+        if damage in damages:
+            # the counts are true of what is damaged
+            model.counts = model.fresh_counts()
         check("unfit", (model.begin_read(9, 9), model.step(9), model.look(9),
                         model.begin_swap(9, 9, 9, 9)),
               (cells.Refused(6),) * 4)
+    # "how many times it is used" is asked of blocks alone: those below B
+    for block in range(5, cells.MOST_BLOCKS):
+        model = cells.open_cells(2, 1, 5, [0] * 25, [5])
+        model.counts[block] = 3
+        check("fit", (model.is_fit(), model.look(0)), (True, 5))
 
 
 # ---------------------------------------------------- the fill's five turns
@@ -285,6 +297,7 @@ def fill_state(module, line, taken, steps, last, other, other_taken):
             record.expected, record.new = 5, new
             record.installing, record.steps = block, steps
             record.lost = 1
+    model.counts = model.fresh_counts()
     return model
 
 
@@ -352,6 +365,7 @@ def every_block_is_used():
                 record.line = (5, 6, 7, 8, 30)[task % 5] if task else 4
                 if task:
                     record.installing = blocks.pop()
+            model.counts = model.fresh_counts()
             check("all but one are used", (blocks, model.is_fit()), ([], True))
             check("one is left", (model.step(0), model.tasks[0].installing,
                                   model.last_taken, model.is_fit()),
@@ -366,6 +380,7 @@ def every_block_is_used():
             record.line = 5 if task else 4
         if b > 1:
             model.tasks[0].held = 1
+        model.counts = model.fresh_counts()
         before = list(model.pool), model.last_taken
         check("fit", model.is_fit(), False)
         check("none is unused", (model.step(0), model.pool, model.last_taken,
@@ -413,6 +428,7 @@ def attempt_answers(module, line, wanted, d, loaded, current, held, taken, won,
     record.expected, record.new = 5, 6
     record.held, record.installing, record.loaded = held, taken, loaded
     record.won, record.lost = won, lost
+    model.counts = model.fresh_counts()
     before = list(model.pool)
     result = model.step(0)
     after = record if result is None else result
@@ -437,7 +453,8 @@ def attempts_by_the_papers():
 
 def attempts_told_by_memory(model, actions):
     """Runs the actions.  From a fresh opening an attempt is won exactly if it
-    changes memory: D becomes other than none, or the cell's block another."""
+    changes memory: D becomes other than none, or the cell's block another.  And
+    after each step the counts of uses are those of a reading."""
     def memory():
         return list(model.pool), list(model.current)
 
@@ -458,8 +475,82 @@ def attempts_told_by_memory(model, actions):
             won, lost = won + changed, lost + (not changed)
         after = record if result is None else result
         check("won and lost", (after.won, after.lost), (won, lost))
+        check("counts of uses", model.counts[:model.b],
+              counts_by_reading(model))
         if result is None:
             tries[task] = won, lost
+
+
+# ------------------------------------------------- the counts of uses
+
+# A step of each line in states of three tasks, two cells and nine blocks: its
+# line and who wanted it; C and D of the held block; the block of the cell, the
+# one held and the one taken; and what task 1 holds and has taken, at line 30.
+COUNTS = {}
+for _line, _wanted in ((10, 0), (11, 0), (12, 0), *(
+        (_line, 0) for _line in (4, 5, 6, 7, 8, *range(15, 25), 26, 27, 30)),
+        *((_line, _wanted) for _line in (1, 2, 3)
+          for _wanted in (13, 25, 28))):
+    for _name, _state in {
+            "current": (0, 0, 5, 3, 6), "replaced": (0, 4, 5, 3, 6),
+            "shared": (4, 4, 5, 4, 6), "shared_replaced": (0, 4, 5, 4, 6),
+            "others": (4, 0, 5, 0, 4), "taken_is_held": (0, 5, 5, 3, 5),
+            "taken_is_current": (5, 0, 5, 5, 0)}.items():
+        for _c, _d in ((0, NONE), (1, NONE), (1, 5), (1, 6), (1, 7)):
+            COUNTS["at_%d_for_%d_%s_c_%d_d_%d" % (
+                _line, _wanted, _name, _c, _d)] = (
+                    _line, _wanted, _c, _d, *_state)
+
+
+def counts_by_reading(model):
+    """How many times each block is used, block by block from the papers."""
+    used = []
+    for block in range(model.b):
+        cells_of_it = [k for k in range(model.v) if model.current[k] == block]
+        holding = [record for record in model.tasks[:model.n]
+                   if record.line not in (0, 10, 15) and record.held == block]
+        taken = [record for record in model.tasks[:model.n]
+                 if record.line in (5, 6, 7, 8, 30)
+                 and record.installing == block]
+        used.append(len(cells_of_it) + len(holding) + len(taken))
+    return used
+
+
+def count_answers(module, line, wanted, c, d, current, held, taken, other_held,
+                  other_taken):
+    """Whether the state is fit, whether task 0's step ends its call, the counts
+    after it, and how they differ from a reading."""
+    model = module.open_cells(3, 2, 9, [0] * 45, [5, 6])
+    model.current = [1, current]
+    model.last_taken = 6
+    for task in (0, 1):
+        record = model.tasks[task]
+        record.kind, record.cell = module.SWAP, 1
+        record.expected, record.new = 5, 6
+    record = model.tasks[1]
+    record.line, record.held, record.installing = 30, other_held, other_taken
+    record = model.tasks[0]
+    if wanted == 13 or 10 <= line <= 12:
+        record.kind = module.READ
+    record.line, record.wanted_by = line, wanted
+    record.held, record.installing, record.loaded = held, taken, 5
+    model.pool[5 * held + 2], model.pool[5 * held + 4] = c, d
+    model.counts = counts_by_reading(model) + [9] * 119
+    fit = model.is_fit()
+    model.ask_fit = False
+    result = model.step(0)
+    reading = counts_by_reading(model)
+    return (fit, result is not None, model.counts,
+            [model.counts[block] - reading[block] for block in range(9)])
+
+
+def counts_are_kept():
+    ended = 0
+    for name, state in COUNTS.items():
+        fit, ends, counts, off = count_answers(cells, *state)
+        check(name, (fit, off, counts[9:]), (True, [0] * 9, [9] * 119))
+        ended += ends
+    check("steps that end a call", ended > 50, True)
 
 
 # --------------------------------------------------------- the drawn lists
@@ -672,6 +763,7 @@ def main():
           {name: attempt_answers(cells, *state)
            for name, state in ATTEMPTS.items()},
           dict(attempts_by_the_papers()))
+    counts_are_kept()
     count = int(sys.argv[1]) if len(sys.argv) > 1 else 400
     calls = drawn_lists(count)
     print("selftest: P1 to P10 and %d drawn lists with %d calls agree"
