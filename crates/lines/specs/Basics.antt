@@ -20,3 +20,8 @@ allFrom f i (suc k) = f i && allFrom f (i + 1) k
 abbrev pub anyFrom : (ℕ → Bool) → ℕ → ℕ → Bool
 anyFrom f i zero = false
 anyFrom f i (suc k) = f i || anyFrom f (i + 1) k
+
+-- what f gives at the k numbers from i on, added up
+abbrev pub sumFrom : (ℕ → ℕ) → ℕ → ℕ → ℕ
+sumFrom f i zero = 0
+sumFrom f i (suc k) = f i + sumFrom f (i + 1) k

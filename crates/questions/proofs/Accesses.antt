@@ -1,5 +1,5 @@
 -- What the lines' accesses keep to: a block's words are the held block's, at lines that hold one, or, in a store, the taken block's, at lines
--- that have taken one; the cell is the task's own; only line 4 asks for an unused block.
+-- that have taken one; the cell is the task's own, and what it comes to name is the taken block; only line 4 asks for an unused block.
 use mathlib.Core.Path.{_≡_, refl}
 use mathlib.Core.Logic.{_⊎_, inl, inr}
 use mathlib.Core.Bool.{true}
@@ -22,7 +22,7 @@ Keeps l r (LoadCell k) = k ≡ r .cell
 Keeps l r (Load b f) = (b ≡ r .held) × Holds l
 Keeps l r (Store b f v) = ((b ≡ r .held) × Holds l) ⊎ ((b ≡ r .taken) × HasTaken l)
 Keeps l r (DecideCas b v) = (b ≡ r .held) × Holds l
-Keeps l r (InstallCas k b n) = (k ≡ r .cell) × (b ≡ r .held)
+Keeps l r (InstallCas k b n) = (k ≡ r .cell) × (b ≡ r .held) × (n ≡ r .taken) × HasTaken l
 Keeps l r Allocate = number l ≡ 4
 Keeps l r Nothing = Prim.Unit
 
@@ -50,5 +50,5 @@ keeps t r l23 = inl (refl, refl)
 keeps t r l24 = (refl, refl)
 keeps t r l26 = inl (refl, refl)
 keeps t r l27 = inl (refl, refl)
-keeps t r l30 = (refl, refl)
+keeps t r l30 = (refl, refl, refl, refl)
 keeps t r nowhere = tt

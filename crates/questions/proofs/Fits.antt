@@ -10,16 +10,16 @@ use borrow.Author.Tests.{ltb-true, ne-eqb}
 use Rattle.lines.specs.declared.Record.{Record}
 use Rattle.questions.specs.declared.State.{State}
 use Rattle.lines.specs.Basics.{ands}
-use Rattle.questions.specs.Questions.{tasksOk, cellsOk, blocksOk, busyTests, recordFit, cellsFit, recordsFit, fit, fitTests}
-use Rattle.questions.proofs.Tests.{nth, within-true, blocks-true, all-at}
+use Rattle.questions.specs.Questions.{tasksOk, cellsOk, blocksOk, busyTests, recordFit, cellsFit, recordsFit, countsTrue, fit, fitTests}
+use Rattle.questions.proofs.Tests.{nth, within-true, blocks-true, blocks-most, all-at}
 
-regroup : (a b c d e f : Bool) → ands (a ∷ b ∷ c ∷ d ∷ e ∷ f ∷ []) ≡ (a && (b && c)) && ((d && e) && f)
-regroup false b c d e f = refl
-regroup true false c d e f = refl
-regroup true true false d e f = refl
-regroup true true true false e f = refl
-regroup true true true true false f = refl
-regroup true true true true true f = and-true f
+regroup : (a b c d e f g : Bool) → ands (a ∷ b ∷ c ∷ d ∷ e ∷ f ∷ g ∷ []) ≡ (a && (b && c)) && ((d && e) && (f && g))
+regroup false b c d e f g = refl
+regroup true false c d e f g = refl
+regroup true true false d e f g = refl
+regroup true true true false e f g = refl
+regroup true true true true false f g = refl
+regroup true true true true true f g = rw (and-true g)
 
 -- the k-th test of a busy record that fits
 pub busy-test : (r : Record) (v b : ℕ) → recordFit r v b ≡ true → (r .line ≡ 0 → ⊥) → (k : ℕ) → getD (busyTests r v b) k true ≡ true
@@ -30,19 +30,21 @@ module _ (s : State) (p : List ℕ) where
   abbrev pub sizesOk : Bool
   sizesOk = tasksOk (s .tasks) && (cellsOk (s .cells) && blocksOk (s .tasks) (s .cells) (s .blocks) (length p))
 
-  pub grouped : fit s p ≡ sizesOk && ((cellsFit s && ltb (s .last) (s .blocks)) && recordsFit s)
+  pub grouped : fit s p ≡ sizesOk && ((cellsFit s && ltb (s .last) (s .blocks)) && (recordsFit s && countsTrue s))
   unfolding fit
-  grouped = regroup (tasksOk (s .tasks)) (cellsOk (s .cells)) (blocksOk (s .tasks) (s .cells) (s .blocks) (length p)) (cellsFit s) (ltb (s .last) (s .blocks)) (recordsFit s)
+  grouped = regroup (tasksOk (s .tasks)) (cellsOk (s .cells)) (blocksOk (s .tasks) (s .cells) (s .blocks) (length p)) (cellsFit s) (ltb (s .last) (s .blocks)) (recordsFit s) (countsTrue s)
 
-  pub sizes-below : sizesOk ≡ true → (s .tasks ≤ 32) × (s .cells ≤ 16)
+  pub sizes-below : sizesOk ≡ true → (s .tasks ≤ 32) × (s .cells ≤ 16) × (s .blocks ≤ 128)
   sizes-below e =
       let q = and-eq-true-iff (tasksOk (s .tasks)) _ .0 e in
-      (within-true _ 1 32 (q .0) .1, within-true _ 1 16 (and-eq-true-iff (cellsOk (s .cells)) _ .0 (q .1) .0) .1)
+      let r = and-eq-true-iff (cellsOk (s .cells)) _ .0 (q .1) in
+      (within-true _ 1 32 (q .0) .1, within-true _ 1 16 (r .0) .1, blocks-most (s .tasks) (s .cells) (s .blocks) (length p) (r .1))
 
   module _ (e : fit s p ≡ true) where
     pub record Sizes : Type 0 where
       pub tasks : s .tasks ≤ 32
       pub cells : s .cells ≤ 16
+      pub blocks : s .blocks ≤ 128
       pub last : s .last < s .blocks
       pub words : length p ≡ 5 * s .blocks
 
@@ -53,6 +55,7 @@ module _ (s : State) (p : List ℕ) where
         record {
           tasks = within-true _ 1 32 (test 0) .1;
           cells = within-true _ 1 16 (test 1) .1;
+          blocks = blocks-most (s .tasks) (s .cells) (s .blocks) (length p) (test 2);
           last = ltb-true _ _ (test 4);
           words = blocks-true (s .tasks) (s .cells) (s .blocks) (length p) (test 2) .1;
         }

@@ -2,6 +2,10 @@ pub mod Tests
 pub mod Loops
 pub mod Refusals
 pub mod Fits
+pub mod Sums
+pub mod Tables
+pub mod Uses
+pub mod Counted
 pub mod Numbers
 pub mod LineKinds
 pub mod Accesses

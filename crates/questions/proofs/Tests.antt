@@ -37,6 +37,11 @@ blocks-true n v b len e =
     let q = and-eq-true-iff (leb (v + 2 * n) b && leb b 128) (eqb len (5 * b)) .0 e in
     (leb-true _ _ (and-eq-true-iff (leb (v + 2 * n) b) (leb b 128) .0 (q .0) .0), eqb-true _ _ (q .1))
 
+pub blocks-most : (n v b len : ℕ) → blocksOk n v b len ≡ true → b ≤ 128
+blocks-most n v b len e =
+    let q = and-eq-true-iff (leb (v + 2 * n) b && leb b 128) (eqb len (5 * b)) .0 e in
+    leb-true _ _ (and-eq-true-iff (leb (v + 2 * n) b) (leb b 128) .0 (q .0) .1)
+
 -- the k-th test of a list of which all pass
 pub nth : (l : List Bool) → ands l ≡ true → (k : ℕ) → getD l k true ≡ true
 nth [] e k = refl
@@ -72,6 +77,11 @@ all-at f i zero e j l h = absurd (omega (arith, l, h))
 all-at f i (suc k) e j l h =
     let both = and-eq-true-iff (f i) (allFrom f (i + 1) k) .0 e in
     ⊎-elim (λ q. rw (← q) (both .0)) (λ lt. all-at f (i + 1) k (both .1) j (omega arith) (omega arith)) (eq-or-lt-of-le l)
+
+-- two tests that agree
+pub all-alike : (f g : ℕ → Bool) (i k : ℕ) → ((j : ℕ) → i ≤ j → j < i + k → f j ≡ g j) → allFrom f i k ≡ allFrom g i k
+all-alike f g i zero h = refl
+all-alike f g i (suc k) h = rw (h i (omega arith) (omega arith), all-alike f g (i + 1) k (λ j l m. h j (omega arith) (omega arith)))
 
 pub none-of : (f : ℕ → Bool) (i k : ℕ) → anyFrom f i k ≡ false → (j : ℕ) → i ≤ j → j < i + k → f j ≡ false
 none-of f i zero e j l h = absurd (omega (arith, l, h))

@@ -7,7 +7,7 @@ use lib.Dec.{eqb, leb, ltb}
 use lib.ListN.{getD, length}
 use Rattle.lines.specs.declared.Record.{Record}
 use Rattle.questions.specs.declared.State.{State}
-use Rattle.lines.specs.Basics.{ands, allFrom, anyFrom, within}
+use Rattle.lines.specs.Basics.{ands, allFrom, anyFrom, within, sumFrom}
 use Rattle.lines.specs.Record.{noValue, isIdle, recordAt}
 use Rattle.lines.specs.Lines.{Line, Wanted, for13, for25, for28, l1, l2, l3, l4, l5, l6, l7, l8, l10, l11, l12, l15, l16, l17, l18, l19, l20, l21, l22, l23, l24, l26, l27, l30, nowhere, lineOf}
 
@@ -120,8 +120,26 @@ cellsFit s = allFrom (λ k. ltb (getD (s .current) k 0) (s .blocks)) 0 (s .cells
 unfoldable pub recordsFit : State → Bool
 recordsFit s = allFrom (λ t. recordFit (recordAt (s .records) t) (s .cells) (s .blocks)) 0 (s .tasks)
 
+-- HOW MANY TIMES A BLOCK IS USED
+
+-- by a task: once if it holds it, once if it has taken it
+abbrev pub recordUses : Record → ℕ → ℕ
+recordUses r b = cond (isIdle r) 0 (cond (holds r && eqb (r .held) b) 1 0 + cond (hasTaken r && eqb (r .taken) b) 1 0)
+
+-- by the first k cells: once for each whose current block it is
+abbrev pub namesOf : (current : List ℕ) → (block k : ℕ) → ℕ
+namesOf l b k = sumFrom (λ k. cond (eqb (getD l k 0) b) 1 0) 0 k
+
+-- read off the table: by the cells, and by each task
+unfoldable pub uses : State → ℕ → ℕ
+uses s b = namesOf (s .current) b (s .cells) + sumFrom (λ t. recordUses (recordAt (s .records) t) b) 0 (s .tasks)
+
+-- what the state stores for each block is that
+unfoldable pub countsTrue : State → Bool
+countsTrue s = allFrom (λ b. eqb (getD (s .counts) b 0) (uses s b)) 0 (s .blocks)
+
 abbrev pub fitTests : State → List ℕ → List Bool
-fitTests s p = tasksOk (s .tasks) ∷ cellsOk (s .cells) ∷ blocksOk (s .tasks) (s .cells) (s .blocks) (length p) ∷ cellsFit s ∷ ltb (s .last) (s .blocks) ∷ recordsFit s ∷ []
+fitTests s p = tasksOk (s .tasks) ∷ cellsOk (s .cells) ∷ blocksOk (s .tasks) (s .cells) (s .blocks) (length p) ∷ cellsFit s ∷ ltb (s .last) (s .blocks) ∷ recordsFit s ∷ countsTrue s ∷ []
 
 unfoldable pub fit : State → List ℕ → Bool
 fit s p = ands (fitTests s p)

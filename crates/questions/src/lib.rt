@@ -8,6 +8,9 @@ ghost use lib.ListN.{getD};
 ghost use Prim.Native.Nat.{_+_, _≤_};
 ghost use Rattle.lines.specs.Basics.{allFrom};
 ghost use Rattle.questions.specs.Questions.{refusal, tasksOk, cellsOk, blocksOk, hasNone, openQuestions, reads, swaps, lineFit, blocksFit, valuesFit, recordFit, fit, swapQuestions, stepQuestions};
+
+pub mod counts;
+
 use lines::Record;
 use lines::records::NO_VALUE;
 
@@ -20,6 +23,8 @@ pub struct State {
     // Each cell's current block.
     pub current: [u32; 16],
     pub records: [Record; 32],
+    // How many times each block is used: by the cells that name it, the tasks that hold it and those that have taken it.
+    pub counts: [u8; 128],
 }
 
 pub fn tasks_ok(tasks: u32) -> bool
@@ -174,7 +179,8 @@ fn cells_fit(current: &[u32; 16], cells: u32, blocks: u32) -> bool
     true
 }
 
-// The loop stands here, not in a function of its own, which would copy the state once more.
+// The loop over the records stands here, not in a function of its own, which would copy the state once more. On its way each record
+// that fits is counted: one pass over the cells and one over the tasks give what the state's counts are compared with.
 pub fn is_fit(s: State, pool: &[u32]) -> bool
     ensures { λ b. ⌜ b ≡ fit s (now (pool .entry)) ⌝ }
 {
@@ -185,6 +191,8 @@ pub fn is_fit(s: State, pool: &[u32]) -> bool
     if !(cells_fit(&s.current, s.cells, s.blocks) & (s.last < s.blocks)) {
         return false;
     }
+    let mut table: [u8; 128] = [0; 128];
+    counts::count_cells(&mut table, &s.current, s.cells);
     let n = s.tasks as usize;
     let mut t: usize = 0;
     while t < n {
@@ -192,9 +200,10 @@ pub fn is_fit(s: State, pool: &[u32]) -> bool
         if !record_fit(r, s.cells, s.blocks) {
             return false;
         }
+        counts::claim(&mut table, r);
         t = t + 1;
     }
-    true
+    counts::same_counts(&s.counts, &table, s.blocks)
 }
 
 // BEGIN AND STEP, of a state of which is known whether it is fit, and the task's record
