@@ -1,73 +1,89 @@
--- Pigeonhole: how many numbers below n pass a test, and that where fewer than n do, one does not.
+-- How often all blocks are used, added up: each cell names one block, a task uses at most two, and at line 4 at most one.
 use mathlib.Core.Path.{_≡_, refl}
-use mathlib.Core.Logic.{⊎-elim}
-use mathlib.Core.Bool.{Bool, true, false, _&&_, _||_}
+use mathlib.Core.Bool.{Bool, true, false, _&&_, cond}
 use Prim.Native.Nat.{ℕ, zero, suc, _+_, _*_, _≤_, _<_}
 use native.Mathlib.Omega.{arith}
-use native.Mathlib.Nat.{eq-or-lt-of-le}
 use lib.Dec.{eqb}
-use borrow.Author.Tests.{eqb-true, ne-eqb}
-use Rattle.lines.specs.Basics.{anyFrom}
+use lib.ListN.{getD}
+use borrow.Author.Tests.{eqb-true, eqb-false, ne-eqb}
+use Rattle.lines.specs.declared.Record.{Record}
+use Rattle.questions.specs.declared.State.{State}
+use Rattle.lines.specs.Basics.{sumFrom}
+use Rattle.lines.specs.Record.{isIdle, recordAt}
+use Rattle.questions.specs.Questions.{holds, hasTaken, recordUses, uses}
+use Rattle.questions.proofs.Sums.{once, once-most, sum-zero, sum-most, sum-less, sum-add, sum-turned}
 
-abbrev one : Bool → ℕ
-one true = 1
-one false = 0
-
-abbrev pub count : (ℕ → Bool) → ℕ → ℕ
-count f zero = 0
-count f (suc n) = one (f n) + count f n
-
-pub gap : (f : ℕ → Bool) (n : ℕ) → count f n < n → (b : ℕ) × (b < n) × (f b ≡ false)
-gap f zero h = absurd (omega arith)
-gap f (suc n) h = go (f n) refl (gap f n)
+-- where k numbers add up to less than k, one of them is 0
+pub gap : (f : ℕ → ℕ) (i k : ℕ) → sumFrom f i k < k → (b : ℕ) × (b < i + k) × (f b ≡ 0)
+gap f i zero h = absurd (omega arith)
+gap f i (suc k) h = go (eqb (f i) 0) refl (gap f (i + 1) k)
   where
-    go : (x : Bool) → f n ≡ x → (count f n < n → (b : ℕ) × (b < n) × (f b ≡ false)) → (b : ℕ) × (b < suc n) × (f b ≡ false)
-    go false e more = (n, omega arith, e)
-    go true e more =
-        let k : one true + count f n < suc n = rw e at h in
+    go : (x : Bool) → eqb (f i) 0 ≡ x → (sumFrom f (i + 1) k < k → (b : ℕ) × (b < i + 1 + k) × (f b ≡ 0)) → (b : ℕ) × (b < i + suc k) × (f b ≡ 0)
+    go true e more = (i, omega arith, eqb-true _ _ e)
+    go false e more =
+        let d : f i ≡ 0 → ⊥ = eqb-false _ _ e in
         let g = more (omega arith) in
         (g .0, omega (arith, g .1), g .2)
 
-one-or : (x y : Bool) → one (x || y) ≤ one x + one y
-one-or true y = omega arith
-one-or false y = omega arith
-
-pub count-or : (f g : ℕ → Bool) (n : ℕ) → count (λ b. f b || g b) n ≤ count f n + count g n
-count-or f g zero = omega arith
-count-or f g (suc n) = omega (arith, one-or (f n) (g n), count-or f g n)
-
-pub count-none : (n : ℕ) → count (λ b. false) n ≡ 0
-count-none zero = refl
-count-none (suc n) = rw (count-none n)
-
-pub count-and : (x : Bool) (f : ℕ → Bool) (n : ℕ) → count (λ b. x && f b) n ≤ count f n
-count-and true f n = omega arith
-count-and false f n = rw (count-none n) (omega arith)
-
-count-past : (x n : ℕ) → n ≤ x → count (λ b. eqb x b) n ≡ 0
-count-past x zero h = refl
-count-past x (suc n) h = rw (ne-eqb x n (λ e. omega arith), count-past x n (omega arith))
-
-pub count-one : (x n : ℕ) → count (λ b. eqb x b) n ≤ 1
-count-one x zero = omega arith
-count-one x (suc n) = go (eqb x n) refl (count-one x n)
+-- of the blocks from i on, at most one is x
+sum-one : (x i k : ℕ) → sumFrom (λ b. cond (eqb x b) 1 0) i k ≤ 1
+sum-one x i zero = omega arith
+sum-one x i (suc k) = go (eqb x i) refl (sum-one x (i + 1) k)
   where
-    go : (y : Bool) → eqb x n ≡ y → count (λ b. eqb x b) n ≤ 1 → one (eqb x n) + count (λ b. eqb x b) n ≤ 1
-    go true e h = rw (e, count-past x n (omega (arith, eqb-true x n e))) (omega arith)
-    go false e h = rw e (omega arith)
+    go : (y : Bool) → eqb x i ≡ y → sumFrom (λ b. cond (eqb x b) 1 0) (i + 1) k ≤ 1 → cond y 1 0 + sumFrom (λ b. cond (eqb x b) 1 0) (i + 1) k ≤ 1
+    go true e rest =
+        let q : x ≡ i = eqb-true x i e in
+        omega (arith, sum-zero (λ b. cond (eqb x b) 1 0) (i + 1) k (λ b l m. rw (ne-eqb x b (λ g. omega arith))))
+    go false e rest = omega arith
 
-module _ (g : ℕ → ℕ → Bool) (n : ℕ) where
-  -- each of k tests passes at most c numbers
-  pub count-any : (c i k : ℕ) → ((j : ℕ) → count (g j) n ≤ c) → count (λ b. anyFrom (λ j. g j b) i k) n ≤ k * c
-  count-any c i zero h = rw (count-none n) (omega arith)
-  count-any c i (suc k) h = omega (arith, count-or (g i) (λ b. anyFrom (λ j. g j b) (i + 1) k) n, h i, count-any c (i + 1) k h)
+sum-if : (y : Bool) (x i k : ℕ) → sumFrom (λ b. cond (y && eqb x b) 1 0) i k ≤ cond y 1 0
+sum-if true x i k = sum-one x i k
+sum-if false x i k = omega (arith, sum-zero (λ b. 0) i k (λ b l m. refl))
 
-  -- each of k tests passes at most two numbers, and test t at most one
-  pub count-less : (t i k : ℕ) → ((j : ℕ) → count (g j) n ≤ 2) → count (g t) n ≤ 1 → i ≤ t → t < i + k → count (λ b. anyFrom (λ j. g j b) i k) n < k * 2
-  count-less t i zero h d l m = absurd (omega arith)
-  count-less t i (suc k) h d l m =
-      let o = count-or (g i) (λ b. anyFrom (λ j. g j b) (i + 1) k) n in
-      ⊎-elim
-      (λ q. omega (arith, o, rw (← q) at d, count-any 2 (i + 1) k h))
-      (λ lt. omega (arith, o, h i, count-less t (i + 1) k h d (omega arith) (omega arith)))
-      (eq-or-lt-of-le l)
+-- WHAT ONE RECORD USES
+
+module _ (r : Record) (n : ℕ) where
+  busy-uses : sumFrom (λ b. cond (holds r && eqb (r .held) b) 1 0 + cond (hasTaken r && eqb (r .taken) b) 1 0) 0 n ≤ cond (holds r) 1 0 + cond (hasTaken r) 1 0
+  busy-uses =
+      omega (
+        arith,
+        sum-add (λ b. cond (holds r && eqb (r .held) b) 1 0) (λ b. cond (hasTaken r && eqb (r .taken) b) 1 0) 0 n,
+        sum-if (holds r) (r .held) 0 n,
+        sum-if (hasTaken r) (r .taken) 0 n,
+      )
+
+  record-uses : sumFrom (recordUses r) 0 n ≤ cond (holds r) 1 0 + cond (hasTaken r) 1 0
+  record-uses = go (isIdle r)
+    where
+      go : (x : Bool) → sumFrom (λ b. cond x 0 (cond (holds r && eqb (r .held) b) 1 0 + cond (hasTaken r && eqb (r .taken) b) 1 0)) 0 n ≤ cond (holds r) 1 0 + cond (hasTaken r) 1 0
+      go true = omega (arith, sum-zero (λ b. 0) 0 n (λ b l m. refl))
+      go false = busy-uses
+
+  pub at-most-two : sumFrom (recordUses r) 0 n ≤ 2
+  at-most-two = omega (arith, record-uses, once-most (holds r), once-most (hasTaken r))
+
+  pub at-most-one : r .line ≡ 4 → sumFrom (recordUses r) 0 n ≤ 1
+  at-most-one e =
+      let z : _≡_ {A = ℕ} (cond (hasTaken r) 1 0) 0 = rw e in
+      omega (arith, record-uses, once-most (holds r))
+
+-- THE WHOLE TABLE
+
+module _ (s : State) where
+  abbrev cellUses : ℕ → ℕ → ℕ
+  cellUses k b = cond (eqb (getD (s .current) k 0) b) 1 0
+
+  abbrev taskUses : ℕ → ℕ → ℕ
+  taskUses t b = recordUses (recordAt (s .records) t) b
+
+  -- Where a task is at line 4, all blocks together are used at most V + 2N - 1 times.
+  pub all-uses : (t : ℕ) → t < s .tasks → recordAt (s .records) t .line ≡ 4 → sumFrom (uses s) 0 (s .blocks) < s .cells + 2 * s .tasks
+  unfolding uses
+  all-uses t own e =
+      let n = s .blocks in
+      let parts = sum-add (λ b. sumFrom (λ k. cellUses k b) 0 (s .cells)) (λ b. sumFrom (λ t. taskUses t b) 0 (s .tasks)) 0 n in
+      let cells = sum-turned cellUses 0 (s .cells) 0 n in
+      let tasks = sum-turned taskUses 0 (s .tasks) 0 n in
+      let few = sum-most (λ k. sumFrom (cellUses k) 0 n) 1 0 (s .cells) (λ k. sum-one (getD (s .current) k 0) 0 n) in
+      let fewer = sum-less (λ t. sumFrom (taskUses t) 0 n) t 0 (s .tasks) (λ t. at-most-two (recordAt (s .records) t) n) (at-most-one (recordAt (s .records) t) n e) (omega arith) (omega arith) in
+      omega (arith, parts, cells, tasks, few, fewer)

@@ -1,4 +1,3 @@
 pub mod Counting
 pub mod Unused
-pub mod Holders
 pub mod Search

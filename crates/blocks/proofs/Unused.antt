@@ -1,60 +1,68 @@
--- At line 4 some block is unused, and the search finds it: each cell names one block, a task uses at most two, and at line 4 at most one.
+-- The counts tell which blocks are used; at line 4 some block is unused, and the search by the counts finds the one that a search of the
+-- table would.
 use mathlib.Core.Path.{_≡_, refl, sym, _∙_}
 use mathlib.Core.Logic.{_⊎_, inl, inr, ⊎-elim}
-use mathlib.Core.Bool.{Bool, true, false, _&&_, _||_, not, false≢true}
-use mathlib.Core.Option.{Option, some}
+use mathlib.Core.Bool.{Bool, true, false, _&&_, _||_, not, cond, and-eq-true-iff, false≢true}
+use mathlib.Core.Option.{Option, none, some}
 use mathlib.Core.List.{List}
 use Prim.Native.Nat.{ℕ, zero, suc, _+_, _*_, _≤_, _<_}
 use native.Mathlib.Omega.{arith}
 use native.Mathlib.Decide.{decLe}
-use lib.Dec.{eqb}
+use lib.Dec.{eqb, leb, ltb}
 use lib.ListN.{getD, length}
-use borrow.Author.Tests.{eqb-true, eqb-false, ltb-true}
+use borrow.Author.Tests.{eqb-true, eqb-false, eq-eqb, ne-eqb, leb-true, ltb-true, le-leb, lt-ltb}
 use Rattle.lines.specs.declared.Record.{Record}
 use Rattle.questions.specs.declared.State.{State}
+use Rattle.lines.specs.Basics.{sumFrom, anyFrom}
 use Rattle.lines.specs.Record.{isIdle, recordAt}
-use Rattle.questions.specs.Questions.{holds, hasTaken, fit, fitTests}
-use Rattle.blocks.specs.Blocks.{isCurrent, usedByTask, used, usesBlock, blockAfter, unusedFrom, unused}
-use Rattle.questions.proofs.Tests.{nth, blocks-true}
-use Rattle.blocks.proofs.Counting.{count, gap, count-or, count-and, count-none, count-one, count-any, count-less}
+use Rattle.questions.specs.Questions.{holds, hasTaken, blocksOk, recordUses, uses, countsTrue, fit, fitTests}
+use Rattle.blocks.specs.Blocks.{isCurrent, usedByTask, used, usesBlock, blockAfter, unusedFrom, found, unused, readFrom}
+use Rattle.questions.proofs.Tests.{nth, blocks-true, blocks-most}
+use Rattle.questions.proofs.Sums.{sum-same}
+use Rattle.questions.proofs.Uses.{count-is}
+use Rattle.blocks.proofs.Counting.{gap, all-uses}
 
--- COUNTING
+-- A COUNT IS 0 EXACTLY IF THE TABLE SAYS THAT THE BLOCK IS NOT USED
 
-module _ (n : ℕ) (r : Record) where
-  abbrev holding : ℕ → Bool
-  holding b = holds r && eqb (r .held) b
+sum-is-zero : (a b : ℕ) → eqb (a + b) 0 ≡ eqb a 0 && eqb b 0
+sum-is-zero zero b = let e : zero + b ≡ b = omega arith in rw e
+sum-is-zero (suc a) b = rw (ne-eqb (suc a + b) 0 (λ e. omega arith), ne-eqb (suc a) 0 (λ e. omega arith))
 
-  abbrev taking : ℕ → Bool
-  taking b = hasTaken r && eqb (r .taken) b
+not-or : (x y : Bool) → not (x || y) ≡ not x && not y
+not-or true y = refl
+not-or false y = refl
 
-  in-parts : count (usesBlock r) n ≤ 1 + count taking n
-  in-parts =
-      omega (
-        arith,
-        count-and (not (isIdle r)) (λ b. holding b || taking b) n,
-        count-or holding taking n,
-        count-and (holds r) (λ b. eqb (r .held) b) n,
-        count-one (r .held) n,
-      )
+none-adds : (f : ℕ → ℕ) (g : ℕ → Bool) → ((j : ℕ) → eqb (f j) 0 ≡ not (g j)) → (i k : ℕ) → eqb (sumFrom f i k) 0 ≡ not (anyFrom g i k)
+none-adds f g h i zero = refl
+none-adds f g h i (suc k) = sum-is-zero (f i) (sumFrom f (i + 1) k) ∙ rw (h i, none-adds f g h (i + 1) k, not-or (g i) (anyFrom g (i + 1) k))
 
-  at-most-two : count (usesBlock r) n ≤ 2
-  at-most-two = omega (arith, in-parts, count-and (hasTaken r) (λ b. eqb (r .taken) b) n, count-one (r .taken) n)
+one-is-zero : (x : Bool) → eqb (cond x 1 0) 0 ≡ not x
+one-is-zero true = refl
+one-is-zero false = refl
 
-  at-most-one : r .line ≡ 4 → count (usesBlock r) n ≤ 1
-  at-most-one e = let z : count taking n ≡ 0 = rw e (count-none n) in omega (arith, in-parts)
+record-none : (r : Record) (b : ℕ) → eqb (recordUses r b) 0 ≡ not (usesBlock r b)
+record-none r b = go (isIdle r) (holds r && eqb (r .held) b) (hasTaken r && eqb (r .taken) b)
+  where
+    go : (i x y : Bool) → eqb (cond i 0 (cond x 1 0 + cond y 1 0)) 0 ≡ not (not i && (x || y))
+    go true x y = refl
+    go false true true = refl
+    go false true false = refl
+    go false false true = refl
+    go false false false = refl
 
-few : (s : State) (t : ℕ) → s .cells + 2 * s .tasks ≤ s .blocks → t < s .tasks → recordAt (s .records) t .line ≡ 4 → count (used s) (s .blocks) < s .blocks
-unfolding used isCurrent usedByTask
-few s t enough lt e =
-    let n = s .blocks in
-    let named = count-any (λ k b. eqb (getD (s .current) k 0) b) n 1 0 (s .cells) (λ j. count-one (getD (s .current) j 0) n) in
-    let held = count-less (λ t b. usesBlock (recordAt (s .records) t) b) n t 0 (s .tasks) (λ j. at-most-two n (recordAt (s .records) j)) (at-most-one n (recordAt (s .records) t) e) (omega arith) (omega arith) in
-    omega (arith, count-or (isCurrent s) (usedByTask s) n)
+none-uses : (s : State) (b : ℕ) → eqb (uses s b) 0 ≡ not (used s b)
+unfolding uses used isCurrent usedByTask
+none-uses s b =
+    let cells = none-adds (λ k. cond (eqb (getD (s .current) k 0) b) 1 0) (λ k. eqb (getD (s .current) k 0) b) (λ k. one-is-zero (eqb (getD (s .current) k 0) b)) 0 (s .cells) in
+    let tasks = none-adds (λ t. recordUses (recordAt (s .records) t) b) (λ t. usesBlock (recordAt (s .records) t) b) (λ t. record-none (recordAt (s .records) t) b) 0 (s .tasks) in
+    sum-is-zero (sumFrom (λ k. cond (eqb (getD (s .current) k 0) b) 1 0) 0 (s .cells)) (sumFrom (λ t. recordUses (recordAt (s .records) t) b) 0 (s .tasks))
+    ∙ rw (cells, tasks, not-or (isCurrent s b) (usedByTask s b))
 
--- THE SEARCH
+-- Where the counts are true, a block's count is 0 exactly if document 01's `used` says no.
+pub count-of-unused : (s : State) → countsTrue s ≡ true → (b : ℕ) → b < s .blocks → eqb (getD (s .counts) b 0) 0 ≡ not (used s b)
+count-of-unused s e b h = rw (count-is s e b h) (none-uses s b)
 
-abbrev pub Found : State → Option ℕ → Type 0
-Found s o = (b : ℕ) × (o ≡ some b) × (used s b ≡ false) × (b < s .blocks)
+-- GOING ROUND
 
 -- of n blocks, the next is the one after, or 0
 abbrev Next : ℕ → ℕ → ℕ → Type 0
@@ -67,6 +75,39 @@ next n b h = go (eqb (b + 1) n) refl
     go true e = inr (rw e, eqb-true (b + 1) n e)
     go false e = let d = eqb-false (b + 1) n e in inl (rw e, omega arith)
 
+pub after-below : (n b : ℕ) → b < n → blockAfter n b < n
+after-below n b h = ⊎-elim (λ y. omega (arith, y .0, y .1)) (λ y. omega (arith, y .0, y .1)) (next n b h)
+
+-- THE SAME BLOCK AS A SEARCH OF THE TABLE FINDS
+
+flip : (x u : Bool) {A : Type 0} (a b : A) → x ≡ not u → cond x a b ≡ cond u b a
+flip x true a b e = rw e
+flip x false a b e = rw e
+
+module _ (s : State) (e : countsTrue s ≡ true) where
+  same-from : (b k : ℕ) → b < s .blocks → unusedFrom (s .counts) (s .blocks) b k ≡ readFrom s b k
+  same-from b zero h = refl
+  same-from b (suc k) h =
+      rw (same-from (blockAfter (s .blocks) b) k (after-below (s .blocks) b h))
+      (flip (eqb (getD (s .counts) b 0) 0) (used s b) (some b) (readFrom s (blockAfter (s .blocks) b) k) (count-of-unused s e b h))
+
+searched : (s : State) → s .blocks ≤ 128 → s .last < s .blocks → unused s ≡ unusedFrom (s .counts) (s .blocks) (blockAfter (s .blocks) (s .last)) (s .blocks)
+unfolding found
+searched s m l = rw (le-leb (s .blocks) 128 m, lt-ltb (s .last) (s .blocks) l)
+
+-- In every fit state the search by the counts finds what a search of the table does: the same blocks are taken.
+pub same-block : (s : State) (p : List ℕ) → fit s p ≡ true → unused s ≡ readFrom s (blockAfter (s .blocks) (s .last)) (s .blocks)
+unfolding fit
+same-block s p e =
+    let test = nth (fitTests s p) e in
+    let l = ltb-true (s .last) (s .blocks) (test 4) in
+    searched s (blocks-most (s .tasks) (s .cells) (s .blocks) (length p) (test 2)) l ∙ same-from s (test 6) (blockAfter (s .blocks) (s .last)) (s .blocks) (after-below (s .blocks) (s .last) l)
+
+-- ONE IS UNUSED, AND FOUND
+
+abbrev pub Found : State → Option ℕ → Type 0
+Found s o = (b : ℕ) × (o ≡ some b) × (used s b ≡ false) × (b < s .blocks)
+
 module _ (s : State) (x : ℕ) (l : x < s .blocks) (e : used s x ≡ false) where
   -- x is among the k blocks going round from b
   abbrev Ahead : ℕ → ℕ → Type 0
@@ -78,31 +119,61 @@ module _ (s : State) (x : ℕ) (l : x < s .blocks) (e : used s x ≡ false) wher
   onward b a k (inr y) d (inl z) = absurd (omega (arith, y .1, z .0, d))
   onward b a k (inr y) d (inr z) = (omega (arith, y .0, y .1), inl (omega (arith, y .0), omega (arith, y .0, y .1, z .1)))
 
-  meets : (b k : ℕ) → b < s .blocks → Ahead b k → Found s (unusedFrom s b k)
+  meets : (b k : ℕ) → b < s .blocks → Ahead b k → Found s (readFrom s b k)
   meets b zero h d = absurd (⊎-elim (λ y. omega (arith, y .0, y .1)) (λ y. omega (arith, y .0, y .1)) d)
   meets b (suc k) h d = go (used s b) refl (meets (blockAfter (s .blocks) b) k)
     where
-      go : (y : Bool) → used s b ≡ y → (blockAfter (s .blocks) b < s .blocks → Ahead (blockAfter (s .blocks) b) k → Found s (unusedFrom s (blockAfter (s .blocks) b) k)) → Found s (unusedFrom s b (suc k))
+      go : (y : Bool) → used s b ≡ y → (blockAfter (s .blocks) b < s .blocks → Ahead (blockAfter (s .blocks) b) k → Found s (readFrom s (blockAfter (s .blocks) b) k)) → Found s (readFrom s b (suc k))
       go false u more = rw u (b, refl, u, h)
       go true u more = let o = onward b (blockAfter (s .blocks) b) k (next (s .blocks) b h) (λ q. false≢true (sym e ∙ rw (← q) u)) d in rw u (more (o .0) (o .1))
 
   -- all of them, from any b
-  round : (b : ℕ) → b < s .blocks → Found s (unusedFrom s b (s .blocks))
+  round : (b : ℕ) → b < s .blocks → Found s (readFrom s b (s .blocks))
   round b h = meets b (s .blocks) h (go (decLe b x))
     where
       go : Dec (b ≤ x) → Ahead b (s .blocks)
       go (yes m) = inl (m, omega arith)
       go (no m) = inr (omega arith, omega arith)
 
-pub after-below : (n b : ℕ) → b < n → blockAfter n b < n
-after-below n b h = ⊎-elim (λ y. omega (arith, y .0, y .1)) (λ y. omega (arith, y .0, y .1)) (next n b h)
+unless-not : (x : Bool) → not x ≡ true → x ≡ false
+unless-not true h = absurd (false≢true h)
+unless-not false h = refl
+
+-- the counts of all blocks add up to at most V + 2N - 1, so one of the V + 2N or more is 0
+free : (s : State) (t : ℕ) → countsTrue s ≡ true → s .cells + 2 * s .tasks ≤ s .blocks → t < s .tasks → recordAt (s .records) t .line ≡ 4 → (b : ℕ) × (b < s .blocks) × (used s b ≡ false)
+free s t e enough own g =
+    let counted = sum-same (uses s) (λ b. getD (s .counts) b 0) 0 (s .blocks) (λ b l h. count-is s e b (omega arith)) in
+    let z = gap (λ b. getD (s .counts) b 0) 0 (s .blocks) (omega (arith, all-uses s t own g, counted)) in
+    let below : z .0 < s .blocks = omega (arith, z .1) in
+    (z .0, below, unless-not (used s (z .0)) (sym (count-of-unused s e (z .0) below) ∙ eq-eqb _ _ (z .2)))
+
+again : (s : State) (o q : Option ℕ) → o ≡ q → Found s q → Found s o
+again s o q e h = rw e h
 
 -- In every fit state, a task whose next line is 4 finds an unused block.
 pub one-is-unused : (s : State) (p : List ℕ) (t : ℕ) → fit s p ≡ true → t < s .tasks → recordAt (s .records) t .line ≡ 4
     → (b : ℕ) × (unused s ≡ some b) × (used s b ≡ false) × (b < s .blocks)
-unfolding fit unused
-one-is-unused s p t e l g =
+unfolding fit
+one-is-unused s p t e own g =
     let test = nth (fitTests s p) e in
-    let enough = blocks-true (s .tasks) (s .cells) (s .blocks) (length p) (test 2) .0 in
-    let free = gap (used s) (s .blocks) (few s t enough l g) in
-    round s (free .0) (free .1) (free .2) (blockAfter (s .blocks) (s .last)) (after-below (s .blocks) (s .last) (ltb-true _ _ (test 4)))
+    let x = free s t (test 6) (blocks-true (s .tasks) (s .cells) (s .blocks) (length p) (test 2) .0) own g in
+    again s (unused s) (readFrom s (blockAfter (s .blocks) (s .last)) (s .blocks)) (same-block s p e)
+    (round s (x .0) (x .1) (x .2) (blockAfter (s .blocks) (s .last)) (after-below (s .blocks) (s .last) (ltb-true _ _ (test 4))))
+
+-- what the search finds is one of the pool's blocks, in any state
+from-below : (l : List ℕ) (n b k x : ℕ) → b < n → unusedFrom l n b k ≡ some x → x < n
+from-below l n b zero x h e = let z : _≡_ {A = ℕ} 0 1 = cc in omega arith
+from-below l n b (suc k) x h e = go (eqb (getD l b 0) 0) refl (from-below l n (blockAfter n b) k x (after-below n b h))
+  where
+    go : (y : Bool) → eqb (getD l b 0) 0 ≡ y → (unusedFrom l n (blockAfter n b) k ≡ some x → x < n) → x < n
+    go true u more = let f : some b ≡ some x = rw u at e in let q : b ≡ x = cc in omega arith
+    go false u more = more (rw u at e)
+
+pub unused-below : (s : State) (x : ℕ) → unused s ≡ some x → x < s .blocks
+unfolding found
+unused-below s x e = go (leb (s .blocks) 128) (ltb (s .last) (s .blocks)) refl e
+  where
+    go : (y z : Bool) → ltb (s .last) (s .blocks) ≡ z → cond (y && z) (unusedFrom (s .counts) (s .blocks) (blockAfter (s .blocks) (s .last)) (s .blocks)) none ≡ some x → x < s .blocks
+    go true true f g = from-below (s .counts) (s .blocks) (blockAfter (s .blocks) (s .last)) (s .blocks) x (after-below (s .blocks) (s .last) (ltb-true _ _ f)) g
+    go true false f g = let z : _≡_ {A = ℕ} 0 1 = cc in omega arith
+    go false z f g = let z : _≡_ {A = ℕ} 0 1 = cc in omega arith

@@ -1,54 +1,71 @@
--- The block asked about last decides.
+-- The loop: what is left from this block on answers for all.
 use mathlib.Core.Path.{_≡_, sym, ap, _∙_}
-use mathlib.Core.Bool.{true}
-use Prim.Native.Nat.{ℕ, _-_, _≤_, _<_}
+use mathlib.Core.Bool.{true, _&&_}
+use Prim.Native.Nat.{ℕ, _≤_, _<_}
+use lib.Dec.{leb, ltb}
+use denote.Ref.{now}
 use borrow.Author.Tests.{not-true, not-false}
+use Rattle.blocks.specs.Blocks.{blockAfter, unusedFrom, found}
+use Rattle.blocks.proofs.Unused.{after-below}
+use Rattle.blocks.proofs.Search.{starts, finds, finds-none, here, onward, nowhere}
 use borrow.Author.Needs.{needs}
 use native.Mathlib.Omega.{arith}
-use Rattle.questions.specs.declared.State.{State}
-use Rattle.blocks.specs.declared.HolderSearch.{HolderSearch}
-use Rattle.blocks.specs.Blocks.{holderSearchOf, blockAfter, asked, searchable, found}
-use Rattle.blocks.proofs.Unused.{after-below}
-use Rattle.blocks.proofs.Search.{choice, same-choice, searched, finds, finds-none}
 use Rattle.blocks.proofs.unused_block.Statement.{statement}
 use Rattle.blocks.proofs.unused_block.Tie as tie
 
-decides : (s : State) {b first : ℕ} {h x : HolderSearch} → searchable s ≡ true → first ≡ blockAfter (s .blocks) (s .last)
-    → (b, holderSearchOf h) ≡ asked s (s .cells) first (s .blocks - 1) → h ≡ x → choice (b, holderSearchOf x) ≡ found s
-decides s {b} g e a q =
-    ap (λ (y : HolderSearch). choice (b, holderSearchOf y)) (sym q)
-    ∙ (ap choice (a ∙ ap (λ (f : ℕ). asked s (s .cells) f (s .blocks - 1)) e) ∙ (same-choice s (searched s g .2) ∙ sym (finds s g)))
+abbrev Inv-loop : tie.InvT-loop
+Inv-loop counts blocks last b₀ left₀ b left = (blocks ≤ 128) × (b < blocks) × (unusedFrom counts blocks b left ≡ found counts blocks last)
 
-guarded : (c : tie.Else1) → searchable (c .before .before .before .before .args .s) ≡ true
+abbrev μ-loop : tie.MeasureT-loop
+μ-loop counts blocks last b₀ left₀ b left = left
+
+guarded : (c : tie.Else1 Inv-loop μ-loop) → let a = c .before .args in leb (a .blocks) 128 && ltb (a .last) (a .blocks) ≡ true
 guarded c = not-false _ (c .if1 .left)
 
--- a block to start from
-starts : (c : tie.Else1) → let s = c .before .before .before .before .args .s in (s .tasks ≤ 32) × (s .cells ≤ 16) × (s .last < s .blocks)
-starts c = searched (c .before .before .before .before .args .s) (guarded c)
+returns : tie.Need-returns Inv-loop μ-loop
+returns c = let a = c .before .args in sym (finds-none (now (a .counts)) (a .blocks) (a .last) (not-true _ (c .if1 .taken)))
 
-returns : tie.Need-returns
-returns c = sym (finds-none (c .before .before .before .before .args .s) (not-true _ (c .if1 .taken)))
+block-after-requires : tie.Need-block-after-requires Inv-loop μ-loop
+block-after-requires c κs = let a = c .before .args in starts (now (a .counts)) (a .blocks) (a .last) (guarded c) .1
 
-ask-blocks-requires : tie.Need-ask-blocks-requires
-ask-blocks-requires c κs =
-    let h = starts (c .before .before) in
-    rw (c .before .block-after .ensures) (h .1, λ more. after-below _ _ (h .2))
+loop-holds : tie.Need-loop-holds Inv-loop μ-loop
+loop-holds c =
+    let a = c .before .before .args in
+    let h = starts (now (a .counts)) (a .blocks) (a .last) (guarded (c .before)) in
+    rw (c .block-after .ensures) (h .0, after-below (a .blocks) (a .last) (h .1), sym (finds (now (a .counts)) (a .blocks) (a .last) (guarded (c .before))))
 
-returns-2 : tie.Need-returns-2
-returns-2 c = decides (c .before .before .before .before .before .before .before .before .before .args .s) (guarded (c .before .before .before .before .before)) (c .before .before .before .before .block-after .ensures) (c .before .before .ask-blocks .ensures) (c .enum-told .given .1)
+returns-2 : tie.Need-returns-2 Inv-loop μ-loop
+returns-2 c =
+    let a = c .before .before .before .before .before .before .args in
+    let l = c .before .before .before .loop in
+    here (now (a .counts)) (a .blocks) (l .b) (l .left) (l .inv .2) (c .before .before .loop-test .taken) (c .if2 .taken)
 
-returns-3 : tie.Need-returns-3
-returns-3 c = decides (c .before .before .before .before .before .before .before .before .before .args .s) (guarded (c .before .before .before .before .before)) (c .before .before .before .before .block-after .ensures) (c .before .before .ask-blocks .ensures) (c .enum-told2 .given .1)
+loop-again : tie.Need-loop-again Inv-loop μ-loop
+loop-again c =
+    let a = c .before .before .before .before .before .before .before .args in
+    let l = c .before .before .before .before .loop in
+    rw (c .block-after2 .ensures) (l .inv .0, after-below (a .blocks) (l .b) (l .inv .1), onward (now (a .counts)) (a .blocks) (l .b) (l .left) (l .inv .2) (c .before .before .before .loop-test .taken) (c .before .if2 .left))
+
+returns-3 : tie.Need-returns-3 Inv-loop μ-loop
+returns-3 c =
+    let a = c .before .before .before .before .args in
+    let l = c .before .loop in
+    nowhere (now (a .counts)) (a .blocks) (l .b) (l .left) (l .inv .2) (omega (arith, c .loop-test .left))
 
 pub unused-block-spec : {M : Type 1} → statement M
 unused-block-spec =
     tie.close
     (tie.spec
+    Inv-loop
+    μ-loop
     returns
-    (λ c κs. starts c .2)
-    (λ c. omega (arith, starts (c .before .before)))
-    ask-blocks-requires
+    block-after-requires
+    loop-holds
     (λ c. search needs)
-    (λ c. search needs)
+    (λ c. omega (arith, c .before .loop .inv .0, c .before .loop .inv .1))
     returns-2
+    (λ c κs. c .before .before .before .loop .inv .1)
+    (λ c. search needs)
+    (λ c. omega arith)
+    loop-again
     returns-3)
