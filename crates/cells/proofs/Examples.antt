@@ -3,11 +3,12 @@ use mathlib.Core.Path.{_≡_, refl}
 use mathlib.Core.List.{List, [], _∷_, _++_}
 use Prim.Native.Nat.{ℕ}
 use lib.ListN.{replicate}
-use Rattle.questions.specs.Questions.{hasNone, openQuestions, recordFit, cellsFit, recordsFit, fit}
-use Rattle.blocks.specs.Blocks.{isCurrent, usedByTask, used, unused}
+use Rattle.questions.specs.Questions.{hasNone, openQuestions, recordFit, cellsFit, recordsFit, uses, countsTrue, fit}
+use Rattle.blocks.specs.Blocks.{found}
 use Rattle.lines.specs.Record.{idle}
 use Rattle.history.specs.History.{read, swap, Action, begin, step, Kind, aRead, aSwap, Response, Value, Yes, No, Report, Event, refused, accepted, answered, history}
 use Rattle.cells.specs.Open.{opened}
+use Rattle.cells.specs.Counts.{recounted}
 use Rattle.cells.specs.Begin.{readBegun, swapBegun}
 use Rattle.cells.specs.Step.{ran, stepped}
 use Rattle.cells.specs.Machine.{Pool, pool}
@@ -21,7 +22,7 @@ reports ((a, answered x r) ∷ l) = r ∷ reports l
 -- three tasks, seven blocks and one cell that holds 5, opened over other numbers
 abbrev start : Pool
 start =
-    let r = opened (record { tasks = 7; cells = 7; blocks = 7; last = 7; current = replicate 16 7; records = replicate 32 idle }) (replicate 35 9) 3 1 7 (5 ∷ []) in
+    let r = opened (record { tasks = 7; cells = 7; blocks = 7; last = 7; current = replicate 16 7; records = replicate 32 idle; counts = replicate 128 7 }) (replicate 35 9) 3 1 7 (5 ∷ []) in
     (r .state, r .pool)
 
 abbrev steps : (count task : ℕ) → List Action
@@ -60,5 +61,5 @@ examples :
       report aSwap Yes 15 1 1 ∷ rivals ++ rivals ++ rivals ++ report aRead (Value 9) 3 0 0 ∷ report aSwap No 13 1 1 ∷ [],
     ) ∷ []
     )
-unfolding opened readBegun swapBegun stepped ran fit recordFit cellsFit recordsFit hasNone openQuestions isCurrent usedByTask used unused
+unfolding opened readBegun swapBegun stepped ran fit recordFit cellsFit recordsFit uses countsTrue hasNone openQuestions found recounted
 examples = (refl, (refl, (refl, tt)))

@@ -1,3 +1,4 @@
+pub mod Arrays
 pub mod Words
 pub mod Examples
 pub mod Parts
@@ -7,3 +8,8 @@ pub mod Stepping
 pub mod Filling
 pub mod Acts
 pub mod LentLaw
+pub mod Recount
+pub mod Named
+pub mod Counted
+pub mod Countable
+pub mod CountedOpen

@@ -43,11 +43,11 @@ module _ (s : State) (p : List ℕ) (t : ℕ) where
 
 -- what is known of an opening that is not refused
 pub opens : (p vs : List ℕ) (n v b : ℕ) → refusal (openQuestions (length p) n v b vs) ≡ none
-    → (1 ≤ v) × (length vs ≤ 16) × (5 * length vs ≤ length p)
+    → (1 ≤ v) × (length vs ≤ 16) × (5 * length vs ≤ length p) × (v ≤ 16)
 unfolding openQuestions
 opens p vs n v b e =
     let yes = yes-at (openQuestions (length p) n v b vs) e in
     let z = within-true v 1 16 (yes 1) in
     let f = blocks-true n v b (length p) (yes 2) in
     let q = eqb-true (length vs) v (yes 3) in
-    (omega (arith, z .0), omega (arith, z .1), omega (arith, f .0, f .1))
+    (omega (arith, z .0), omega (arith, z .1), omega (arith, f .0, f .1), z .1)

@@ -1,25 +1,30 @@
 -- A step that is not refused: what its turn needs, and that a turn given no unused block where it asks for none does the same.
 use mathlib.Core.Path.{_≡_, sym, ap, _∙_}
 use mathlib.Core.Logic.{_⊎_, inl, inr}
-use mathlib.Core.Bool.{Bool, true, false, _&&_, false≢true}
+use mathlib.Core.Bool.{Bool, true, false, _&&_, not, false≢true}
 use mathlib.Core.Option.{Option, none, some}
 use mathlib.Core.List.{List, _∷_}
 use Prim.Native.Nat.{ℕ, _≤_, _<_}
 use native.Mathlib.Omega.{arith}
 use lib.Dec.{ltb}
 use lib.ListN.{getD, length}
-use borrow.Author.Tests.{ltb-true}
+use borrow.Author.Tests.{ltb-true, ne-eqb}
 use Rattle.lines.specs.declared.Record.{Record}
 use Rattle.questions.specs.declared.State.{State}
-use Rattle.lines.specs.Record.{recordAt}
-use Rattle.questions.specs.Questions.{Question, refusal, lineFit, recordFit, busyTests, recordsFit, fit, fitTests, stepQuestions, answers}
+use Rattle.lines.specs.Record.{isIdle, recordAt}
+use Rattle.lines.specs.Lines.{lineOf}
+use Rattle.questions.specs.Questions.{Question, refusal, holds, hasTaken, lineFit, recordFit, busyTests, recordsFit, fit, fitTests, stepQuestions, answers}
 use Rattle.blocks.specs.Blocks.{unused}
+use Rattle.cells.specs.Counts.{Countable}
 use Rattle.cells.specs.Step.{current, putBack, ran, stepped}
 use Rattle.cells.specs.Turn.{turn, There, Ready}
 use Rattle.questions.proofs.Tests.{all-yes, all-at, nth}
 use Rattle.questions.proofs.Fits.{sizes, busy-test}
-use Rattle.questions.proofs.Numbers.{at-number}
-use Rattle.blocks.proofs.Search.{unused-below}
+use Rattle.questions.proofs.Numbers.{number, at-number}
+use Rattle.blocks.proofs.Unused.{unused-below, one-is-unused}
+use Rattle.cells.proofs.Counted.{Arrays}
+use Rattle.cells.proofs.Named.{names-below, block-below}
+use Rattle.cells.proofs.Countable.{names, cell-block, countable-to}
 use Rattle.cells.proofs.TurnLaw.{ready, turn-free}
 
 -- the block handed to a turn: what the search finds, where the line is one that asks
@@ -34,7 +39,8 @@ pub record Acting (s : State) (p : List ℕ) (t : ℕ) (r : Record) : Type 0 whe
   pub line : lineFit r ≡ true
   pub ready : Ready (length p) t r
   pub there : (f : Option ℕ) → Free s r f → There (length p) f
-  pub acts : (f : Option ℕ) → Free s r f → stepped s p t ≡ putBack s t (r .cell) (turn p t r (current s (r .cell)) (s .last) f)
+  pub countable : Arrays s → (f : Option ℕ) → Free s r f → let x = turn p t r (current s (r .cell)) (s .last) f in Countable (s .counts) r (x .record) (current s (r .cell)) (x .current)
+  pub acts : (f : Option ℕ) → Free s r f → stepped s p t ≡ putBack s t r (turn p t r (current s (r .cell)) (s .last) f)
 
 module _ (s : State) (p : List ℕ) (t : ℕ) where
   abbrev own : Record
@@ -67,12 +73,32 @@ module _ (s : State) (p : List ℕ) (t : ℕ) where
     there none h = tt
     there (some b) (inl g) =
         let z = sizes s p (is-yes 0) in
-        omega (arith, unused-below s b (z .last) (sym g))
+        omega (arith, unused-below s b (sym g))
     there (some b) (inr (l, g)) = let z : _≡_ {A = ℕ} 0 1 = cc in omega arith
 
-    acts : (f : Option ℕ) → Free s own f → stepped s p t ≡ putBack s t (own .cell) (turn p t own (current s (own .cell)) (s .last) f)
+    is-busy : (x : Bool) → x ≡ true → not (isIdle own) && x ≡ true
+    is-busy x e = rw (ne-eqb (own .line) 0 busy, e)
+
+    found-at-4 : (f : Option ℕ) → Free s own f → number (lineOf own) ≡ 4 → (b : ℕ) × (f ≡ some b) × (b < s .blocks)
+    found-at-4 f (inl g) e = let y = one-is-unused s p t (is-yes 0) below (at-number own (test 1) ∙ e) in (y .0, g ∙ y .1, y .3)
+    found-at-4 f (inr (l, g)) e = absurd (l (at-number own (test 1) ∙ e))
+
+    countable : Arrays s → (f : Option ℕ) → Free s own f → let x = turn p t own (current s (own .cell)) (s .last) f in Countable (s .counts) own (x .record) (current s (own .cell)) (x .current)
+    countable a f h =
+        let n = s .blocks in
+        let c = current s (own .cell) in
+        let named = names s p (is-yes 0) t below in
+        let held : holds own ≡ true → own .held < n = λ e. named .0 (is-busy (holds own) e) in
+        let taken : hasTaken own ≡ true → own .taken < n = λ e. named .1 (is-busy (hasTaken own) e) in
+        let first = cell-block s p (is-yes 0) (own .cell) cell-below in
+        countable-to s p (is-yes 0) t below (own .cell) cell-below a
+        (turn p t own c (s .last) f .record) (turn p t own c (s .last) f .current)
+        (names-below n p t own c (s .last) f (test 1) (at-number own (test 1)) held taken first (found-at-4 f h))
+        (block-below n p t own c (s .last) f (test 1) (at-number own (test 1)) held taken first (found-at-4 f h))
+
+    acts : (f : Option ℕ) → Free s own f → stepped s p t ≡ putBack s t own (turn p t own (current s (own .cell)) (s .last) f)
     unfolding stepped ran
-    acts f h = rw e (ap (putBack s t (own .cell)) (go h))
+    acts f h = rw e (ap (putBack s t own) (go h))
       where
         go : Free s own f → turn p t own (current s (own .cell)) (s .last) (unused s) ≡ turn p t own (current s (own .cell)) (s .last) f
         go (inl g) = rw g
@@ -89,6 +115,7 @@ module _ (s : State) (p : List ℕ) (t : ℕ) where
           line = test 1;
           ready = ready own (s .cells) (s .blocks) (length p) t fits busy (z .words);
           there = there;
+          countable = countable;
           acts = acts;
         }
 

@@ -9,8 +9,9 @@ use Rattle.lines.specs.Record.{recordAt, firstRead, firstSwap}
 use Rattle.questions.specs.Questions.{refusal, fit, beginQuestions, swapQuestions}
 use Rattle.cells.specs.Open.{After, unless}
 
+-- a call that begins names no block yet, so the counts stay
 abbrev pub withRecord : State → ℕ → Record → State
-withRecord s t r = record { tasks = s .tasks; cells = s .cells; blocks = s .blocks; last = s .last; current = s .current; records = set (s .records) t r }
+withRecord s t r = record { tasks = s .tasks; cells = s .cells; blocks = s .blocks; last = s .last; current = s .current; records = set (s .records) t r; counts = s .counts }
 
 abbrev pub started : State → List ℕ → ℕ → Record → After
 started s p t r = record { state = withRecord s t r; pool = p; outcome = Acted }

@@ -2,6 +2,7 @@ pub mod Pool
 pub mod Answers
 pub mod Open
 pub mod Begin
+pub mod Counts
 pub mod Step
 pub mod Lent
 pub mod Look

@@ -1,7 +1,7 @@
 -- Opening.
 use mathlib.Core.Path.{_≡_}
 use mathlib.Core.Option.{Option, none, some}
-use mathlib.Core.List.{List, [], _∷_}
+use mathlib.Core.List.{List, [], _∷_, _++_}
 use Prim.Native.Nat.{ℕ, _+_, _-_}
 use lib.ListN.{length, replicate}
 use Rattle.questions.specs.declared.State.{State}
@@ -33,9 +33,9 @@ abbrev pub filled : List ℕ → List ℕ → ℕ → List ℕ
 filled p [] k = p
 filled p (v ∷ vs) k = filled (fill p k v) vs (k + 1)
 
--- cell k names block k; the last taken is block V - 1; every record is idle
+-- cell k names block k, so that each of the first V blocks is used once; the last taken is block V - 1; every record is idle
 abbrev pub openState : (tasks cells blocks : ℕ) → State
-openState n v b = record { tasks = n; cells = v; blocks = b; last = v - 1; current = 0 ∷ 1 ∷ 2 ∷ 3 ∷ 4 ∷ 5 ∷ 6 ∷ 7 ∷ 8 ∷ 9 ∷ 10 ∷ 11 ∷ 12 ∷ 13 ∷ 14 ∷ 15 ∷ []; records = replicate 32 idle }
+openState n v b = record { tasks = n; cells = v; blocks = b; last = v - 1; current = 0 ∷ 1 ∷ 2 ∷ 3 ∷ 4 ∷ 5 ∷ 6 ∷ 7 ∷ 8 ∷ 9 ∷ 10 ∷ 11 ∷ 12 ∷ 13 ∷ 14 ∷ 15 ∷ []; records = replicate 32 idle; counts = replicate v 1 ++ replicate (128 - v) 0 }
 
 abbrev pub openPool : List ℕ → List ℕ → List ℕ
 openPool p vs = filled (replicate (length p) 0) vs 0

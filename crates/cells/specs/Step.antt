@@ -10,6 +10,7 @@ use Rattle.questions.specs.Questions.{refusal, fit, stepQuestions}
 use Rattle.blocks.specs.Blocks.{unused}
 use Rattle.cells.specs.Open.{After, leaving, unless}
 use Rattle.cells.specs.Begin.{withRecord}
+use Rattle.cells.specs.Counts.{recounted}
 use Rattle.cells.specs.Turn.{performed, Turned, turn}
 use Rattle.cells.specs.Events.{tried}
 use Rattle.history.specs.History.{Attempt}
@@ -19,10 +20,16 @@ current s k = getD (s .current) k 0
 
 -- cell k names the block c, and l was taken last
 abbrev pub withBlocks : State → (k c l : ℕ) → State
-withBlocks s k c l = record { tasks = s .tasks; cells = s .cells; blocks = s .blocks; last = l; current = set (s .current) k c; records = s .records }
+withBlocks s k c l = record { tasks = s .tasks; cells = s .cells; blocks = s .blocks; last = l; current = set (s .current) k c; records = s .records; counts = s .counts }
 
-abbrev pub putBack : State → (task cell : ℕ) → Turned → After
-putBack s t k x = leaving (withRecord (withBlocks s k (x .current) (x .last)) t (x .record)) (x .pool) (x .outcome)
+abbrev pub withCounts : State → List ℕ → State
+withCounts s l = record { tasks = s .tasks; cells = s .cells; blocks = s .blocks; last = s .last; current = s .current; records = s .records; counts = l }
+
+-- of a task whose record was r
+abbrev pub putBack : State → (task : ℕ) → Record → Turned → After
+putBack s t r x =
+    let k = r .cell in
+    leaving (withCounts (withRecord (withBlocks s k (x .current) (x .last)) t (x .record)) (recounted (s .counts) r (x .record) (current s k) (x .current))) (x .pool) (x .outcome)
 
 -- the value that memory answers to an access of task t's record
 abbrev pub answers : State → List ℕ → Record → Access → ℕ
@@ -34,7 +41,7 @@ triedAt s p t r = tried t r (answers s p r)
 
 -- a busy task's next line
 unfoldable pub ran : State → List ℕ → ℕ → Record → After
-ran s p t r = putBack s t (r .cell) (turn p t r (current s (r .cell)) (s .last) (unused s))
+ran s p t r = putBack s t r (turn p t r (current s (r .cell)) (s .last) (unused s))
 
 unfoldable pub stepped : State → List ℕ → (task : ℕ) → After
 stepped s p t = unless (refusal ((6, fit s p) ∷ stepQuestions (s .tasks) (recordAt (s .records) t) t)) s p (ran s p t (recordAt (s .records) t))

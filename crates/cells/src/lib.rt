@@ -11,6 +11,7 @@ ghost use Rattle.cells.specs.Step.{stepped};
 ghost use Rattle.cells.specs.Lent.{isRefused, lent, steppedLent};
 ghost use Rattle.cells.specs.Look.{looked, shownValue};
 
+pub mod counts;
 mod opening;
 mod pool;
 pub mod turn;
@@ -127,17 +128,19 @@ pub fn step(mut s: State, pool: &mut [u32], task: u32) -> Reply
     }
     // Only line 4 asks for a block.
     let free = if r.line == 4 {
-        blocks::unused_block(s)
+        blocks::unused_block(&s.counts, s.blocks, s.last)
     } else {
         Found::Nowhere
     };
     let k = r.cell as usize;
-    let a = turn::take_turn(pool, task, r, s.current[k], s.last, free);
+    let c = s.current[k];
+    let a = turn::take_turn(pool, task, r, c, s.last, free);
     let q = a.record;
     let outcome = a.outcome;
     s.last = a.last;
     s.current[k] = a.current;
     s.records[t] = q;
+    counts::recount(&mut s.counts, r, q, c, a.current);
     Reply { state: s, outcome }
 }
 

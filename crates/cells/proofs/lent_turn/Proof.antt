@@ -5,7 +5,7 @@ use denote.Ref.{now}
 use Rattle.cells.specs.Answers.{said}
 use Rattle.cells.specs.Open.{leaving}
 use Rattle.cells.specs.Begin.{withRecord}
-use Rattle.blocks.proofs.Holders.{has-32}
+use Rattle.cells.proofs.Arrays.{has-32}
 use Rattle.cells.proofs.LentLaw.{placed, below-32, lent-refused, lent-acted}
 use borrow.Author.Needs.{needs}
 use Rattle.cells.proofs.lent_turn.Statement.{statement}

@@ -32,7 +32,10 @@ fill-blocks-requires c κs =
     (z .1, omega (arith, z .2))
 
 open-state-requires : tie.Need-open-state-requires
-open-state-requires c κs = let e = c .before .before .before .before .before .before .before .before .before .before .before .before .args in opens (now (e .pool)) (now (e .values)) (e .tasks) (e .cells) (e .blocks) (asked (c .before .before .before .before .before .before .before .before)) .0
+open-state-requires c κs =
+    let e = c .before .before .before .before .before .before .before .before .before .before .before .before .args in
+    let z = opens (now (e .pool)) (now (e .values)) (e .tasks) (e .cells) (e .blocks) (asked (c .before .before .before .before .before .before .before .before)) in
+    (z .0, z .3)
 
 returns-2 : tie.Need-returns-2
 unfolding opened

@@ -10,12 +10,15 @@ use lib.Dec.{ltb}
 use denote.Ref.{now}
 use Rattle.lines.specs.declared.Record.{Record}
 use Rattle.lines.specs.Record.{isIdle, recordAt}
+use Rattle.questions.specs.declared.State.{State}
 use Rattle.questions.specs.Questions.{Question, refusal, fit}
 use Rattle.blocks.specs.Blocks.{foundOf}
-use Rattle.cells.specs.Step.{putBack, stepped}
+use Rattle.cells.specs.Counts.{Countable}
+use Rattle.cells.specs.Step.{current, putBack, stepped}
+use Rattle.cells.specs.Turn.{Turned, turn, turned}
 use Rattle.questions.proofs.Refusals.{is-refused, is-allowed}
 use Rattle.cells.proofs.Replies.{asked-of, task-below}
-use Rattle.blocks.proofs.Search.{finds, can-search}
+use Rattle.cells.proofs.Arrays.{has-16, has-32, has-128}
 use Rattle.cells.proofs.Stepping.{Free, Acting, asked, acting}
 use borrow.Author.Needs.{needs}
 use Rattle.cells.proofs.step.Statement.{statement}
@@ -45,9 +48,7 @@ acts c =
     _ _ (c .before .before .before .is-fit .ensures) (came (c .before .before))
 
 free : (c : tie.Joined3) → Free (c .before .before .before .before .before .before .before .before .args .t1) (c .before .before .before .before .if1 .r) (foundOf (c .if3 .free))
-free c =
-    let s = c .before .before .before .before .before .before .before .before .args .t1 in
-    ⊎-elim (λ w. inl (ap foundOf (w .2) ∙ w .1 .ensures ∙ finds s (can-search s (acts (c .before .before) .searches)))) (λ w. inr (w .0 .left, ap foundOf (w .1))) (c .if3 .came)
+free c = ⊎-elim (λ w. inl (ap foundOf (w .4) ∙ w .3 .ensures)) (λ w. inr (w .0 .left, ap foundOf (w .1))) (c .if3 .came)
 
 element-copy-out-r : tie.Need-element-copy-out-r
 element-copy-out-r c = let e = c .before .before .before .before .args in task-below (e .t1) (now (e .pool)) (e .task) _ (c .before .is-fit .ensures) (c .if1 .taken)
@@ -58,8 +59,8 @@ returns c =
     let e = c .before .before .before .before .before .before .args in
     rw (is-refused (asked (e .t1) (now (e .pool)) (e .task)) _ (number (c .before)) (c .if2 .taken))
 
-element-copy-out-take-turn : tie.Need-element-copy-out-take-turn
-element-copy-out-take-turn c = acts (c .before .before .before .before) .cell
+element-copy-out-c : tie.Need-element-copy-out-c
+element-copy-out-c c = acts (c .before .before .before) .cell
 
 take-turn-requires : tie.Need-take-turn-requires
 take-turn-requires c κs = let a = acts (c .before .before .before .before .before) in (a .ready, a .there _ (free (c .before .before .before)))
@@ -73,12 +74,25 @@ mul-q c = omega (arith, acts (c .before .before .before .before .before .before 
 element-set-from-q : tie.Need-element-set-from-q
 element-set-from-q c = acts (c .before .before .before .before .before .before .before .before .before) .task
 
+-- the turn that the code took is the definition's
+counts-for : (s : State) (r : Record) (x y : Turned) → x ≡ y → Countable (s .counts) r (y .record) (current s (r .cell)) (y .current) → Countable (s .counts) r (x .record) (current s (r .cell)) (x .current)
+counts-for s r x y e h = rw e h
+
+recount-requires : tie.Need-recount-requires
+recount-requires c κs =
+    let e = c .before .before .before .before .before .before .before .before .before .before .before .before .before .before .before .before .args in
+    let s = e .t1 in
+    let g = c .before .before .before .before .before .before .before .before .before .before .before .before .before .before .before .before .good .0 in
+    let a = acts (c .before .before .before .before .before .before .before .before .before .before) in
+    let r = c .before .before .before .before .before .before .before .before .before .before .before .before .if1 .r in
+    counts-for s r _ _ (c .before .before .before .before .take-turn .ensures) (a .countable (has-16 s _ g, has-32 s _ g, has-128 s _ g) _ (free (c .before .before .before .before .before .before .before .before)))
+
 returns-2 : tie.Need-returns-2
 returns-2 c =
-    let e = c .before .before .before .before .before .before .before .before .before .before .before .before .before .before .before .args in
-    let a = acts (c .before .before .before .before .before .before .before .before .before) in
-    let r = c .before .before .before .before .before .before .before .before .before .before .before .if1 .r in
-    ap (putBack (e .t1) (e .task) (r .cell)) (c .before .before .before .take-turn .ensures) ∙ sym (a .acts _ (free (c .before .before .before .before .before .before .before)))
+    let e = c .before .before .before .before .before .before .before .before .before .before .before .before .before .before .before .before .before .args in
+    let a = acts (c .before .before .before .before .before .before .before .before .before .before .before) in
+    let r = c .before .before .before .before .before .before .before .before .before .before .before .before .before .if1 .r in
+    rw (c .recount .ensures) (ap (putBack (e .t1) (e .task) r) (c .before .before .before .before .before .take-turn .ensures) ∙ sym (a .acts _ (free (c .before .before .before .before .before .before .before .before .before))))
 
 pub step-spec : {M : Type 1} → statement M
 step-spec =
@@ -94,11 +108,12 @@ step-spec =
     (λ c κs. search needs)
     (λ c. search needs)
     (λ c. search needs)
-    element-copy-out-take-turn
+    element-copy-out-c
     take-turn-requires
     (λ c. search needs)
     element-write-s
     mul-q
     element-set-from-q
+    recount-requires
     (λ c. search needs)
     returns-2)
