@@ -25,6 +25,7 @@ struct State {
     last: u32,
     current: [u32; 16],
     records: [Record; 32],
+    counts: [u8; 128],
 }
 
 enum Answer {
@@ -74,8 +75,8 @@ impl Record {
         matches!(self.line, 5..=8 | 30)
     }
 
-    fn uses(&self, b: u32) -> bool {
-        self.line != 0 && (self.line != 10 && self.line != 15 && self.held == b || self.has_taken() && self.taken == b)
+    fn holds(&self) -> bool {
+        !matches!(self.line, 0 | 10 | 15)
     }
 }
 
@@ -89,7 +90,9 @@ impl State {
         for (k, c) in current.iter_mut().enumerate() {
             *c = k as u32;
         }
-        State { tasks, cells, blocks, last: cells - 1, current, records: [Record::default(); 32] }
+        let mut counts = [0; 128];
+        counts[..cells as usize].fill(1);
+        State { tasks, cells, blocks, last: cells - 1, current, records: [Record::default(); 32], counts }
     }
 
     fn fit(&self, pool: &[u32]) -> bool {
@@ -101,6 +104,24 @@ impl State {
             && self.last < self.blocks
             && self.current[..self.cells as usize].iter().all(|b| *b < self.blocks)
             && self.records[..self.tasks as usize].iter().all(|r| r.fit(self.cells, self.blocks))
+            && self.counts[..self.blocks as usize] == self.uses()[..self.blocks as usize]
+    }
+
+    // How many times each block is used.
+    fn uses(&self) -> [u8; 128] {
+        let mut uses = [0; 128];
+        for c in &self.current[..self.cells as usize] {
+            uses[*c as usize] += 1;
+        }
+        for r in &self.records[..self.tasks as usize] {
+            if r.holds() {
+                uses[r.held as usize] += 1;
+            }
+            if r.has_taken() {
+                uses[r.taken as usize] += 1;
+            }
+        }
+        uses
     }
 
     fn begin(&mut self, pool: &[u32], task: u32, cell: u32, kind: u32, expected: u32, new: u32) -> Outcome {
@@ -129,8 +150,7 @@ impl State {
         let mut b = self.last;
         for _ in 0..self.blocks {
             b = if b + 1 == self.blocks { 0 } else { b + 1 };
-            let current = self.current[..self.cells as usize].contains(&b);
-            if !current && !self.records[..self.tasks as usize].iter().any(|r| r.uses(b)) {
+            if self.counts[b as usize] == 0 {
                 return b;
             }
         }
@@ -182,13 +202,17 @@ impl State {
                 let b = self.unused();
                 pool[5 * b as usize + X] = 255;
                 self.last = b;
+                self.counts[b as usize] += 1;
                 (r.taken, r.line) = (b, 5);
             }
             5 => (pool[to + Y], r.line) = (0, 6),
             6 => (pool[to + C], r.line) = (0, 7),
             7 => (pool[to + D], r.line) = (NONE, 8),
             8 => (pool[to + V], r.line) = (r.new, 30),
-            10 | 15 => (r.held, r.line) = (self.current[r.cell as usize], r.line + 1),
+            10 | 15 => {
+                (r.held, r.line) = (self.current[r.cell as usize], r.line + 1);
+                self.counts[r.held as usize] += 1;
+            }
             11 | 20 => (r.loaded, r.line) = (pool[at + V], r.line + 1),
             12 if pool[at + C] == 0 => ended = Some(read(&r, r.loaded)),
             12 => (r.line, r.wanted) = (1, 13),
@@ -224,6 +248,9 @@ impl State {
                 r.lost += u32::from(!won);
                 if won {
                     self.current[r.cell as usize] = r.taken;
+                    self.counts[r.held as usize] -= 1;
+                } else {
+                    self.counts[r.taken as usize] -= 1;
                 }
                 ended = Some(if won { Answer::Yes } else { Answer::No });
             }
@@ -234,6 +261,7 @@ impl State {
                 Outcome::Acted
             }
             Some(a) => {
+                self.counts[r.held as usize] -= 1;
                 self.records[task as usize] = Record::default();
                 Outcome::Ended(a, r.steps, r.won, r.lost)
             }

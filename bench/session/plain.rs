@@ -71,6 +71,7 @@ struct Cells {
     last: u32,
     current: [u32; 16],
     records: [Record; 32],
+    counts: [u8; 128],
     pool: Vec<Block>,
 }
 
@@ -240,10 +241,6 @@ impl Record {
         matches!(self.line, 5..=8 | 30)
     }
 
-    fn uses(&self, block: u32) -> bool {
-        self.held == block && self.holds() || self.taken == block && self.has_taken()
-    }
-
     fn read_line_fits(&self) -> bool {
         match self.line {
             1..=3 => self.wanted == 13,
@@ -370,6 +367,7 @@ impl Cells {
             last: o.cells.wrapping_sub(1),
             current: std::array::from_fn(|k| k as u32),
             records: [Record::default(); 32],
+            counts: std::array::from_fn(|block| u8::from(block < o.cells as usize)),
             pool: vec![Block::default(); o.blocks.min(MOST_BLOCKS) as usize],
         };
         cells.ask_sizes()?;
@@ -395,6 +393,24 @@ impl Cells {
             && self.last < self.blocks
             && self.current[..self.cells as usize].iter().all(|&block| block < self.blocks)
             && self.records[..self.tasks as usize].iter().all(|record| record.fits(self.cells, self.blocks))
+            && self.counts[..self.blocks as usize] == self.uses()[..self.blocks as usize]
+    }
+
+    // How many times each block is used, read off the table.
+    fn uses(&self) -> [u8; 128] {
+        let mut uses = [0; 128];
+        for &block in &self.current[..self.cells as usize] {
+            uses[block as usize] += 1;
+        }
+        for record in &self.records[..self.tasks as usize] {
+            if record.holds() {
+                uses[record.held as usize] += 1;
+            }
+            if record.has_taken() {
+                uses[record.taken as usize] += 1;
+            }
+        }
+        uses
     }
 
     fn begin(&mut self, task: u32, kind: Kind, cell: u32, expected: u32, new: u32) -> Result<(), u32> {
@@ -409,20 +425,10 @@ impl Cells {
         Ok(())
     }
 
-    // Whether a task uses the block, and how many records were read: from task 0 upward, to the first that uses it.
-    fn find_holder(&self, block: u32) -> (bool, usize) {
-        let records = &self.records[..self.tasks as usize];
-        match records.iter().position(|record| record.uses(block)) {
-            Some(task) => (true, task + 1),
-            None => (false, records.len()),
-        }
-    }
-
     // The first unused block after the last one taken; by counting there is one.
     fn unused_block(&self) -> u32 {
-        let current = &self.current[..self.cells as usize];
         let mut onward = (self.last + 1..self.blocks).chain(0..=self.last);
-        onward.find(|block| !current.contains(block) && !self.find_holder(*block).0).unwrap()
+        onward.find(|&block| self.counts[block as usize] == 0).unwrap()
     }
 
     fn do_line(&mut self, task: u32) -> Option<Answer> {
@@ -430,10 +436,14 @@ impl Cells {
         let current = &mut self.current[record.cell as usize];
         record.steps += 1;
         match record.line {
-            10 | 15 => (record.held, record.line) = (*current, record.line + 1),
+            10 | 15 => {
+                (record.held, record.line) = (*current, record.line + 1);
+                self.counts[record.held as usize] += 1;
+            }
             4 => {
                 self.last = self.unused_block();
                 self.pool[self.last as usize].x = NO_TASK;
+                self.counts[self.last as usize] += 1;
                 let record = &mut self.records[task as usize];
                 (record.taken, record.line) = (self.last, 5);
             }
@@ -441,10 +451,12 @@ impl Cells {
             30 => {
                 if *current != record.held {
                     record.lost += 1;
+                    self.counts[record.taken as usize] -= 1;
                     return Some(Answer::No);
                 }
                 record.won += 1;
                 *current = record.taken;
+                self.counts[record.held as usize] -= 1;
                 return Some(Answer::Yes);
             }
             _ => return record.do_line(task, &mut self.pool[record.held as usize]),
@@ -457,7 +469,8 @@ impl Cells {
         ask(task < self.tasks, 7)?;
         ask(self.records[task as usize].line != 0, 11)?;
         Ok(self.do_line(task).map(|answer| {
-            let Record { kind, cell, steps, won, lost, .. } = std::mem::take(&mut self.records[task as usize]);
+            let Record { kind, cell, held, steps, won, lost, .. } = std::mem::take(&mut self.records[task as usize]);
+            self.counts[held as usize] -= 1;
             Finished { task, kind, cell, answer, steps, won, lost }
         }))
     }

@@ -6,6 +6,7 @@
 // - h: whose record is set; i .. s, of that record: line, wanted, kind, cell, expected, new, held, taken, steps, won, lost
 // - t .. w, of the calls: task, cell, expected, new
 // - x: how many values open is given, or 0 to try begin a read, begin a swap, step and look; y: the second value
+// - z: a block, and Z: its stored count, 255 for any above; the other counts are those of a fresh reading
 use cells::Looked;
 use cells::Outcome;
 use cells::Reply;
@@ -13,6 +14,8 @@ use libc::STDOUT_FILENO;
 use lines::Record;
 use lines::records;
 use questions::State;
+use questions::counts::is_holding;
+use questions::counts::is_taking;
 use std::num::wrapping_add_u32;
 
 // PRINTING
@@ -54,6 +57,16 @@ fn words_sum(start: u32, words: &[u32]) -> u32 {
     sum
 }
 
+fn counts_sum(start: u32, counts: [u8; 128]) -> u32 {
+    let mut sum = start;
+    let mut b: usize = 0;
+    while b < 128 {
+        sum = mixed(sum, counts[b] as u32);
+        b += 1;
+    }
+    sum
+}
+
 fn record_sum(start: u32, r: Record) -> u32 {
     let call = [r.line, r.wanted, r.kind, r.cell, r.expected, r.new];
     let rest = [r.held, r.taken, r.loaded, r.steps, r.won, r.lost];
@@ -64,6 +77,7 @@ fn sum_of(s: State, pool: &[u32]) -> u32 {
     let mut sum = words_sum(0, pool);
     sum = words_sum(sum, &[s.tasks, s.cells, s.blocks, s.last]);
     sum = words_sum(sum, &s.current);
+    sum = counts_sum(sum, s.counts);
     let mut t: usize = 0;
     while t < 32 {
         let r = s.records[t];
@@ -97,7 +111,7 @@ fn try_entries(s: State, pool: &mut [u32], task: u32, cell: u32, expected: u32, 
     print_look(looked);
 }
 
-fn record_of(c: [u32; 26]) -> Record {
+fn record_of(c: [u32; 27]) -> Record {
     Record {
         line: c[8],
         wanted: c[9],
@@ -114,7 +128,51 @@ fn record_of(c: [u32; 26]) -> Record {
     }
 }
 
-fn state_of(c: [u32; 26]) -> State {
+// A use of block b, where it has a count.
+fn add_use(counts: &mut [u8; 128], b: u32, used: bool) {
+    let i = b as usize;
+    if used {
+        if i < 128 {
+            if counts[i] < 255 {
+                counts[i] = counts[i] + 1;
+            }
+        }
+    }
+}
+
+fn add_cells(counts: &mut [u8; 128], current: &[u32; 16], cells: u32) {
+    let mut k: u32 = 0;
+    while k < 16 {
+        add_use(counts, current[k as usize], k < cells);
+        k += 1;
+    }
+}
+
+// No state can store a count above 255: the case's state then has 255.
+fn stored(count: u32) -> u8 {
+    if count < 256 { count as u8 } else { 255 }
+}
+
+// Those of a fresh reading, but for one block's.
+fn counts_of(s: State, block: u32, count: u32) -> [u8; 128] {
+    let mut counts: [u8; 128] = [0; 128];
+    add_cells(&mut counts, &s.current, s.cells);
+    let mut t: u32 = 0;
+    while t < 32 {
+        let r = s.records[t as usize];
+        let there = t < s.tasks;
+        add_use(&mut counts, r.held, there & is_holding(r));
+        add_use(&mut counts, r.taken, there & is_taking(r));
+        t += 1;
+    }
+    let i = block as usize;
+    if i < 128 {
+        counts[i] = stored(count);
+    }
+    counts
+}
+
+fn state_of(c: [u32; 27]) -> State {
     let idle = records::idle();
     let mut s = State {
         tasks: c[0],
@@ -123,15 +181,17 @@ fn state_of(c: [u32; 26]) -> State {
         last: c[3],
         current: [0, c[4], c[5], 3, 4, 5, 6, 7, 8, 9, 10, 11, 12, 13, 14, 15],
         records: [idle; 32],
+        counts: [0; 128],
     };
     let t = c[7] as usize;
     if t < 32 {
         s.records[t] = record_of(c);
     }
+    s.counts = counts_of(s, c[25], c[26]);
     s
 }
 
-fn try_case(c: [u32; 26], pool: &mut [u32], values: &[u32]) {
+fn try_case(c: [u32; 27], pool: &mut [u32], values: &[u32]) {
     let s = state_of(c);
     if c[23] == 0 {
         try_entries(s, pool, c[19], c[20], c[21], c[22]);
@@ -143,7 +203,7 @@ fn try_case(c: [u32; 26], pool: &mut [u32], values: &[u32]) {
 }
 
 // Of the words and of the values only the first so many are lent.
-fn lend(c: [u32; 26], all: &mut [u32], words: u32, values: &[u32], given: u32) {
+fn lend(c: [u32; 27], all: &mut [u32], words: u32, values: &[u32], given: u32) {
     let w = words as usize;
     let g = given as usize;
     if w <= all.len() {
@@ -165,7 +225,7 @@ fn opened() -> [u32; 45] {
     pool
 }
 
-fn run_case(c: [u32; 26]) {
+fn run_case(c: [u32; 27]) {
     let mut all = opened();
     lend(c, &mut all, c[6], &[5, c[24], 6], c[23]);
     io::write_all(STDOUT_FILENO, b"\n");
@@ -173,15 +233,15 @@ fn run_case(c: [u32; 26]) {
 
 // READING
 
-// The case's words so far, and the word whose number is read; 26 in the name.
+// The case's words so far, and the word whose number is read; 27 in the name.
 struct Reading {
-    words: [u32; 26],
+    words: [u32; 27],
     at: usize,
 }
 
 // Three tasks, two cells, eight blocks, all idle; task 0 is to swap 5 for 7; the second value is 6.
 fn plain() -> Reading {
-    let mut words = [0u32; 26];
+    let mut words = [0u32; 27];
     words[0] = 3;
     words[1] = 2;
     words[2] = 8;
@@ -192,6 +252,7 @@ fn plain() -> Reading {
     words[21] = 5;
     words[22] = 7;
     words[24] = 6;
+    words[25] = 128;
     Reading { words, at: 0 }
 }
 
@@ -207,13 +268,17 @@ fn read(mut r: Reading, byte: u8) -> Reading {
             r.at = (byte - b'a') as usize;
             r.words[(byte - b'a') as usize] = 0;
         }
+        b'Z' => {
+            r.at = 26;
+            r.words[26] = 0;
+        }
         b'0'..=b'9' => {
-            if at < 26 {
+            if at < 27 {
                 r.words[at] = with_digit(r.words[at], byte - b'0');
             }
         }
         b':' => {
-            r.at = 26;
+            r.at = 27;
         }
         _ => {}
     }
@@ -236,7 +301,7 @@ fn run(text: &[u8]) {
     let mut k: usize = 0;
     while k < text.len() {
         let byte = text[k];
-        r = if r.at < 26 {
+        r = if r.at < 27 {
             read(r, byte)
         } else {
             name(r, byte)

@@ -35,6 +35,7 @@ fn unopened() -> State {
         last: 0,
         current: [0; 16],
         records: [r; 32],
+        counts: [0; 128],
     }
 }
 

@@ -20,7 +20,7 @@ use Rattle.lines.specs.Record.{idle, recordAt}
 use Rattle.cells.specs.Pool.{word}
 use Rattle.questions.specs.Questions.{tasksOk, cellsOk, blocksOk, takenBefore}
 use Rattle.cells.specs.Begin.{withRecord}
-use Rattle.cells.specs.Step.{current}
+use Rattle.cells.specs.Step.{current, withCounts}
 use Rattle.questions.proofs.Tests.{within-true}
 use Rattle.cells.proofs.Words.{fields}
 use Rattle.history.specs.Basics.{upd}
@@ -153,3 +153,7 @@ records-change {n} {v} {R} {s} {p} {w} a t r q h x = record {
   current = a .current;
   records = λ j l. set-cases (λ m. Task R) (s .records) (w .records) t r idle q (omega (arith, a .rows)) x j (a .records j l);
 }
+
+-- other counts: the agreement does not look at them
+pub counts-change : {n v : ℕ} {R : Links} {s : State} {p : List ℕ} {w : World} → Agree n v R s p w → (counts : List ℕ) → Agree n v R (withCounts s counts) p w
+counts-change a counts = record { sizes = a .sizes; last = a .last; places = a .places; rows = a .rows; blocks = a .blocks; current = a .current; records = a .records }

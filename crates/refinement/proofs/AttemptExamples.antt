@@ -3,11 +3,12 @@ use mathlib.Core.Path.{_≡_, refl}
 use mathlib.Core.List.{List, [], _∷_, _++_}
 use Prim.Native.Nat.{ℕ, _+_}
 use lib.ListN.{replicate}
-use Rattle.questions.specs.Questions.{hasNone, openQuestions, recordFit, cellsFit, recordsFit, fit}
-use Rattle.blocks.specs.Blocks.{isCurrent, usedByTask, used, unused}
+use Rattle.questions.specs.Questions.{hasNone, openQuestions, recordFit, cellsFit, recordsFit, uses, countsTrue, fit}
+use Rattle.blocks.specs.Blocks.{found}
 use Rattle.lines.specs.Record.{idle}
 use Rattle.history.specs.History.{swap, Action, begin, step, run}
 use Rattle.cells.specs.Open.{opened}
+use Rattle.cells.specs.Counts.{recounted}
 use Rattle.cells.specs.Begin.{swapBegun}
 use Rattle.cells.specs.Step.{current, ran, stepped}
 use Rattle.cells.specs.Machine.{Pool, pool}
@@ -16,7 +17,7 @@ use Rattle.refinement.specs.Attempts.{decisions}
 
 -- two tasks, five blocks and one cell that holds 5
 abbrev first : Pool
-first = start (record { tasks = 7; cells = 7; blocks = 7; last = 7; current = replicate 16 7; records = replicate 32 idle }) (replicate 25 9) 2 1 5 (5 ∷ [])
+first = start (record { tasks = 7; cells = 7; blocks = 7; last = 7; current = replicate 16 7; records = replicate 32 idle; counts = replicate 128 7 }) (replicate 25 9) 2 1 5 (5 ∷ [])
 
 -- they collide on the cell's block: task 1 decides it and replaces it, putting v + 1 for v; task 0 comes too late, and its new block is left
 abbrev collision : (v steps : ℕ) → List Action
@@ -43,5 +44,5 @@ examples :
     -- block 0 is taken again, and is the cell's once more: its new life
     (round 5 ++ round 6 ++ round 7, (0, 0)) ∷
     (round 5 ++ round 6 ++ round 7 ++ round 8, (2, 1)) ∷ [])
-unfolding opened openQuestions hasNone fit recordFit cellsFit recordsFit isCurrent usedByTask used unused swapBegun ran stepped
+unfolding opened openQuestions hasNone fit recordFit cellsFit recordsFit uses countsTrue found recounted swapBegun ran stepped
 examples = (refl, (refl, (refl, (refl, (refl, (refl, tt))))))

@@ -1,4 +1,4 @@
--- A state that agrees with the figure is fit; and nothing refers to an unused block.
+-- A state that agrees with the figure and whose counts are true is fit; and nothing refers to an unused block.
 use mathlib.Core.Path.{_≡_, refl, sym, ap, _∙_}
 use mathlib.Core.Bool.{Bool, true, false, _&&_, _||_, not}
 use mathlib.Core.Logic.{inl, inr}
@@ -6,6 +6,7 @@ use mathlib.Core.List.{List}
 use Prim.Native.Nat.{ℕ, _<_}
 use native.Mathlib.Omega.{arith}
 use lib.Dec.{eqb, ltb, T}
+use lib.ListN.{length}
 use borrow.Author.Tests.{eqb-false, lt-ltb, le-leb}
 use Rattle.lines.specs.declared.Record.{Record}
 use Rattle.lines.specs.declared.Field.{Field}
@@ -13,7 +14,7 @@ use Rattle.lines.specs.declared.Field.the-variants.{X}
 use Rattle.questions.specs.declared.State.{State}
 use Rattle.lines.specs.Basics.{ands}
 use Rattle.lines.specs.Record.{isIdle, recordAt}
-use Rattle.questions.specs.Questions.{holds, hasTaken, busyTests, recordFit, cellsFit, recordsFit, fit}
+use Rattle.questions.specs.Questions.{tasksOk, cellsOk, blocksOk, holds, hasTaken, busyTests, recordFit, cellsFit, recordsFit, countsTrue, fit}
 use Rattle.blocks.specs.Blocks.{isCurrent, usedByTask, used, usesBlock}
 use Rattle.cells.specs.Step.{current}
 use Rattle.questions.proofs.Tests.{both, implied, or-left, or-right, all-from, none-of}
@@ -38,18 +39,20 @@ record-fits R v b r q x below (inr y) = rw (x .same) (go (isIdle q) refl)
         both (lt-ltb _ _ (y .cell)) (both (y .line) (both blocks (both (y .values) (both (le-leb _ _ (y .steps)) (both (le-leb _ _ (y .hard)) refl)))))
 
 -- question 6 is answered yes
-pub fits : {n v : ℕ} {R : Links} {s : State} {p : List ℕ} {w : World} → Agree n v R s p w → ((t : ℕ) → WellRecord v (w .records t)) → fit s p ≡ true
+pub fits : {n v : ℕ} {R : Links} {s : State} {p : List ℕ} {w : World} → Agree n v R s p w → ((t : ℕ) → WellRecord v (w .records t)) → countsTrue s ≡ true → fit s p ≡ true
 unfolding fit cellsFit recordsFit
-fits {n} {v} {R} {s} {p} {w} a well =
+fits {n} {v} {R} {s} {p} {w} a well true-counts =
     let z = a .sizes in
     let below = a .blocks .below in
-    rw (z .same-tasks, z .same-cells)
-    (both (z .tasks-ok)
-    (both (z .cells-ok)
-    (both (z .blocks-ok)
-    (both (all-from _ 0 v (λ k l h. lt-ltb _ _ (below k (w .cell k .current) (current s k) X (a .current k (omega arith) X))))
+    let enough : blocksOk (s .tasks) (s .cells) (s .blocks) (length p) ≡ true = rw (z .same-tasks, z .same-cells) (z .blocks-ok) in
+    let each : (t : ℕ) → t < n → recordFit (recordAt (s .records) t) (s .cells) (s .blocks) ≡ true = λ t h. rw (z .same-cells) (record-fits R v (s .blocks) (recordAt (s .records) t) (w .records t) (a .records t h) below (well t)) in
+    both (ap tasksOk (z .same-tasks) ∙ z .tasks-ok)
+    (both (ap cellsOk (z .same-cells) ∙ z .cells-ok)
+    (both enough
+    (both (all-from _ 0 (s .cells) (λ k l h. lt-ltb _ _ (below k (w .cell k .current) (current s k) X (a .current k (omega (arith, z .same-cells)) X))))
     (both (lt-ltb _ _ (a .last))
-    (both (all-from _ 0 n (λ t l h. record-fits R v (s .blocks) (recordAt (s .records) t) (w .records t) (a .records t (omega arith)) below (well t)))
+    (both (all-from _ 0 (s .tasks) (λ t l h. each t (omega (arith, z .same-tasks))))
+    (both true-counts
     refl))))))
 
 -- UNUSED

@@ -10,9 +10,10 @@ use Rattle.questions.specs.Questions.{refusal, fit, openQuestions}
 use Rattle.history.specs.History.{Action}
 use Rattle.history.proofs.EveryAction.{run-snoc}
 use Rattle.cells.specs.Machine.{Pool, pool}
+use Rattle.cells.proofs.Counted.{Arrays}
 use Rattle.refinement.specs.Terms.{start}
 use Rattle.refinement.specs.Reached.{Reached}
-use Rattle.refinement.proofs.Refines.{always-fit}
+use Rattle.refinement.proofs.Refines.{together, always-fit}
 
 pub reached-open : (old : State) (words : List ℕ) (tasks cells blocks : ℕ) (values : List ℕ) → refusal (openQuestions (length words) tasks cells blocks values) ≡ none
     → Reached tasks cells (start old words tasks cells blocks values .0) (start old words tasks cells blocks values .1)
@@ -32,3 +33,6 @@ module _ {tasks cells : ℕ} {state : State} {pool-words : List ℕ} (r : Reache
 
   pub reached-fit : fit state pool-words ≡ true
   reached-fit = subst (λ (x : Pool). fit (x .0) (x .1) ≡ true) (sym (r .came)) (always-fit (r .old) (r .words) tasks cells (r .blocks) (r .values) (r .allowed) (r .actions))
+
+  pub reached-arrays : Arrays state
+  reached-arrays = subst (λ (x : Pool). Arrays (x .0)) (sym (r .came)) (together (r .old) (r .words) tasks cells (r .blocks) (r .values) (r .allowed) (r .actions) .arrays)

@@ -12,13 +12,15 @@ use Rattle.lines.specs.declared.Field.{Field}
 use Rattle.lines.specs.declared.Field.the-variants.{C, D}
 use Rattle.lines.specs.Record.{recordAt}
 use Rattle.cells.specs.Pool.{word}
-use Rattle.questions.specs.Questions.{refusal, fit, openQuestions}
+use Rattle.questions.specs.Questions.{refusal, countsTrue, fit, openQuestions}
 use Rattle.cells.specs.Open.{opened}
 use Rattle.cells.specs.Step.{current}
 use Rattle.cells.specs.Look.{looked, shown, shownValue}
 use Rattle.history.specs.History.{Action, begin, step, Event, history, run}
 use Rattle.figure.specs.Figure.{World, figure, opening, wordOf, figureLooked}
 use Rattle.cells.specs.Machine.{Pool, pool}
+use Rattle.cells.proofs.Counted.{Arrays, counts-stay}
+use Rattle.cells.proofs.CountedOpen.{open-counts, open-arrays, arrays-stay}
 use Rattle.refinement.specs.Terms.{start, named}
 use Rattle.figure.proofs.Records.{WellRecord, well}
 use Rattle.refinement.proofs.Agree.{Links, Agree}
@@ -26,19 +28,23 @@ use Rattle.refinement.proofs.Fits.{fits}
 use Rattle.refinement.proofs.Steps.{Same, steps, begins}
 use Rattle.refinement.proofs.Opening.{Opened, opens}
 
--- agreement, with the figure's records well for as long as it runs on
+-- agreement, with the figure's records well for as long as it runs on, and the stored counts true
 pub record Together (n v : ℕ) (x : Pool) (w : World) : Type 1 where
   pub R : Links
   pub agree : Agree n v R (x .0) (x .1) w
   pub well : (l : List Action) (t : ℕ) → WellRecord v (run figure w l .records t)
+  pub arrays : Arrays (x .0)
+  pub counts : countsTrue (x .0) ≡ true
 
 module _ {n v : ℕ} where
   acts : {x : Pool} {w : World} → Together n v x w → (a : Action) → Same n v (pool x a) (figure w a)
-  acts g (begin t op) = begins (g .agree) (g .well []) t op
-  acts g (step t) = steps (g .agree) (g .well []) t
+  acts g (begin t op) = begins (g .agree) (g .well []) (g .counts) t op
+  acts g (step t) = steps (g .agree) (g .well []) (g .counts) t
 
   further : {x : Pool} {w : World} → Together n v x w → (a : Action) → Together n v (pool x a .0) (figure w a .0)
-  further g a = let b = acts g a in record { R = b .R; agree = b .agree; well = λ l. g .well (a ∷ l) }
+  further {x} g a =
+      let b = acts g a in
+      record { R = b .R; agree = b .agree; well = λ l. g .well (a ∷ l); arrays = arrays-stay (x .0) (x .1) (g .arrays) a; counts = counts-stay (x .0) (x .1) (g .arrays) (g .counts) a }
 
   all-together : (l : List Action) {x : Pool} {w : World} → Together n v x w → Together n v (run pool x l) (run figure w l)
   all-together [] g = g
@@ -49,7 +55,7 @@ module _ {n v : ℕ} where
   histories (a ∷ l) g = ap₂ (λ (e : Event) (h : List (Action × Event)). (a, e) ∷ h) (acts g a .event) (histories l (further g a))
 
   is-fit : {x : Pool} {w : World} → Together n v x w → fit (x .0) (x .1) ≡ true
-  is-fit g = fits (g .agree) (g .well [])
+  is-fit g = fits (g .agree) (g .well []) (g .counts)
 
   pub same-words : {x : Pool} {w : World} → Together n v x w → (k : ℕ) → k < v → (f : Field) → word (x .1) (current (x .0) k) f ≡ wordOf (w .cell k) (w .cell k .current) f
   same-words {x} {w} g k h f = g .agree .blocks .words k (w .cell k .current) (current (x .0) k) f (g .agree .current k h f)
@@ -72,7 +78,14 @@ module _ (old : State) (words : List ℕ) (tasks cells blocks : ℕ) (values : L
   fresh-opening = rw allowed (opens words tasks cells blocks values allowed)
 
   fresh : Together tasks cells (start old words tasks cells blocks values) (opening tasks cells values)
-  fresh = record { R = Opened cells; agree = fresh-opening; well = well tasks cells values }
+  unfolding opened
+  fresh = record {
+    R = Opened cells;
+    agree = fresh-opening;
+    well = well tasks cells values;
+    arrays = rw allowed (open-arrays words values tasks cells blocks allowed);
+    counts = rw allowed (open-counts words values tasks cells blocks allowed);
+  }
 
   module _ (actions : List Action) where
     pub together : Together tasks cells (run pool (start old words tasks cells blocks values) actions) (run figure (opening tasks cells values) actions)
@@ -90,6 +103,10 @@ module _ (old : State) (words : List ℕ) (tasks cells blocks : ℕ) (values : L
     -- The state is fit after any actions: question 6 is never answered no.
     pub always-fit : let now = run pool (start old words tasks cells blocks values) actions in fit (now .0) (now .1) ≡ true
     always-fit = is-fit together
+
+    -- What the state stores for each block is what its table says, after any actions.
+    pub always-counted : countsTrue (run pool (start old words tasks cells blocks values) actions .0) ≡ true
+    always-counted = together .counts
 
     -- A look shows, or is refused, what the figure's look is.
     pub same-look : (cell : ℕ) → let now = run pool (start old words tasks cells blocks values) actions in looked (now .0) (now .1) cell ≡ figureLooked (run figure (opening tasks cells values) actions) cell

@@ -21,7 +21,8 @@ use Rattle.blocks.specs.Blocks.{unused}
 use Rattle.cells.specs.Open.{After, leaving, unless}
 use Rattle.cells.specs.Begin.{withRecord, started, readBegun, swapBegun}
 use Rattle.cells.specs.Turn.{Touched, performed, ending}
-use Rattle.cells.specs.Step.{current, withBlocks, putBack, ran, stepped}
+use Rattle.cells.specs.Counts.{recounted}
+use Rattle.cells.specs.Step.{current, withBlocks, withCounts, putBack, ran, stepped}
 use Rattle.cells.proofs.Stepping.{asked, own-acting}
 use Rattle.history.specs.History.{Op, read, swap, Attempt}
 use Rattle.cells.specs.Machine.{begins}
@@ -55,9 +56,10 @@ module _ (s : State) (p : List ℕ) (t : ℕ) where
 
   -- what is left of it, whether its call goes on or is finished
   abbrev left : Touched → Next → After
-  left m n = leaving (withRecord (withBlocks s (r .cell) (m .current) (m .last)) t (recordAfter n)) (m .pool) (outcomeOf n)
+  left m n =
+      leaving (withCounts (withRecord (withBlocks s (r .cell) (m .current) (m .last)) t (recordAfter n)) (recounted (s .counts) r (recordAfter n) (current s (r .cell)) (m .current))) (m .pool) (outcomeOf n)
 
-  left-is : (m : Touched) (n : Next) → left m n ≡ putBack s t (r .cell) (ending m n)
+  left-is : (m : Touched) (n : Next) → left m n ≡ putBack s t r (ending m n)
   left-is m (Go q) = refl
   left-is m (Done f) = refl
 

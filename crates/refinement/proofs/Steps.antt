@@ -15,7 +15,7 @@ use Rattle.lines.specs.Answers.{Next}
 use Rattle.lines.specs.Basics.{ands}
 use Rattle.lines.specs.Record.{noValue, idle, isIdle, recordAt}
 use Rattle.lines.specs.Lines.{lineOf, accessOf, attempt, counted}
-use Rattle.questions.specs.Questions.{Question, refusal, reads, swaps, fit, answers}
+use Rattle.questions.specs.Questions.{Question, refusal, reads, swaps, countsTrue, fit, answers}
 use Rattle.cells.specs.Open.{After, unless}
 use Rattle.lines.specs.Record.{firstRead, firstSwap}
 use Rattle.cells.specs.Begin.{readBegun, swapBegun, started}
@@ -31,7 +31,7 @@ use Rattle.cells.specs.Events.{eventOf}
 use Rattle.cells.specs.Machine.{Pool, pool}
 use Rattle.refinement.specs.Terms.{named}
 use Rattle.figure.proofs.Records.{Busy, WellRecord}
-use Rattle.refinement.proofs.Agree.{Links, Whole, Agree, Task, holdsAt, storedBefore, no-blocks, records-change}
+use Rattle.refinement.proofs.Agree.{Links, Whole, Agree, Task, holdsAt, storedBefore, no-blocks, records-change, counts-change}
 use Rattle.refinement.proofs.Memory.{withCell}
 use Rattle.refinement.proofs.Fits.{fits}
 use Rattle.refinement.proofs.Access.{performs, same-attempt}
@@ -49,12 +49,12 @@ abbrev figureGives : (Said → Event) → WorldAfter → World × Event
 figureGives e r = (r .world, e (r .outcome))
 
 -- what follows a line, in the pool and in the figure
-finishes : {n v : ℕ} {R : Links} (s : State) (m : Touched) (w : World) (k t : ℕ) (x : Attempt) (c : Cell) {X Y : Next} → Agree n v R (withBlocks s k (m .current) (m .last)) (m .pool) (withCell w k c) → t < n → Nexts R X Y
-    → Same n v (gives (eventOf x) (putBack s t k (ending m X))) (figureGives (eventOf x) (worldAfter (withBoth w k c t (recordAfter Y)) (outcomeOf Y)))
-finishes {R = R} s m w k t x c a l (going {r} {q} e) = record { R = R; agree = records-change a t r q l e; event = refl }
-finishes {R = R} s m w k t x c a l ended = record { R = R; agree = records-change a t idle idle l (no-blocks idle tt); event = refl }
+finishes : {n v : ℕ} {R : Links} (s : State) (m : Touched) (w : World) (r₀ : Record) (t : ℕ) (x : Attempt) (c : Cell) {X Y : Next} → Agree n v R (withBlocks s (r₀ .cell) (m .current) (m .last)) (m .pool) (withCell w (r₀ .cell) c) → t < n → Nexts R X Y
+    → Same n v (gives (eventOf x) (putBack s t r₀ (ending m X))) (figureGives (eventOf x) (worldAfter (withBoth w (r₀ .cell) c t (recordAfter Y)) (outcomeOf Y)))
+finishes {R = R} s m w r₀ t x c a l (going {r} {q} e) = record { R = R; agree = counts-change (records-change a t r q l e) _; event = refl }
+finishes {R = R} s m w r₀ t x c a l ended = record { R = R; agree = counts-change (records-change a t idle idle l (no-blocks idle tt)) _; event = refl }
 
-module _ {n v : ℕ} {R : Links} {s : State} {p : List ℕ} {w : World} (a : Agree n v R s p w) (well : (t : ℕ) → WellRecord v (w .records t)) (t : ℕ) where
+module _ {n v : ℕ} {R : Links} {s : State} {p : List ℕ} {w : World} (a : Agree n v R s p w) (well : (t : ℕ) → WellRecord v (w .records t)) (true-counts : countsTrue s ≡ true) (t : ℕ) where
   -- THE QUESTIONS
 
   -- the task's records
@@ -76,7 +76,7 @@ module _ {n v : ℕ} {R : Links} {s : State} {p : List ℕ} {w : World} (a : Agr
     figureAnswered = refusal ((7, ltb t (w .tasks)) ∷ rest (w .cells) (isIdle q))
 
     same-refusal : answered ≡ refusal questions
-    same-refusal = rw (fits a well, a .sizes .same-tasks, a .sizes .same-cells) (go (ltb t n) refl)
+    same-refusal = rw (fits a well true-counts, a .sizes .same-tasks, a .sizes .same-cells) (go (ltb t n) refl)
       where
         go : (x : Bool) → ltb t n ≡ x → cond x (refusal (rest v (isIdle r))) (some 7) ≡ cond x (refusal (rest v (isIdle q))) (some 7)
         go true e = ap (λ (r : Record). refusal (rest v (isIdle r))) (a .records t (ltb-true t n e) .same)
@@ -105,7 +105,7 @@ module _ {n v : ℕ} {R : Links} {s : State} {p : List ℕ} {w : World} (a : Agr
         let has : Has R s q h k (lineOf q) = record {
           held = subst (λ (n : ℕ). T (holdsAt n) → Whole R (q .cell) (q .held) h) at (task .held);
           taken = subst (λ (n : ℕ). (f : Field) → T (storedBefore n f) → R (q .cell) (q .taken) k f) at (task .taken);
-          found = λ g. one-is-unused s p t (fits a well) (rw (a .sizes .same-tasks) l) (ap (λ (r : Record). r .line) e ∙ at ∙ g);
+          found = λ g. one-is-unused s p t (fits a well true-counts) (rw (a .sizes .same-tasks) l) (ap (λ (r : Record). r .line) e ∙ at ∙ g);
         } in
         let accesses = linked R s q h k t (reads q) (swaps q) (lineOf q) (y .line) has in
         let m = performed p (current s (q .cell)) (s .last) (unused s) (accessOf t (named q h k)) in
@@ -116,7 +116,7 @@ module _ {n v : ℕ} {R : Links} {s : State} {p : List ℕ} {w : World} (a : Agr
         let held : T (holdsAt (number (lineOf q))) → Whole R⁺ (q .cell) (q .held) h = subst (λ (n : ℕ). T (holdsAt n) → Whole R⁺ (q .cell) (q .held) h) at (task⁺ .held) in
         let taken : (f : Field) → T (storedBefore (number (lineOf q)) f) → R⁺ (q .cell) (q .taken) k f = subst (λ (n : ℕ). (f : Field) → T (storedBefore n f) → R⁺ (q .cell) (q .taken) k f) at (task⁺ .taken) in
         rw (same-attempt R⁺ (m .value) (m′ .value) accesses (done .answer))
-        (finishes s m w (q .cell) t (triedIn w t q) (m′ .cell) (done .agree) l (nexts R⁺ (counted q (triedIn w t q)) h k q refl t (m .value) (m′ .value) (reads q) (swaps q) (lineOf q) (y .line) held taken (done .answer)))
+        (finishes s m w (named q h k) t (triedIn w t q) (m′ .cell) (done .agree) l (nexts R⁺ (counted q (triedIn w t q)) h k q refl t (m .value) (m′ .value) (reads q) (swaps q) (lineOf q) (y .line) held taken (done .answer)))
 
   busy : WellRecord v q → not (isIdle q) ≡ true → Busy v q
   busy (inl e) g = absurd (false≢true (rw e at g))

@@ -8,6 +8,7 @@ use blocks::Found;
 use blocks::unused_block;
 use cells::Looked;
 use cells::Outcome;
+use cells::counts::recount;
 use questions::State;
 ghost use mathlib.Core.Path.{_≡_};
 ghost use mathlib.Core.List.{map};
@@ -153,16 +154,18 @@ pub fn play(
         let k = slot(r.cell, s.cells);
         // Only line 4 asks for a block.
         let free = if r.line == 4 {
-            unused_block(s)
+            unused_block(&s.counts, s.blocks, s.last)
         } else {
             Found::Nowhere
         };
-        let n = act(pool, s.tasks, s.cells, a, r, s.current[k], s.last, free);
+        let c = s.current[k];
+        let n = act(pool, s.tasks, s.cells, a, r, c, s.last, free);
         let q = n.record;
         let outcome = n.outcome;
         s.last = n.last;
         s.current[k] = n.current;
         s.records[t] = q;
+        recount(&mut s.counts, r, q, c, n.current);
         at = report(out, at, i as u32, task, outcome);
         z = count(z, outcome);
         i += 1;

@@ -71,7 +71,7 @@ afterOpen n v l r = elim (r .outcome) [ Refused n ↦ noLine 0 n | Acted ↦ pla
 
 -- before open
 abbrev pub blank : State
-blank = record { tasks = 0; cells = 0; blocks = 0; last = 0; current = replicate 16 0; records = replicate 32 idle }
+blank = record { tasks = 0; cells = 0; blocks = 0; last = 0; current = replicate 16 0; records = replicate 32 idle; counts = replicate 128 0 }
 
 -- the pool has five words for each block; more than 128 blocks are refused whatever it has
 abbrev pub poolWords : ℕ → ℕ

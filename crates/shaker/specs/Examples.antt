@@ -5,9 +5,10 @@ use Prim.Native.Nat.{ℕ, zero, suc}
 use Prim.Native.String.{String}
 use Rattle.text.specs.Bytes.{bytes, digits}
 use Rattle.text.specs.Lines.{numbers}
-use Rattle.questions.specs.Questions.{fit, recordFit, cellsFit, recordsFit, hasNone, openQuestions}
-use Rattle.blocks.specs.Blocks.{isCurrent, usedByTask, used, unused}
+use Rattle.questions.specs.Questions.{fit, recordFit, cellsFit, recordsFit, uses, countsTrue, hasNone, openQuestions}
+use Rattle.blocks.specs.Blocks.{found}
 use Rattle.cells.specs.Open.{opened}
+use Rattle.cells.specs.Counts.{recounted}
 use Rattle.cells.specs.Begin.{readBegun, swapBegun}
 use Rattle.cells.specs.Step.{ran, stepped}
 use Rattle.session_file.specs.Written.{written, writtenValues, openingLine, formLines, fileText}
@@ -48,5 +49,5 @@ shakes :
     ((0, 32, 16, 128, 3001), "(bad 17)\n") ∷
     []
     )
-unfolding digits numbers next below fit recordFit cellsFit recordsFit hasNone openQuestions isCurrent usedByTask used unused opened readBegun swapBegun ran stepped written writtenValues openingLine formLines fileText drawnBegin drawnAction drawnActions startOf shakeQuestions shaken
+unfolding digits numbers next below fit recordFit cellsFit recordsFit hasNone openQuestions uses countsTrue found recounted opened readBegun swapBegun ran stepped written writtenValues openingLine formLines fileText drawnBegin drawnAction drawnActions startOf shakeQuestions shaken
 shakes = (refl, (refl, (refl, (refl, (refl, (refl, (refl, (refl, (refl, (refl, tt))))))))))

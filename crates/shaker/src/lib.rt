@@ -78,6 +78,7 @@ fn blank() -> State
         last: 0,
         current: [0; 16],
         records: [r; 32],
+        counts: [0; 128],
     }
 }
 

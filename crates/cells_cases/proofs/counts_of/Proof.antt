@@ -1,0 +1,34 @@
+-- The loop ends at task 32.
+use Prim.Native.Nat.{_≤_, _-_}
+use borrow.Author.Needs.{needs}
+use Rattle.cells_cases.proofs.counts_of.Statement.{statement}
+use Rattle.cells_cases.proofs.counts_of.Tie as tie
+
+abbrev Inv-loop : tie.InvT-loop
+Inv-loop block count s counts₀ t₀ counts t = t ≤ 32
+
+abbrev μ-loop : tie.MeasureT-loop
+μ-loop block count s counts₀ t₀ counts t = 32 - t
+
+pub counts-of-spec : {M : Type 1} → statement M
+counts-of-spec =
+    tie.close
+    (tie.spec
+    Inv-loop
+    μ-loop
+    (λ c κs. search needs)
+    (λ c. search needs)
+    (λ c. search needs)
+    (λ c. search needs)
+    (λ c. search needs)
+    (λ c κs. search needs)
+    (λ c κs. search needs)
+    (λ c κs. search needs)
+    (λ c κs. search needs)
+    (λ c. search needs)
+    (λ c. search needs)
+    (λ c. search needs)
+    (λ c. search needs)
+    (λ c. search needs)
+    (λ c. search needs)
+    (λ c. search needs))
