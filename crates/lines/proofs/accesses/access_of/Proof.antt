@@ -1,5 +1,5 @@
 use borrow.Author.Needs.{needs}
-use Rattle.lines.proofs.Ranges.{no-line}
+use Rattle.lines.proofs.Ranges.{no-access}
 use Rattle.lines.proofs.accesses.access_of.Statement.{statement}
 use Rattle.lines.proofs.accesses.access_of.Tie as tie
 
@@ -17,8 +17,8 @@ access-of-spec =
     (λ c. c .access-read .ensures _)
     (λ c. c .access-swap .ensures)
     (λ c. c .access-install .ensures _)
-    (λ c. rw (no-line (c .before .before .args .r .line) _ (search needs)))
-    (λ c. rw (no-line (c .before .before .before .before .before .args .r .line) _ (search needs)))
-    (λ c. rw (no-line (c .before .before .args .r .line) _ (search needs)))
-    (λ c. rw (no-line (c .before .before .before .before .args .r .line) _ (search needs)))
-    (λ c. rw (no-line (c .before .before .before .before .before .args .r .line) _ (search needs))))
+    (λ c. no-access _ (c .before .before .args .r) (search needs))
+    (λ c. no-access _ (c .before .before .before .before .before .args .r) (search needs))
+    (λ c. no-access _ (c .before .before .args .r) (search needs))
+    (λ c. no-access _ (c .before .before .before .before .args .r) (search needs))
+    (λ c. no-access _ (c .before .before .before .before .before .args .r) (search needs)))
