@@ -84,14 +84,14 @@ module _ (n v blocks : ℕ) (tasks : n ≤ 32) (cells : v ≤ 16) where
       (refl, refl, omega (arith, e, length-replicate {A = ℕ} v 1, length-replicate {A = ℕ} (128 - v) 0))
 
 -- An opening that is not refused leaves true counts.
-pub open-counts : (p vs : List ℕ) (n v b : ℕ) → refusal (openQuestions (length p) n v b vs) ≡ none → countsTrue (openState n v b) ≡ true
+pub open-counts : (words values : List ℕ) (tasks cells blocks : ℕ) → refusal (openQuestions (length words) tasks cells blocks values) ≡ none → countsTrue (openState tasks cells blocks) ≡ true
 unfolding openQuestions
 open-counts p vs n v b e =
     let test = nth (answers (openQuestions (length p) n v b vs)) (all-yes (openQuestions (length p) n v b vs) e) in
     opening-counts n v b (within-true n 1 32 (test 0) .1) (within-true v 1 16 (test 1) .1)
 
 -- So it does whatever was in the state and in the pool before.
-pub opened-counts : (s : State) (p vs : List ℕ) (n v b : ℕ) → acts (opened s p n v b vs .outcome) ≡ true → countsTrue (opened s p n v b vs .state) ≡ true
+pub opened-counts : (old : State) (words values : List ℕ) (tasks cells blocks : ℕ) → acts (opened old words tasks cells blocks values .outcome) ≡ true → countsTrue (opened old words tasks cells blocks values .state) ≡ true
 unfolding opened
 opened-counts s p vs n v b = go (refusal (openQuestions (length p) n v b vs)) (open-counts p vs n v b)
   where
