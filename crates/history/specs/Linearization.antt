@@ -1,4 +1,4 @@
--- The sequential specification (document 01: plain cells) and linearizations (document 01: the telling).
+-- The sequential specification (document 01: plain cells) and linearizations.
 use mathlib.Core.Path.{_≡_}
 use mathlib.Core.Bool.{cond}
 use mathlib.Core.List.{List, [], _∷_, map}
