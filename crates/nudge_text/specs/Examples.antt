@@ -1,0 +1,49 @@
+-- Small sessions with what nudge prints: one table, computed.
+use mathlib.Core.Path.{_≡_, refl}
+use mathlib.Core.List.{List, [], _∷_}
+use Prim.Native.Nat.{ℕ}
+use Prim.Native.String.{String}
+use Rattle.history.specs.Basics.{upd}
+use Rattle.text.specs.Bytes.{bytes, digits}
+use Rattle.text.specs.Lines.{numbers}
+use Rattle.text.specs.Readers.{word, digitsAfter, number}
+use Rattle.questions.specs.Questions.{fit, recordFit, cellsFit, recordsFit, uses, countsTrue, hasNone, openQuestions}
+use Rattle.blocks.specs.Blocks.{found}
+use Rattle.cells.specs.Open.{opened}
+use Rattle.cells.specs.Counts.{recounted}
+use Rattle.cells.specs.Begin.{readBegun, swapBegun}
+use Rattle.cells.specs.Step.{ran, stepped}
+use Rattle.session_shape.specs.Shape.{fits, deeper, shapedAfter}
+use Rattle.session_file.specs.Session as reader
+use Rattle.nudge_text.specs.Nudge.{earliest, nudge, afterOpen, nudged}
+
+-- of task t's call with n finished before it, in the session s: r is printed
+abbrev Prints : List ((ℕ × ℕ) × (String × String)) → Type 0
+Prints [] = Unit {0}
+Prints (((t, n), (s, r)) ∷ l) = (nudged t n (bytes s) ≡ bytes r) × Prints l
+
+prints :
+    Prints (
+    -- answers otherwise: at action 10 the read loads V, at 11 the swap stores it
+    ((1, 0), ("(open 2 1 5 (5))\n(swap 0 0 5 9)\n(again 7 (step 0))\n(read 1 0)\n(again 2 (step 1))\n(step 0)\n(step 1)\n", "(nudge 10)\n")) ∷
+    -- none for the same task's next call
+    ((1, 1), ("(open 2 1 5 (5))\n(swap 0 0 5 9)\n(again 7 (step 0))\n(read 1 0)\n(again 2 (step 1))\n(step 0)\n(step 1)\n(read 1 0)\n(again 3 (step 1))\n", "(nudge none)\n")) ∷
+    -- does not finish: exchanged, actions 4 and 5 leave the other task in X, and the swap has more than its ten steps to do
+    ((1, 0), ("(open 2 1 5 (5))\n(swap 1 0 5 7)\n(step 1)\n(swap 0 0 5 9)\n(again 2 (step 0))\n(again 9 (step 1))\n", "(nudge 4)\n")) ∷
+    -- is not begun: no exchange with another task's action has a begin refused, but one before it may leave the same task's call before it
+    -- unfinished, and then it is refused with 9
+    ((1, 1), ("(open 2 1 5 (5))\n(swap 1 0 5 7)\n(step 1)\n(swap 0 0 5 9)\n(again 2 (step 0))\n(again 9 (step 1))\n(read 1 0)\n(again 3 (step 1))\n", "(nudge 4)\n")) ∷
+    -- none: the begin is followed to place 0; a refused action of a task that there is not is of another task; a task's own are not exchanged
+    ((1, 0), ("(open 2 1 5 (5))\n(step 7)\n(read 1 0)\n(again 3 (step 1))\n", "(nudge none)\n")) ∷
+    -- 18: one call too far; no such task; a call that is not finished
+    ((1, 1), ("(open 2 1 5 (5))\n(step 7)\n(read 1 0)\n(again 3 (step 1))\n", "(bad 18)\n")) ∷
+    ((7, 0), ("(open 2 1 5 (5))\n(step 7)\n(read 1 0)\n(again 3 (step 1))\n", "(bad 18)\n")) ∷
+    ((1, 0), ("(open 2 1 5 (5))\n(read 1 0)\n(again 2 (step 1))\n", "(bad 18)\n")) ∷
+    -- 19 before 18, the open's before 19, and 13 before the open's
+    ((1, 0), ("(open 2 1 5 (5))\n(again 2001 (step 0))\n", "(bad 19)\n")) ∷
+    ((1, 0), ("(open 2 1 4 (5))\n(again 2001 (step 0))\n", "(bad 3)\n")) ∷
+    ((1, 0), ("(open 2 1 4 (5))", "(bad 13)\n")) ∷
+    []
+    )
+unfolding digits word digitsAfter number fit recordFit cellsFit recordsFit hasNone openQuestions uses countsTrue found recounted opened readBegun swapBegun ran stepped fits deeper shapedAfter reader.numbers reader.manyWithin reader.values reader.opening reader.keyword reader.head reader.body reader.form reader.line reader.count reader.times reader.actions reader.asked14 reader.formed reader.verdict numbers upd earliest nudge afterOpen nudged reader.asked15
+prints = (refl, (refl, (refl, (refl, (refl, (refl, (refl, (refl, (refl, (refl, (refl, tt)))))))))))
