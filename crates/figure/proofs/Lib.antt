@@ -29,3 +29,4 @@ pub mod Ninth
 pub mod TracedCalls
 pub mod Attempts
 pub mod RunExamples
+pub mod Exchange
