@@ -2,10 +2,11 @@
 use mathlib.Core.Path.{_≡_}
 use mathlib.Core.Logic.{_≢_}
 use mathlib.Core.Option.{Option, none, some}
-use Prim.Native.Nat.{ℕ}
+use mathlib.Core.List.{List, [], _∷_}
+use Prim.Native.Nat.{ℕ, zero, suc}
 use Rattle.questions.specs.Questions.{refusal, stepQuestions}
 use Rattle.history.specs.History.{Action, begin, step, taskOf}
-use Rattle.figure.specs.Figure.{World}
+use Rattle.figure.specs.Figure.{World, figure}
 
 abbrev pub unlessNo : (refusal : Option ℕ) → (cell : ℕ) → Option ℕ
 unlessNo none k = some k
@@ -20,3 +21,10 @@ touches w (step t) = unlessNo (refusal (stepQuestions (w .tasks) (w .records t) 
 pub record Apart (w : World) (a b : Action) : Type 0 where
   pub tasks : taskOf a ≢ taskOf b
   pub cells : (k : ℕ) → touches w a ≡ some k → touches w b ≢ some k
+
+-- there are actions i and i + 1 of a list, and they are apart in the world before them
+abbrev pub ApartAt : World → (i : ℕ) → List Action → Type 0
+ApartAt w i [] = ⊥
+ApartAt w zero (a ∷ []) = ⊥
+ApartAt w zero (a ∷ b ∷ l) = Apart w a b
+ApartAt w (suc i) (a ∷ l) = ApartAt (figure w a .0) i l
