@@ -24,7 +24,7 @@ moved-second i m e = rw (ne-eqb m i (λ z. omega (arith, e, z)), eq-eqb m (suc i
 moved-other : (i m : ℕ) → m ≢ i → m ≢ suc i → movedTo i m ≡ m
 moved-other i m n o = rw (ne-eqb m i n, ne-eqb m (suc i) o)
 
-moved-early : (i m : ℕ) → m < i → movedTo i m ≡ m
+pub moved-early : (i m : ℕ) → m < i → movedTo i m ≡ m
 moved-early i m l = moved-other i m (λ e. omega (arith, l, e)) (λ e. omega (arith, l, e))
 
 moved-late : (i m : ℕ) → suc i < m → movedTo i m ≡ m
@@ -52,17 +52,17 @@ moved i (some k) = some (movedTo i k)
 
 -- WHAT AN ENTRY DOES: to the begin of its task's pending call, and to the answers by begin
 
-abbrev beginOf : Option Call → Option ℕ
+abbrev pub beginOf : Option Call → Option ℕ
 beginOf none = none
 beginOf (some c) = some (c .start .at)
 
-abbrev begins : Calls → ℕ → Option ℕ
+abbrev pub begins : Calls → ℕ → Option ℕ
 begins b t = beginOf (b .pending t)
 
-abbrev answers : Calls → ℕ → Option Response
+abbrev pub answers : Calls → ℕ → Option Response
 answers b m = answerIn m (b .finished)
 
-abbrev begunAt : ℕ → Option ℕ → Action → Event → Option ℕ
+abbrev pub begunAt : ℕ → Option ℕ → Action → Event → Option ℕ
 begunAt n p a (refused r) = p
 begunAt n p (begin t op) (accepted x) = some n
 begunAt n p (begin t op) (answered x r) = p
@@ -70,18 +70,18 @@ begunAt n p (step t) (accepted x) = p
 begunAt n p (step t) (answered x r) = none
 
 -- the call that the entry ends, by its begin, and its answer
-abbrev answering : Option ℕ → Response → Option (ℕ × Response)
+abbrev pub answering : Option ℕ → Response → Option (ℕ × Response)
 answering none a = none
 answering (some k) a = some (k, a)
 
-abbrev ended : Option ℕ → Action → Event → Option (ℕ × Response)
+abbrev pub ended : Option ℕ → Action → Event → Option (ℕ × Response)
 ended p a (refused r) = none
 ended p (begin t op) (accepted x) = none
 ended p (begin t op) (answered x r) = none
 ended p (step t) (accepted x) = none
 ended p (step t) (answered x r) = answering p (r .answer)
 
-abbrev adding : Option (ℕ × Response) → Option Response → ℕ → Option Response
+abbrev pub adding : Option (ℕ × Response) → Option Response → ℕ → Option Response
 adding none o m = o
 adding (some (k, a)) o m = cond (eqb k m) (some a) o
 
@@ -110,7 +110,7 @@ entered-begins b (begin t op) (answered x r) s = upd-none (begins b) t s
 entered-begins b (step t) (accepted x) s = upd-begin (b .pending) t (advanced b x (b .pending t)) s ∙ ap (λ p. upd (begins b) t p s) (advanced-begin b (b .pending t) x)
 entered-begins b (step t) (answered x r) s = upd-begin (b .pending) t none s
 
-entered-answers : (b : Calls) (a : Action) (e : Event) (m : ℕ) → answers (enter b a e) m ≡ adding (ended (begins b (taskOf a)) a e) (answers b m) m
+pub entered-answers : (b : Calls) (a : Action) (e : Event) (m : ℕ) → answers (enter b a e) m ≡ adding (ended (begins b (taskOf a)) a e) (answers b m) m
 entered-answers b a (refused r) m = refl
 entered-answers b (begin t op) (accepted x) m = refl
 entered-answers b (begin t op) (answered x r) m = refl
@@ -121,14 +121,14 @@ entered-answers b (step t) (answered x r) m = go (b .pending t)
     go none = refl
     go (some c) = refl
 
-entered-now : (b : Calls) (a : Action) (e : Event) → enter b a e .now ≡ suc (b .now)
+pub entered-now : (b : Calls) (a : Action) (e : Event) → enter b a e .now ≡ suc (b .now)
 entered-now b a (refused r) = refl
 entered-now b (begin t op) (accepted x) = refl
 entered-now b (begin t op) (answered x r) = refl
 entered-now b (step t) (accepted x) = refl
 entered-now b (step t) (answered x r) = refl
 
-own-begin : (b : Calls) (a : Action) (e : Event) → begins (enter b a e) (taskOf a) ≡ begunAt (b .now) (begins b (taskOf a)) a e
+pub own-begin : (b : Calls) (a : Action) (e : Event) → begins (enter b a e) (taskOf a) ≡ begunAt (b .now) (begins b (taskOf a)) a e
 own-begin b a e = entered-begins b a e (taskOf a) ∙ upd-same (begins b) (taskOf a) _
 
 other-begin : (b : Calls) (a : Action) (e : Event) (s : ℕ) → s ≢ taskOf a → begins (enter b a e) s ≡ begins b s
@@ -136,12 +136,12 @@ other-begin b a e s n = entered-begins b a e s ∙ upd-off (begins b) (taskOf a)
 
 -- EVERY CALL WAS BEGUN BEFORE NOW, each at a moment of its own
 
-record Early (b : Calls) : Type 0 where
-  past : (t k : ℕ) → begins b t ≡ some k → k < b .now
-  not-yet : (m : ℕ) → b .now ≤ m → answers b m ≡ none
-  single : (t u k : ℕ) → begins b t ≡ some k → begins b u ≡ some k → t ≡ u
+pub record Early (b : Calls) : Type 0 where
+  pub past : (t k : ℕ) → begins b t ≡ some k → k < b .now
+  pub not-yet : (m : ℕ) → b .now ≤ m → answers b m ≡ none
+  pub single : (t u k : ℕ) → begins b t ≡ some k → begins b u ≡ some k → t ≡ u
 
-early-start : Early noCalls
+pub early-start : Early noCalls
 early-start = record { past = λ t k e. absurd (clash refl e); not-yet = λ m l. refl; single = λ t u k e f. absurd (clash refl e) }
 
 -- a task's begin after an entry of it: it was there, or it is now
@@ -153,7 +153,7 @@ begun-cases n p (step t) (accepted x) k h = inl h
 begun-cases n p (step t) (answered x r) k h = absurd (clash refl h)
 
 -- the same of any task: it was there, or the entry is the task's and it is now
-begin-cases : (b : Calls) (a : Action) (e : Event) (s k : ℕ) → begins (enter b a e) s ≡ some k → (begins b s ≡ some k) ⊎ ((s ≡ taskOf a) × (b .now ≡ k))
+pub begin-cases : (b : Calls) (a : Action) (e : Event) (s k : ℕ) → begins (enter b a e) s ≡ some k → (begins b s ≡ some k) ⊎ ((s ≡ taskOf a) × (b .now ≡ k))
 begin-cases b a e s k h = go (either s (taskOf a))
   where
     own : s ≡ taskOf a → (begins b (taskOf a) ≡ some k) ⊎ (b .now ≡ k) → (begins b s ≡ some k) ⊎ ((s ≡ taskOf a) × (b .now ≡ k))
@@ -165,7 +165,7 @@ begin-cases b a e s k h = go (either s (taskOf a))
     go (inr n) = inl (sym (other-begin b a e s n) ∙ h)
 
 -- the call that an entry ends is its task's pending one
-ended-is : (p : Option ℕ) (a : Action) (e : Event) (k : ℕ) (r : Response) → ended p a e ≡ some (k, r) → p ≡ some k
+pub ended-is : (p : Option ℕ) (a : Action) (e : Event) (k : ℕ) (r : Response) → ended p a e ≡ some (k, r) → p ≡ some k
 ended-is p a (refused n) k r h = absurd (clash refl h)
 ended-is p (begin t op) (accepted x) k r h = absurd (clash refl h)
 ended-is p (begin t op) (answered x z) k r h = absurd (clash refl h)
@@ -173,7 +173,7 @@ ended-is p (step t) (accepted x) k r h = absurd (clash refl h)
 ended-is none (step t) (answered x z) k r h = absurd (clash refl h)
 ended-is (some j) (step t) (answered x z) k r h = ap some (ap (λ (y : ℕ × Response). y .0) (some-inj refl h))
 
-early-next : (b : Calls) (a : Action) (e : Event) → Early b → Early (enter b a e)
+pub early-next : (b : Calls) (a : Action) (e : Event) → Early b → Early (enter b a e)
 early-next b a e E = record {
   past = λ t k h. rw (entered-now b a e) (later t k (begin-cases b a e t k h));
   not-yet = λ m l. entered-answers b a e m ∙ (none-added m (rw (entered-now b a e) at l) (ended (begins b (taskOf a)) a e) refl ∙ E .not-yet m (omega (arith, rw (entered-now b a e) at l)));
