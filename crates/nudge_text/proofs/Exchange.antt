@@ -1,22 +1,19 @@
 -- An exchange of two neighbouring actions that are apart changes no answer: in the figure, hence in the pool.
-use mathlib.Core.Path.{_≡_, refl, sym, ap, _∙_}
-use mathlib.Core.Bool.{Bool, true, false, not, _&&_}
-use mathlib.Core.Option.{none, some}
+use mathlib.Core.Path.{_≡_, sym, ap, _∙_}
+use mathlib.Core.Option.{none}
 use mathlib.Core.List.{List, [], _∷_}
 use Prim.Native.Nat.{ℕ, zero, suc}
 use lib.ListN.{length}
-use borrow.Author.Tests.{eq-eqb}
 use Rattle.questions.specs.declared.State.{State}
 use Rattle.questions.specs.Questions.{refusal, openQuestions}
 use Rattle.cells.specs.Machine.{pool}
-use Rattle.history.specs.History.{Action, Event, Response, Value, Yes, No, history}
+use Rattle.history.specs.History.{Action, history}
 use Rattle.figure.specs.Figure.{World, figure, opening}
 use Rattle.figure.specs.Exchange.{ApartAt}
 use Rattle.figure.proofs.Exchange.{apart}
 use Rattle.refinement.specs.Terms.{start}
 use Rattle.refinement.proofs.Refines.{same-history}
 use Rattle.nudge_text.specs.Exchange.{exchanged, movedTo, answerAt}
-use Rattle.nudge_text.specs.Nudge.{ofTwoTasks, sameAnswer, answersStill, nudges}
 use Rattle.nudge_text.proofs.Ledger.{TwoTasks, same-answer}
 
 -- IN THE FIGURE
@@ -39,11 +36,6 @@ figure-answers i m l w p = ap (answerAt (movedTo i m)) (exchanged-history i l w 
 
 -- IN THE POOL, from an opening that is not refused
 
-same-itself : (a : Response) → sameAnswer a a ≡ true
-same-itself (Value v) = eq-eqb v v refl
-same-itself Yes = refl
-same-itself No = refl
-
 module _ (old : State) (words : List ℕ) (tasks cells blocks : ℕ) (values : List ℕ) (allowed : refusal (openQuestions (length words) tasks cells blocks values) ≡ none) (actions : List Action) where
   -- Two neighbours of different tasks that do not touch the same cell: exchanged, every call answers as before, or is unfinished as before.
   pub apart-answers : (i m : ℕ) → ApartAt (opening tasks cells values) i actions
@@ -51,12 +43,3 @@ module _ (old : State) (words : List ℕ) (tasks cells blocks : ℕ) (values : L
   apart-answers i m p =
       let same = same-history old words tasks cells blocks values allowed in
       ap (answerAt (movedTo i m)) (same (exchanged i actions)) ∙ (figure-answers i m actions (opening tasks cells values) p ∙ ap (answerAt m) (sym (same actions)))
-
-  -- So it nudges no finished call.
-  pub apart-no-nudge : (i m : ℕ) (answer : Response) → answerAt m (history pool (start old words tasks cells blocks values) actions) ≡ some answer → ApartAt (opening tasks cells values) i actions
-      → nudges (start old words tasks cells blocks values) actions m answer i ≡ false
-  apart-no-nudge i m a h p = ap (λ o. ofTwoTasks i actions && not (answersStill a o)) (apart-answers i m p ∙ h) ∙ (ap (λ c. ofTwoTasks i actions && not c) (same-itself a) ∙ never (ofTwoTasks i actions))
-    where
-      never : (c : Bool) → (c && false) ≡ false
-      never true = refl
-      never false = refl
