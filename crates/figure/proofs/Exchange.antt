@@ -12,7 +12,7 @@ use Rattle.cells.specs.Events.{eventOf, tried}
 use Rattle.history.specs.History.{Op, read, swap, Action, begin, step, taskOf, Event, untried}
 use Rattle.history.proofs.Basics.{either, upd-at, upd-same, upd-off, clash, some-inj}
 use Rattle.figure.specs.Figure.{Cell, World, worldAfter, withTask, unlessRefused, accessCell, recordAfter, outcomeOf, firstOf, figureRan, figureStepped, figureBegun, triedIn, figure}
-use Rattle.figure.specs.Exchange.{unlessNo, touches, Apart}
+use Rattle.figure.specs.Exchange.{ifAccepted, touches, Apart}
 
 -- WHAT AN ACTION LEAVES AS IT WAS: sizes, the records of other tasks, the cells that it does not touch
 record Leaves (w : World) (t : ℕ) (touch : Option ℕ) (w′ : World) : Type 0 where
@@ -28,7 +28,7 @@ begin-leaves : (w : World) (t : ℕ) (q : Record) (r : Option ℕ) → Leaves w 
 begin-leaves w t q none = record { tasks = refl; cells = refl; others = λ u n. upd-off (w .records) t q u n; untouched = λ k n. refl }
 begin-leaves w t q (some n) = all-left w t none
 
-step-leaves : (w : World) (t : ℕ) (r : Option ℕ) → Leaves w t (unlessNo r (w .records t .cell)) (unlessRefused r w (figureRan w t (w .records t)) .world)
+step-leaves : (w : World) (t : ℕ) (r : Option ℕ) → Leaves w t (ifAccepted r (w .records t .cell)) (unlessRefused r w (figureRan w t (w .records t)) .world)
 unfolding figureRan
 step-leaves w t none = record {
   tasks = refl;
@@ -82,8 +82,8 @@ module _ (t : ℕ) where
   abbrev cellFor : Record → Cell → Cell
   cellFor q m = accessCell m (accessOf t q) .cell
 
-step-does : (w w′ : World) (t : ℕ) → w′ .records t ≡ w .records t → (r : Option ℕ) → ((k : ℕ) → unlessNo r (w .records t .cell) ≡ some k → w′ .cell k ≡ w .cell k)
-    → Does t (unlessNo r (w .records t .cell)) (unlessNo r (w′ .records t .cell)) (went w t r) (went w′ t r)
+step-does : (w w′ : World) (t : ℕ) → w′ .records t ≡ w .records t → (r : Option ℕ) → ((k : ℕ) → ifAccepted r (w .records t .cell) ≡ some k → w′ .cell k ≡ w .cell k)
+    → Does t (ifAccepted r (w .records t .cell)) (ifAccepted r (w′ .records t .cell)) (went w t r) (went w′ t r)
 unfolding figureRan
 step-does w w′ t s none c = record {
   touch-same = ap (λ (q : Record). some (q .cell)) s;
@@ -126,7 +126,7 @@ does w w′ (begin t op) s = go op
 does w w′ (step t) s =
     let asked : ℕ → Record → Option ℕ = λ n q. refusal (stepQuestions n q t) in
     let r = asked (w .tasks) (w .records t) in
-    subst (λ r′. Does t (unlessNo r (w .records t .cell)) (unlessNo r′ (w′ .records t .cell)) (went w t r) (went w′ t r′)) (sym (λ i. asked (s .tasks i) (s .task i))) (step-does w w′ t (s .task) r (s .cell))
+    subst (λ r′. Does t (ifAccepted r (w .records t .cell)) (ifAccepted r′ (w′ .records t .cell)) (went w t r) (went w′ t r′)) (sym (λ i. asked (s .tasks i) (s .task i))) (step-does w w′ t (s .task) r (s .cell))
 
 -- TWO ACTIONS THAT ARE APART
 
