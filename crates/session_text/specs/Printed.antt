@@ -77,8 +77,11 @@ blank = record { tasks = 0; cells = 0; blocks = 0; last = 0; current = replicate
 abbrev pub poolWords : ℕ → ℕ
 poolWords b = 5 * cond (leb b 128) b 128
 
+abbrev pub openedBy : Opening → After
+openedBy o = opened blank (replicate (poolWords (o .blocks)) 0) (o .tasks) (o .cells) (o .blocks) (o .values)
+
 abbrev pub playedFrom : Opening → List Action → List ℕ
-playedFrom o l = afterOpen (o .tasks) (o .cells) l (opened blank (replicate (poolWords (o .blocks)) 0) (o .tasks) (o .cells) (o .blocks) (o .values))
+playedFrom o l = afterOpen (o .tasks) (o .cells) l (openedBy o)
 
 abbrev pub verdictText : Verdict → List ℕ
 verdictText (bad n) = badLine n
