@@ -15,7 +15,8 @@ use Rattle.cells.specs.Begin.{readBegun, swapBegun}
 use Rattle.cells.specs.Step.{ran, stepped}
 use Rattle.session_shape.specs.Shape.{fits, deeper, shapedAfter}
 use Rattle.session_file.specs.Session as reader
-use Rattle.nudge_text.specs.Nudge.{earliest, nudge, afterOpen, nudged}
+use Rattle.session_text.specs.Tools.{toolAfterOpen, toolPrinted}
+use Rattle.nudge_text.specs.Nudge.{earliest, nudge, nudged}
 
 -- of task t's call with n finished before it, in the session s: r is printed
 abbrev Prints : List ((ℕ × ℕ) × (String × String)) → Type 0
@@ -45,5 +46,5 @@ prints :
     ((1, 0), ("(open 2 1 4 (5))", "(bad 13)\n")) ∷
     []
     )
-unfolding digits word digitsAfter number fit recordFit cellsFit recordsFit hasNone openQuestions uses countsTrue found recounted opened readBegun swapBegun ran stepped fits deeper shapedAfter reader.numbers reader.manyWithin reader.values reader.opening reader.keyword reader.head reader.body reader.form reader.line reader.count reader.times reader.actions reader.asked14 reader.formed reader.verdict numbers upd earliest nudge afterOpen nudged reader.asked15
+unfolding digits word digitsAfter number fit recordFit cellsFit recordsFit hasNone openQuestions uses countsTrue found recounted opened readBegun swapBegun ran stepped fits deeper shapedAfter reader.numbers reader.manyWithin reader.values reader.opening reader.keyword reader.head reader.body reader.form reader.line reader.count reader.times reader.actions reader.asked14 reader.formed reader.verdict numbers upd earliest nudge toolAfterOpen toolPrinted reader.asked15
 prints = (refl, (refl, (refl, (refl, (refl, (refl, (refl, (refl, (refl, (refl, (refl, tt)))))))))))

@@ -5,13 +5,10 @@ use mathlib.Core.Option.{Option, none, some}
 use mathlib.Core.List.{List, [], _∷_, _++_}
 use Prim.Native.Nat.{ℕ, zero, suc, _+_}
 use lib.Dec.{eqb, leb}
-use lib.ListN.{length, replicate}
-use Rattle.cells.specs.Answers.{Refused, Acted, Ended}
-use Rattle.cells.specs.Open.{After, opened}
+use lib.ListN.{length}
 use Rattle.cells.specs.Machine.{Pool, pool}
 use Rattle.history.specs.History.{Action, taskOf, Response, Value, Yes, No, Event, FinishedCall, history, callsOf}
-use Rattle.session_file.specs.Session.{Opening, Verdict, bad, session, verdict}
-use Rattle.session_text.specs.Printed.{blank, poolWords}
+use Rattle.session_text.specs.Tools.{toolPrinted}
 use Rattle.text.specs.Bytes.{bytes}
 use Rattle.text.specs.Lines.{line, badLine}
 use Rattle.nudge_text.specs.Exchange.{exchanged, movedTo, answerAt}
@@ -85,17 +82,9 @@ abbrev pub asked19 : Bool → (task n : ℕ) → Pool → List Action → List �
 asked19 false t n x l = badLine 19
 asked19 true t n x l = asked18 x l (namedCall t n (history pool x l))
 
--- before them the questions of open
-unfoldable pub afterOpen : (task n : ℕ) → List Action → After → List ℕ
-afterOpen t n l r = elim (r .outcome) [ Refused q ↦ badLine q | Acted ↦ asked19 (leb (length l) 2000) t n (r .state, r .pool) l | Ended f ↦ [] ]
+-- before them what every tool asks: 12 to 15, and the questions of open
+abbrev pub nudgeText : (task n tasks : ℕ) → Pool → List Action → List ℕ
+nudgeText t n tasks x l = asked19 (leb (length l) 2000) t n x l
 
-abbrev pub nudgedFrom : (task n : ℕ) → Opening → List Action → List ℕ
-nudgedFrom t n o l = afterOpen t n l (opened blank (replicate (poolWords (o .blocks)) 0) (o .tasks) (o .cells) (o .blocks) (o .values))
-
--- and first 12 to 15
-abbrev pub verdictText : (task n : ℕ) → Verdict → List ℕ
-verdictText t n (bad q) = badLine q
-verdictText t n (session o l) = nudgedFrom t n o l
-
-unfoldable pub nudged : (task n : ℕ) → List ℕ → List ℕ
-nudged t n s = verdictText t n (verdict s)
+abbrev pub nudged : (task n : ℕ) → List ℕ → List ℕ
+nudged t n = toolPrinted (nudgeText t n)
