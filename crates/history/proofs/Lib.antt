@@ -19,3 +19,4 @@ pub mod Meets
 pub mod EndsWithin
 pub mod Examples
 pub mod BoundExamples
+pub mod OrderExamples
