@@ -1,7 +1,7 @@
 mod Lengths
 mod Loops
 mod Acting
-mod Playing
+pub mod Playing
 pub mod Turning
 pub mod Outcomes
 pub mod Counting

@@ -1,8 +1,8 @@
 // Runs a session file and prints its lines.
-mod actions;
+pub mod actions;
 mod play;
 mod printing;
-mod turns;
+pub mod turns;
 
 use cells::Outcome;
 use lines::records::idle;
@@ -39,7 +39,7 @@ pub fn text_space() -> [u8; ROOM]
     [0; ROOM]
 }
 
-fn blank() -> State
+pub fn blank() -> State
     ensures { λ s. ⌜ s ≡ «blankOf» ⌝ }
 {
     let r = idle();
@@ -83,7 +83,7 @@ fn start(
 }
 
 // Five words for each block, at most 128; more are refused whatever the pool has.
-fn pool_words(blocks: u32) -> usize
+pub fn pool_words(blocks: u32) -> usize
     ensures { λ r. ⌜ (r ≡ poolWords blocks) × (r ≤ 640) ⌝ }
 {
     if blocks <= 128 {
@@ -92,7 +92,7 @@ fn pool_words(blocks: u32) -> usize
     640
 }
 
-fn pool_space() -> [u32; 640]
+pub fn pool_space() -> [u32; 640]
     ensures { λ r. ⌜ r ≡ replicate 640 0 ⌝ }
 {
     [0; 640]
@@ -154,19 +154,19 @@ fn print(out: &mut [u8], found: Reading, values: &[u32], forms: &[u32], actions:
     }
 }
 
-fn value_space() -> [u32; 32768]
+pub fn value_space() -> [u32; 32768]
     ensures { λ r. ⌜ (r ≡ replicate 32768 0) × (length r ≡ 32768) ⌝ }
 {
     [0; 32768]
 }
 
-fn form_space() -> [u32; 40960]
+pub fn form_space() -> [u32; 40960]
     ensures { λ r. ⌜ (r ≡ replicate 40960 0) × (length r ≡ 40960) ⌝ }
 {
     [0; 40960]
 }
 
-fn action_space() -> [u32; 65535]
+pub fn action_space() -> [u32; 65535]
     ensures { λ r. ⌜ (r ≡ replicate 65535 0) × (length r ≡ 65535) ⌝ }
 {
     [0; 65535]

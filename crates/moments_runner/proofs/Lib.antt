@@ -1,0 +1,9 @@
+mod Sorting
+mod Printing
+mod Encoding
+mod Noting
+mod Ruling
+mod Doing
+mod Seeing
+mod Marking
+mod Starting

@@ -1,0 +1,3 @@
+pub mod Words
+pub mod Notes
+pub mod Loop

@@ -1,0 +1,146 @@
+// The actions in their order, the words of the calls that they end, and those of the pending swaps after the last.
+use crate::calls::close;
+use crate::calls::end_call;
+use crate::calls::noted_line;
+use crate::calls::spreads;
+use crate::notes::holders;
+use crate::notes::nobody;
+use crate::notes::note;
+use crate::notes::own_notes;
+use crate::notes::see;
+use crate::words::put_marks;
+use blocks::Found;
+use blocks::unused_block;
+use cells::counts::recount;
+use questions::State;
+use session_runner::actions::action_at;
+use session_runner::actions::task_of;
+use session_runner::turns::act;
+use session_runner::turns::slot;
+ghost use mathlib.Core.Path.{_≡_};
+ghost use mathlib.Core.List.{map};
+ghost use Prim.Native.Nat.{ℕ, _≤_};
+ghost use lib.ListN.{length, take, replicate};
+ghost use Rattle.lines.specs.Record.{idle};
+ghost use Rattle.refinement.specs.Reached.{Reached};
+ghost use Rattle.session_reader.specs.Reading.{actAt};
+ghost use Rattle.session_reader.specs.Kept.{Named};
+ghost use Rattle.text.specs.Append.{Appended};
+ghost use Rattle.moments_text.specs.Printed.{momentsText};
+ghost use Rattle.moments_runner.specs.Words.{Listed};
+ghost use Rattle.moments_runner.specs.Loop.{allMarks};
+
+// A word for each action, and one for each task.
+const MARKS: usize = 65567;
+
+fn mark_space() -> [u32; MARKS]
+    ensures { λ r. ⌜ 65567 ≡ length r ⌝ }
+{
+    [0; MARKS]
+}
+
+// The loop of session_runner's play, with notes beside it. What the opening left stays fit, so question 6 is not asked
+// again. What is left in the pool is open: it is the session's own.
+fn list_marks(
+    list: &mut [u32],
+    tasks: u32,
+    cells: u32,
+    first: State,
+    pool: &mut [u32],
+    forms: &[u32],
+    kept: &[u32],
+) -> usize
+    requires { ⌜ Reached tasks cells first (now pool) × (first .records ≡ replicate 32 idle) ⌝ }
+    requires { ⌜ length (now kept) ≤ 65535 ⌝ }
+    requires { ⌜ Named (length (now forms)) (now kept) ⌝ }
+    requires { ⌜ 65567 ≤ length (now list) ⌝ }
+    ensures { λ n. ⌜ n ≤ 65567 ⌝ }
+    ensures { λ n. ⌜ Listed (take n (now (list .exit))) (allMarks tasks (first, now (pool .entry)) (map (actAt (now (forms .entry))) (now (kept .entry)))) ⌝ }
+{
+    let mut i = 0;
+    let mut n = 0;
+    let mut s = first;
+    let mut loaded = [0; 32];
+    let mut stored = [0; 32];
+    let mut active = [0; 32];
+    let mut inactive = [0; 32];
+    let mut decided = [0; 32];
+    let mut replaced = [0; 32];
+    while i < kept.len() {
+        let a = action_at(forms, kept[i]);
+        let task = task_of(a);
+        let t = slot(task, s.tasks);
+        let r = s.records[t];
+        let k = slot(r.cell, s.cells);
+        // Only line 4 asks for a block.
+        let free = if r.line == 4 {
+            unused_block(&s.counts, s.blocks, s.last)
+        } else {
+            Found::Nowhere
+        };
+        let c = s.current[k];
+        let x = see(pool, r, c);
+        let y = act(pool, s.tasks, s.cells, a, r, c, s.last, free);
+        let q = y.record;
+        let outcome = y.outcome;
+        let o = own_notes(&loaded, &stored, &active, &inactive, &decided, &replaced, t);
+        n = end_call(list, n, outcome, r, x, o, i as u16, t as u32);
+        let line = noted_line(a, outcome, r.line);
+        let who = if spreads(line, x) {
+            holders(s, t)
+        } else {
+            nobody()
+        };
+        note(
+            &mut loaded,
+            &mut stored,
+            &mut active,
+            &mut inactive,
+            &mut decided,
+            &mut replaced,
+            line,
+            x,
+            &who,
+            t,
+            i as u16,
+        );
+        s.last = y.last;
+        s.current[k] = y.current;
+        s.records[t] = q;
+        recount(&mut s.counts, r, q, c, y.current);
+        i += 1;
+    }
+    close(
+        list,
+        n,
+        tasks as usize,
+        s,
+        pool,
+        &loaded,
+        &stored,
+        &active,
+        &inactive,
+        &decided,
+        &replaced,
+    )
+}
+
+pub fn play(
+    out: &mut [u8],
+    tasks: u32,
+    cells: u32,
+    first: State,
+    pool: &mut [u32],
+    forms: &[u32],
+    kept: &[u32],
+) -> usize
+    requires { ⌜ Reached tasks cells first (now pool) × (first .records ≡ replicate 32 idle) ⌝ }
+    requires { ⌜ length (now kept) ≤ 65535 ⌝ }
+    requires { ⌜ Named (length (now forms)) (now kept) ⌝ }
+    requires { ⌜ 2400000 ≤ length (now out) ⌝ }
+    ensures { λ r. ⌜ Appended (now (out .entry)) (now (out .exit)) 0 r (momentsText tasks (first, now (pool .entry)) (map (actAt (now (forms .entry))) (now (kept .entry)))) ⌝ }
+{
+    let mut list = mark_space();
+    let n = list_marks(&mut list, tasks, cells, first, pool, forms, kept);
+    put_marks(out, &list, n)
+}
