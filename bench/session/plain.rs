@@ -1,5 +1,6 @@
 // The session program in plain Rust, as one would write it by hand: the state in place behind &mut, every question asked
 // at every action, question 6 of the whole state included. It prints what target/bin/session prints.
+// Built with --cfg lean it leaves question 6 out at begins and steps, and looks alone ask it.
 use std::io::{self, Read, Write};
 
 const NONE: u32 = u32::MAX;
@@ -9,6 +10,7 @@ const MOST_BYTES: usize = 65_536;
 const MOST_DEPTH: u32 = 8;
 const MOST_ACTIONS: u64 = 65_535;
 const MOST_BLOCKS: u32 = 128;
+const LEAN: bool = cfg!(lean);
 
 #[derive(Clone, Copy)]
 enum Action {
@@ -414,7 +416,7 @@ impl Cells {
     }
 
     fn begin(&mut self, task: u32, kind: Kind, cell: u32, expected: u32, new: u32) -> Result<(), u32> {
-        ask(self.fits(), 6)?;
+        ask(LEAN || self.fits(), 6)?;
         ask(task < self.tasks, 7)?;
         ask(cell < self.cells, 8)?;
         let record = &mut self.records[task as usize];
@@ -465,7 +467,7 @@ impl Cells {
     }
 
     fn step(&mut self, task: u32) -> Result<Option<Finished>, u32> {
-        ask(self.fits(), 6)?;
+        ask(LEAN || self.fits(), 6)?;
         ask(task < self.tasks, 7)?;
         ask(self.records[task as usize].line != 0, 11)?;
         Ok(self.do_line(task).map(|answer| {
