@@ -39,6 +39,11 @@ pub fn put_number(out: &mut [u8], at: usize, n: u64) -> usize
     requires { ⌜ at + length (decimal n) ≤ length (now out) ⌝ }
     ensures { λ r. ⌜ Appended (now (out .entry)) (now (out .exit)) at r (decimal n) ⌝ }
 {
+    // Most numbers have one digit.
+    if n < 10 {
+        out[at] = 48 + (n % 10) as u8;
+        return at + 1;
+    }
     digits(out, at, 20, n)
 }
 
