@@ -4,7 +4,7 @@ use mathlib.Core.List.{List, [], _∷_}
 use Prim.Native.Nat.{ℕ, _+_, _≤_, _<_}
 use native.Mathlib.Omega.{arith}
 use lib.ListN.{length}
-use Rattle.text.specs.Bytes.{decimal}
+use Rattle.text.specs.Bytes.{bytes, decimal}
 use Rattle.text.proofs.Decimal.{decimal-short}
 use Rattle.text.specs.Lines.{numbers, line}
 use Rattle.text.proofs.Spaced.{decimal-32, decimal-64, numbers-length, none-length, line-length}
@@ -26,3 +26,7 @@ line-4 s a b c d h i j k =
 pub done-short : (at d e t k s w l : ℕ) → d ≤ at + 23 + (length (decimal t) + length (decimal k)) → e ≡ d + length (numbers (s ∷ w ∷ l ∷ [])) → (t < 100) × (k < 100) × (s < 100) × (w < 10) × (l < 10) → e + 2 ≤ at + 36
 done-short at d e t k s w l x y z =
     omega (arith, x, y, numbers-length s (w ∷ l ∷ []), numbers-length w (l ∷ []), numbers-length l [], none-length, decimal-short 1 t (z .0), decimal-short 1 k (z .1), decimal-short 1 s (z .2), decimal-short 0 w (z .3), decimal-short 0 l (z .4))
+
+-- the line of a refusal
+pub no-length : (i n : ℕ) → i < 100000 → n < 100 → length (line (bytes "(no") (i ∷ n ∷ [])) ≤ 14
+no-length i n h k = omega (arith, line-length (bytes "(no") (i ∷ n ∷ []), numbers-length i (n ∷ []), numbers-length n [], none-length, decimal-short 4 i h, decimal-short 1 n k)

@@ -117,16 +117,16 @@ pool-length {l} {w} e h = let d : length l ≡ 640 = ap length e ∙ length-repl
 pub taken : {n m : ℕ} (l : List ℕ) → n ≤ length l → length l ≤ m → length (take n l) ≤ m
 taken {n} {m} l h k = omega (arith, length-take-le n l h)
 
-no-room : (s : List ℕ) (n : ℕ) → n < 2400000 → [] ≡ printedWithin n s
+no-room : (s : List ℕ) (n : ℕ) → n < 921000 → [] ≡ printedWithin n s
 unfolding printedWithin
-no-room s n h = rw (lt-leb 2400000 n h)
+no-room s n h = rw (lt-leb 921000 n h)
 
-with-room : (s : List ℕ) (n : ℕ) → 2400000 ≤ n → verdictText (verdict s) ≡ printedWithin n s
+with-room : (s : List ℕ) (n : ℕ) → 921000 ≤ n → verdictText (verdict s) ≡ printedWithin n s
 unfolding printedWithin printed
-with-room s n h = rw (le-leb 2400000 n h)
+with-room s n h = rw (le-leb 921000 n h)
 
 -- the reader's answer, printed
-answer : (s : List ℕ) (n : ℕ) {a b c : ℕ} {v : Verdict} → v ≡ judged a b c s → a ≡ 32768 → b ≡ 40960 → c ≡ 65535 → 2400000 ≤ n → verdictText v ≡ printedWithin n s
+answer : (s : List ℕ) (n : ℕ) {a b c : ℕ} {v : Verdict} → v ≡ judged a b c s → a ≡ 32768 → b ≡ 40960 → c ≡ 65535 → 921000 ≤ n → verdictText v ≡ printedWithin n s
 answer s n {a} {b} {c} e p q r h = ap verdictText (e ∙ right-sizes a b c s p q r) ∙ with-room s n h
 
 -- the text of the file s, r bytes at the start of the buffer, and nothing else changed
@@ -137,8 +137,8 @@ module _ (s old new : List ℕ) (r : ℕ) where
   abbrev Entire : Type 0
   Entire = (new ≡ text ++ drop r old) × ((r ≡ length text) × Counts r new)
 
-  pub all-printed : {a b c : ℕ} {v : Verdict} → Appended old new 0 r (verdictText v) → v ≡ judged a b c s → a ≡ 32768 → b ≡ 40960 → c ≡ 65535 → 2400000 ≤ length old → Entire
+  pub all-printed : {a b c : ℕ} {v : Verdict} → Appended old new 0 r (verdictText v) → v ≡ judged a b c s → a ≡ 32768 → b ≡ 40960 → c ≡ 65535 → 921000 ≤ length old → Entire
   all-printed x e p q u h = entire text x (answer s (length old) e p q u h)
 
-pub none-printed : (s old : List ℕ) → length old < 2400000 → Entire s old old 0
+pub none-printed : (s old : List ℕ) → length old < 921000 → Entire s old old 0
 none-printed s old h = entire (text s old old 0) (nothing old 0) (no-room s (length old) h)

@@ -21,8 +21,8 @@ ghost use Rattle.session_reader.specs.Kept.{Named, Within};
 ghost use Rattle.session_runner.specs.Space.{zeros};
 ghost use Rattle.session_text.specs.Printed.{afterOpen, blank as «blankOf», poolWords, playedFrom, verdictText, printedWithin};
 
-// Enough for 65,535 lines of 36 bytes, one of each cell and the end.
-const ROOM: usize = 2400000;
+// Enough for 14 bytes an action, 65,535 times, what the calls then pending have put by, a line of each cell and the end.
+const ROOM: usize = 921000;
 
 // One byte more than a session may have, so that a longer one is noticed.
 pub fn file_space() -> [u8; 65537]
@@ -33,8 +33,8 @@ pub fn file_space() -> [u8; 65537]
 }
 
 pub fn text_space() -> [u8; ROOM]
-    ensures { λ r. ⌜ r ≡ zeros 2400000 ⌝ }
-    ensures { λ r. ⌜ 2400000 ≡ length r ⌝ }
+    ensures { λ r. ⌜ r ≡ zeros 921000 ⌝ }
+    ensures { λ r. ⌜ 921000 ≡ length r ⌝ }
 {
     [0; ROOM]
 }
@@ -67,7 +67,7 @@ fn start(
 ) -> usize
     requires { ⌜ length (now kept) ≤ 65535 ⌝ }
     requires { ⌜ Named (length (now forms)) (now kept) ⌝ }
-    requires { ⌜ 2400000 ≤ length (now out) ⌝ }
+    requires { ⌜ 921000 ≤ length (now out) ⌝ }
     ensures { λ r. ⌜ Appended (now (out .entry)) (now (out .exit)) 0 r (afterOpen tasks cells (map (actAt (now (forms .entry))) (now (kept .entry))) (opened «blankOf» (now (pool .entry)) tasks cells blocks (now (values .entry)))) ⌝ }
 {
     let first = cells::open(blank(), pool, tasks, cells, blocks, values);
@@ -110,7 +110,7 @@ fn run(
 ) -> usize
     requires { ⌜ length (now kept) ≤ 65535 ⌝ }
     requires { ⌜ Named (length (now forms)) (now kept) ⌝ }
-    requires { ⌜ 2400000 ≤ length (now out) ⌝ }
+    requires { ⌜ 921000 ≤ length (now out) ⌝ }
     ensures { λ r. ⌜ Appended (now (out .entry)) (now (out .exit)) 0 r (playedFrom (record { tasks = tasks; cells = cells; blocks = blocks; values = now (values .entry) }) (map (actAt (now (forms .entry))) (now (kept .entry)))) ⌝ }
 {
     let words = pool_words(blocks);
@@ -131,7 +131,7 @@ fn run(
 fn print(out: &mut [u8], found: Reading, values: &[u32], forms: &[u32], actions: &[u32]) -> usize
     requires { ⌜ Within found (now values) (now forms) (now actions) ⌝ }
     requires { ⌜ length (now actions) ≤ 65535 ⌝ }
-    requires { ⌜ 2400000 ≤ length (now out) ⌝ }
+    requires { ⌜ 921000 ≤ length (now out) ⌝ }
     ensures { λ r. ⌜ Appended (now (out .entry)) (now (out .exit)) 0 r (verdictText (verdictOf found (now (values .entry)) (now (forms .entry)) (now (actions .entry)))) ⌝ }
 {
     match found {

@@ -136,7 +136,7 @@ pub fn play(
     requires { ⌜ Reached tasks cells first (now pool) ⌝ }
     requires { ⌜ length (now kept) ≤ 65535 ⌝ }
     requires { ⌜ Named (length (now forms)) (now kept) ⌝ }
-    requires { ⌜ 2400000 ≤ length (now out) ⌝ }
+    requires { ⌜ 921000 ≤ length (now out) ⌝ }
     ensures { λ r. ⌜ Appended (now (out .entry)) (now (out .exit)) 0 r (played tasks cells (first, now (pool .entry)) (map (actAt (now (forms .entry))) (now (kept .entry)))) ⌝ }
 {
     let mut i = 0;

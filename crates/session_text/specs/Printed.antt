@@ -92,4 +92,4 @@ printed s = verdictText (verdict s)
 
 -- nothing is printed where there is no room for the longest text
 unfoldable pub printedWithin : (room : ℕ) → List ℕ → List ℕ
-printedWithin n s = cond (leb 2400000 n) (printed s) []
+printedWithin n s = cond (leb 921000 n) (printed s) []

@@ -8,7 +8,7 @@ use Rattle.session_runner.proofs.text_space.Tie as tie
 
 returns : tie.Need-returns
 unfolding zeros
-returns c = (refl, sym (length-replicate {A = ℕ} 2400000 0))
+returns c = (refl, sym (length-replicate {A = ℕ} 921000 0))
 
 pub text-space-spec : {M : Type 1} → statement M
 text-space-spec = tie.close (tie.spec returns)

@@ -2,13 +2,14 @@ use mathlib.Core.Path.{_≡_, sym, ap, subst, _∙_}
 use native.Mathlib.Omega.{arith}
 use borrow.Author.Needs.{needs}
 use mathlib.Core.List.{map}
-use Prim.Native.Nat.{_-_, _*_, _≤_, _<_}
+use Prim.Native.Nat.{_+_, _-_, _*_, _≤_, _<_}
 use lib.ListN.{length, drop}
 use mathlib.Core.Logic.{inl, inr, ⊎-elim}
 use Rattle.lines.specs.Record.{recordAt}
 use Rattle.blocks.specs.Blocks.{foundOf}
 use Rattle.cells.proofs.Stepping.{Free}
 use Rattle.refinement.specs.Reached.{Reached}
+use Rattle.refinement.proofs.Reaching.{reached-arrays}
 use Rattle.session_reader.specs.Reading.{actAt}
 use Rattle.session_text.specs.Printed.{played}
 use Rattle.session_runner.specs.Loop.{playedOn, Few}
@@ -20,13 +21,14 @@ use Rattle.cells.specs.Events.{eventOf}
 use Rattle.history.specs.History.{untried}
 use Rattle.session_text.specs.Lines.{Small}
 use Rattle.session_runner.proofs.Outcomes.{small}
+use Rattle.session_runner.proofs.Room.{weights, all-at-most, Paid, paid}
 use Rattle.session_runner.proofs.Counting.{few}
 use Rattle.session_runner.proofs.Turning.{task-below, cell-below, reached-small, reached-then, is-prepared, is-done, is-countable}
 use Rattle.session_runner.proofs.play.play.Statement.{statement}
 use Rattle.session_runner.proofs.play.play.Tie as tie
 
 abbrev Inv-loop : tie.InvT-loop
-Inv-loop out₀ tasks cells pool₀ forms kept i₀ at₀ s₀ z₀ out pool i at s z = Toward out₀ out 0 at (playedOn tasks cells i (totalsOf z) (s, pool) (drop i (map (actAt forms) kept))) (played tasks cells (s₀, pool₀) (map (actAt forms) kept)) × (i ≤ length kept) × (at ≤ 36 * i) × (z .finished ≤ i) × (z .hard ≤ i * 100) × (length pool ≡ length pool₀) × Reached tasks cells s pool
+Inv-loop out₀ tasks cells pool₀ forms kept i₀ at₀ s₀ z₀ out pool i at s z = Toward out₀ out 0 at (playedOn tasks cells i (totalsOf z) (s, pool) (drop i (map (actAt forms) kept))) (played tasks cells (s₀, pool₀) (map (actAt forms) kept)) × (i ≤ length kept) × (at + weights (s .records) ≤ 14 * i + 896) × (z .finished ≤ i) × (z .hard ≤ i * 100) × (length pool ≡ length pool₀) × Reached tasks cells s pool
 
 abbrev μ-loop : tie.MeasureT-loop
 μ-loop out₀ tasks cells pool₀ forms kept i₀ at₀ s₀ z₀ out pool i at s z = length kept - i
@@ -37,7 +39,7 @@ free c = ⊎-elim (λ w. inl (ap foundOf (w .4) ∙ w .3 .ensures)) (λ w. inr (
 
 loop-holds : tie.Need-loop-holds Inv-loop μ-loop
 unfolding played playedOn
-loop-holds c = (toward-start _ _ _, search needs, search needs, search needs, search needs, search needs, c .before .before .before .before .pre .0)
+loop-holds c = let r = c .before .before .before .before .pre .0 in (toward-start _ _ _, search needs, omega (arith, all-at-most (c .before .before .before .before .args .first .records), reached-arrays r .1), search needs, search needs, search needs, r)
 
 action-at-requires : tie.Need-action-at-requires Inv-loop μ-loop
 action-at-requires c κs = let l = c .before .before .loop in c .before .before .before .before .before .before .before .pre .1 .1 .0 l.i (omega arith)
@@ -102,7 +104,11 @@ loop-again c =
     let k = c .count .ensures in
     let h : l .i < length a.kept.now = c .before .before .before .before .before .before .before .before .before .before .before .before .before .before .before .before .before .before .before .before .before .loop-test .taken in
     let d = is-done (l .inv .6) x (c .before .before .before .before .before .before .before .before .before .before .before .before .before .before .before .before .before .slot .result) (c .before .before .before .before .before .before .before .before .before .before .before .before .before .before .before .slot2 .result) (c .before .before .before .before .before .before .before .before .before .before .before .before .before .before .before .before .before .before .task-of .result) (foundOf (c .before .before .before .before .before .before .before .before .before .before .before .before .before .if1 .free)) (c .before .before .before .before .before .before .before .before .before .before .before .before .before .before .before .before .before .before .task-of .ensures) (c .before .before .before .before .before .before .before .before .before .before .before .before .before .before .before .before .before .slot .ensures) (c .before .before .before .before .before .before .before .before .before .before .before .before .before .before .before .slot2 .ensures) (free (c .before .before .before .before .before .before .before .before .before .before .before .before .before)) (c .before .before .before .before .before .before .before .before .before .before .act .ensures) (c .before .before .before .before .before .recount .ensures) in
-    (toward-more (l .inv .0) (r .0) (search needs) (one-action a.tasks a.cells (actAt a.forms.now) a.kept.now l.i (totalsOf l.z) l.s l.pool h (c .before .before .before .before .before .before .before .before .before .before .before .before .before .before .before .before .before .before .before .action-at .ensures) d (c .before .before .before .before .before .before .before .before .before .before .before .before .before .before .before .before .before .before .task-of .ensures) (k .0)), omega (arith, h), omega (arith, l .inv .2, r .1 (subst (λ (y : After). Small (c .before .before .before .before .before .before .before .before .before .before .before .before .before .before .before .before .before .before .task-of .result) (eventOf untried (y .outcome))) (sym d) (rw (c .before .before .before .before .before .before .before .before .before .before .before .before .before .before .before .before .before .before .task-of .ensures) (small l.s l.pool x)))), omega (arith, l .inv .3, k .1 .0), omega (arith, l .inv .4, k .1 .1), search needs, reached-then (l .inv .6) x d)
+    let t = c .before .before .before .before .before .before .before .before .before .before .before .before .before .before .before .before .before .before .task-of .result in
+    let m : l .i < 100000 = omega (arith, h, c .before .before .before .before .before .before .before .before .before .before .before .before .before .before .before .before .before .before .before .before .before .before .before .before .before .before .before .pre .1 .0) in
+    let few = r .1 (subst (λ (y : After). Small t (eventOf untried (y .outcome))) (sym d) (rw (c .before .before .before .before .before .before .before .before .before .before .before .before .before .before .before .before .before .before .task-of .ensures) (small l.s l.pool x))) in
+    let paid-here = subst (λ (y : After). Paid l.i t m l.s y) (sym d) (paid l.i t m l.s l.pool x) (omega (arith, few, r .0 .stored .next)) in
+    (toward-more (l .inv .0) (r .0) (search needs) (one-action a.tasks a.cells (actAt a.forms.now) a.kept.now l.i (totalsOf l.z) l.s l.pool h (c .before .before .before .before .before .before .before .before .before .before .before .before .before .before .before .before .before .before .before .action-at .ensures) d (c .before .before .before .before .before .before .before .before .before .before .before .before .before .before .before .before .before .before .task-of .ensures) (k .0)), omega (arith, h), omega (arith, l .inv .2, r .0 .stored .next, paid-here), omega (arith, l .inv .3, k .1 .0), omega (arith, l .inv .4, k .1 .1), search needs, reached-then (l .inv .6) x d)
 
 finish-requires : tie.Need-finish-requires Inv-loop μ-loop
 finish-requires c κs = let l = c .before .before .before .loop in (reached-small (l .inv .6), omega (arith, l .inv .0 .same, l .inv .2, l .inv .1, c .before .before .before .before .before .before .before .before .pre .1 .0, c .before .before .before .before .before .before .before .before .pre .1 .1 .1))
