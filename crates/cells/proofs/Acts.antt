@@ -14,13 +14,14 @@ use Rattle.lines.specs.Answers.{Next, Go, Done}
 use Rattle.lines.specs.Basics.{ands}
 use Rattle.lines.specs.Record.{recordAt}
 use Rattle.lines.specs.Lines.{accessOf, nextOf}
-use Rattle.cells.specs.Pool.{word}
+use Rattle.pool.specs.Pool.{word}
 use Rattle.questions.specs.Questions.{Question, refusal, fit, openQuestions, beginQuestions, swapQuestions, stepQuestions, lookQuestions, answers}
 use Rattle.cells.specs.Open.{After, leaving, unless, Untouched, openState, openPool, opened}
 use Rattle.lines.specs.Record.{firstRead, firstSwap}
 use Rattle.cells.specs.Begin.{started, readBegun, swapBegun}
 use Rattle.blocks.specs.Blocks.{unused}
-use Rattle.cells.specs.Turn.{Touched, performed, ending}
+use Rattle.pool.specs.Memory.{Touched, performed}
+use Rattle.cells.specs.Turn.{ending}
 use Rattle.cells.specs.Step.{current, ran, stepped}
 use Rattle.cells.specs.Look.{shownValue, shown, looked}
 use Rattle.questions.proofs.Tests.{all-yes}

@@ -5,7 +5,7 @@ use Prim.Native.Nat.{ℕ, _+_, _≤_, _<_}
 use native.Mathlib.Numerals.{add-one}
 use lib.ListN.{getD, length, drop, drop-of-length-le}
 use lib.Seq.{drop-cons}
-use Rattle.cells.specs.Pool.{fill}
+use Rattle.pool.specs.Pool.{fill}
 use Rattle.cells.specs.Open.{filled}
 
 module _ (p vs : List ℕ) (i : ℕ) {q : List ℕ} (left : filled p (drop i vs) i ≡ q) where

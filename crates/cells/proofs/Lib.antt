@@ -1,7 +1,6 @@
 pub mod Arrays
 pub mod Words
 pub mod Examples
-pub mod Parts
 pub mod TurnLaw
 pub mod Replies
 pub mod Stepping

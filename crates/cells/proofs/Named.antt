@@ -16,8 +16,9 @@ use Rattle.lines.specs.Lines.{Line, for13, for25, for28, l1, l2, l3, l4, l5, l6
 use Rattle.questions.specs.Questions.{holdsBefore, takenBefore, holds, hasTaken, ofKind, lineFit, reads, swaps}
 use Rattle.questions.proofs.Numbers.{number}
 use Rattle.questions.proofs.Accesses.{Keeps, keeps}
-use Rattle.cells.specs.Pool.{word}
-use Rattle.cells.specs.Turn.{Touched, performed, ending, turn}
+use Rattle.pool.specs.Pool.{word}
+use Rattle.pool.specs.Memory.{Touched, performed}
+use Rattle.cells.specs.Turn.{ending, turn}
 
 -- whether an access answers with a block
 abbrev fetches : Access → Bool

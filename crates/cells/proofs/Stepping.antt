@@ -17,7 +17,8 @@ use Rattle.questions.specs.Questions.{Question, refusal, holds, hasTaken, lineF
 use Rattle.blocks.specs.Blocks.{unused}
 use Rattle.cells.specs.Counts.{Countable}
 use Rattle.cells.specs.Step.{current, putBack, ran, stepped}
-use Rattle.cells.specs.Turn.{turn, There, Ready}
+use Rattle.pool.specs.Memory.{There}
+use Rattle.cells.specs.Turn.{turn, Ready}
 use Rattle.questions.proofs.Tests.{all-yes, all-at, nth}
 use Rattle.questions.proofs.Fits.{sizes, busy-test}
 use Rattle.questions.proofs.Numbers.{number, at-number}
@@ -37,7 +38,7 @@ pub record Acting (s : State) (p : List ℕ) (t : ℕ) (r : Record) : Type 0 whe
   pub cell : r .cell < 16
   pub named : r .cell < s .cells
   pub line : lineFit r ≡ true
-  pub ready : Ready (length p) t r
+  pub ready : Ready (length p) r
   pub there : (f : Option ℕ) → Free s r f → There (length p) f
   pub countable : Arrays s → (f : Option ℕ) → Free s r f → let x = turn p t r (current s (r .cell)) (s .last) f in Countable (s .counts) r (x .record) (current s (r .cell)) (x .current)
   pub acts : (f : Option ℕ) → Free s r f → stepped s p t ≡ putBack s t r (turn p t r (current s (r .cell)) (s .last) f)
@@ -113,7 +114,7 @@ module _ (s : State) (p : List ℕ) (t : ℕ) where
           cell = omega (arith, cell-below);
           named = cell-below;
           line = test 1;
-          ready = ready own (s .cells) (s .blocks) (length p) t fits busy (z .words);
+          ready = ready own (s .cells) (s .blocks) (length p) fits busy (z .words);
           there = there;
           countable = countable;
           acts = acts;

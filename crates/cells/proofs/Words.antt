@@ -12,7 +12,7 @@ use borrow.Author.Tests.{eq-eqb, ne-eqb}
 use Rattle.lines.specs.declared.Field.{Field}
 use Rattle.lines.specs.declared.Field.the-variants.{X, Y, C, D}
 use Rattle.lines.specs.Record.{noValue}
-use Rattle.cells.specs.Pool.{offset, word, setWord, fresh, fill}
+use Rattle.pool.specs.Pool.{offset, word, setWord, fresh, fill}
 use Rattle.cells.specs.Open.{filled}
 
 pub fields : (Q : Field → Type 0) → Q X → Q Y → Q C → Q Field.V → Q D → (f : Field) → Q f

@@ -9,7 +9,7 @@ use Rattle.cells.specs.Answers.{Seen, NotShown, Shown}
 use Rattle.lines.specs.declared.Field.{Field}
 use Rattle.lines.specs.declared.Field.the-variants.{C, D}
 use Rattle.lines.specs.Record.{noValue}
-use Rattle.cells.specs.Pool.{word}
+use Rattle.pool.specs.Pool.{word}
 use Rattle.questions.specs.Questions.{refusal, fit, lookQuestions}
 use Rattle.cells.specs.Step.{current}
 

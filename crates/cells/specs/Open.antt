@@ -7,7 +7,7 @@ use lib.ListN.{length, replicate}
 use Rattle.questions.specs.declared.State.{State}
 use Rattle.cells.specs.Answers.{Said, Refused, Acted}
 use Rattle.lines.specs.Record.{idle}
-use Rattle.cells.specs.Pool.{fill}
+use Rattle.pool.specs.Pool.{fill}
 use Rattle.questions.specs.Questions.{refusal, openQuestions}
 
 -- what an entry leaves and answers

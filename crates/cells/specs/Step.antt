@@ -11,7 +11,8 @@ use Rattle.blocks.specs.Blocks.{unused}
 use Rattle.cells.specs.Open.{After, leaving, unless}
 use Rattle.cells.specs.Begin.{withRecord}
 use Rattle.cells.specs.Counts.{recounted}
-use Rattle.cells.specs.Turn.{performed, Turned, turn}
+use Rattle.pool.specs.Memory.{performed}
+use Rattle.cells.specs.Turn.{Turned, turn}
 use Rattle.cells.specs.Events.{tried}
 use Rattle.history.specs.History.{Attempt}
 

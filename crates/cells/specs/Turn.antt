@@ -1,48 +1,14 @@
--- What an access does to memory, and a busy task's next line, given numbers only: the block that its cell names, the block taken last, and
--- what the search for an unused block answers. No line names another cell than the task's own (questions/proofs/Accesses.antt).
-use mathlib.Core.Bool.{cond}
-use mathlib.Core.Option.{Option, none, some}
+-- A busy task's next line, given numbers only: the block that its cell names, the block taken last, and what the search for an unused block
+-- answers.
+use mathlib.Core.Option.{Option}
 use mathlib.Core.List.{List}
-use Prim.Native.Nat.{ℕ, _+_, _*_, _≤_, _<_}
-use lib.Dec.{eqb}
+use Prim.Native.Nat.{ℕ, _+_, _≤_}
 use Rattle.lines.specs.declared.Record.{Record}
 use Rattle.cells.specs.Answers.{Said, Acted, Ended}
-use Rattle.lines.specs.declared.Field.the-variants.{X, D}
-use Rattle.lines.specs.declared.Access.{Access}
-use Rattle.lines.specs.declared.Access.the-variants.{LoadCell, Load, Store, DecideCas, InstallCas, Allocate, Nothing}
 use Rattle.lines.specs.Answers.{Next, Go, Done}
-use Rattle.lines.specs.Record.{noValue, idle}
+use Rattle.lines.specs.Record.{idle}
 use Rattle.lines.specs.Lines.{accessOf, nextOf}
-use Rattle.cells.specs.Pool.{word, setWord, noTask}
-
--- MEMORY
-
--- what an access leaves, and the value that it answers
-pub record Touched : Type 0 where
-  pub pool : List ℕ
-  pub current : ℕ
-  pub last : ℕ
-  pub value : ℕ
-
-abbrev pub touched : List ℕ → (current last value : ℕ) → Touched
-touched p c l v = record { pool = p; current = c; last = l; value = v }
-
--- line 4 takes the unused block and stores its X; where every block is in use nothing is stored, and no block is handed back: no fit state
--- with a task at line 4 has this
-abbrev pub taking : Option ℕ → List ℕ → (current last : ℕ) → Touched
-taking none p c l = touched p c l noValue
-taking (some b) p c l = touched (setWord p b X noTask) c b b
-
-abbrev pub performed : List ℕ → (current last : ℕ) → Option ℕ → Access → Touched
-performed p c l f (LoadCell k) = touched p c l c
-performed p c l f (Load b g) = touched p c l (word p b g)
-performed p c l f (Store b g v) = touched (setWord p b g v) c l 0
-performed p c l f (DecideCas b v) = cond (eqb (word p b D) noValue) (touched (setWord p b D v) c l 1) (touched p c l 0)
-performed p c l f (InstallCas k b n) = cond (eqb c b) (touched p n l 1) (touched p c l 0)
-performed p c l f Allocate = taking f p c l
-performed p c l f Nothing = touched p c l 0
-
--- THE TURN
+use Rattle.pool.specs.Memory.{Touched, performed, Reaches}
 
 pub record Turned : Type 0 where
   pub «record» : Record
@@ -61,25 +27,8 @@ ending m (Done f) = turned idle (m .current) (m .last) (m .pool) (Ended f)
 abbrev pub turn : (pool : List ℕ) (task : ℕ) (r : Record) (current last : ℕ) (free : Option ℕ) → Turned
 turn p t r c l f = let m = performed p c l f (accessOf t r) in ending m (nextOf t r (m .value))
 
--- WHAT MEMORY NEEDS (this part only helps the proofs)
-
--- the block that an access names is among the words
-abbrev pub Reaches : (words : ℕ) → Access → Type 0
-Reaches n (LoadCell k) = Prim.Unit
-Reaches n (Load b f) = 5 * b + 4 < n
-Reaches n (Store b f v) = 5 * b + 4 < n
-Reaches n (DecideCas b v) = 5 * b + 4 < n
-Reaches n (InstallCas k b m) = Prim.Unit
-Reaches n Allocate = Prim.Unit
-Reaches n Nothing = Prim.Unit
-
--- so is the unused block
-abbrev pub There : (words : ℕ) → Option ℕ → Type 0
-There n none = Prim.Unit
-There n (some b) = 5 * b + 4 < n
-
--- what a turn needs of its record
-pub record Ready (words task : ℕ) (r : Record) : Type 0 where
-  pub reaches : Reaches words (accessOf task r)
+-- WHAT IT NEEDS of its record (this part only helps the proofs)
+pub record Ready (words : ℕ) (r : Record) : Type 0 where
+  pub reaches : (t : ℕ) → Reaches words (accessOf t r)
   pub steps : r .steps ≤ 20
   pub hard : r .won + r .lost ≤ 3

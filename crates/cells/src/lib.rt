@@ -3,7 +3,7 @@
 ghost use mathlib.Core.Path.{_≡_};
 ghost use Prim.Native.Nat.{_+_, _*_, _<_};
 ghost use lib.ListN.{length};
-ghost use Rattle.cells.specs.Pool.{word};
+ghost use Rattle.pool.specs.Pool.{word};
 ghost use Rattle.cells.specs.Answers.{said, seen};
 ghost use Rattle.cells.specs.Open.{opened, leaving};
 ghost use Rattle.cells.specs.Begin.{begun, readBegun, swapBegun};
@@ -13,7 +13,6 @@ ghost use Rattle.cells.specs.Look.{looked, shownValue};
 
 pub mod counts;
 mod opening;
-mod pool;
 pub mod turn;
 
 use blocks::Found;
@@ -22,6 +21,7 @@ use lines::Finished;
 use lines::Record;
 use lines::records;
 use lines::records::NO_VALUE;
+use pool::memory::load;
 use questions::State;
 
 // What an entry answers: the number of the first question answered no; that it acted; that it acted and
@@ -196,11 +196,11 @@ fn shown_value(pool: &[u32], block: u32) -> u32
     requires { ⌜ 5 * block + 4 < length (now pool) ⌝ }
     ensures { λ v. ⌜ v ≡ shownValue (word (now (pool .entry)) block Field.C) (word (now (pool .entry)) block Field.V) (word (now (pool .entry)) block Field.D) ⌝ }
 {
-    let v = pool::load(pool, block, Field::V);
-    if pool::load(pool, block, Field::C) == 0 {
+    let v = load(pool, block, Field::V);
+    if load(pool, block, Field::C) == 0 {
         return v;
     }
-    let d = pool::load(pool, block, Field::D);
+    let d = load(pool, block, Field::D);
     if d == NO_VALUE { v } else { d }
 }
 

@@ -4,8 +4,8 @@ ghost use mathlib.Core.List.{_++_};
 ghost use Prim.Native.Nat.{_*_, _-_, _≤_};
 ghost use lib.ListN.{length, replicate};
 ghost use Rattle.cells.specs.Open.{filled, openState};
-use crate::pool::fill;
 use lines::records::idle;
+use pool::memory::fill;
 use questions::State;
 
 // Each of the first V blocks is used once.

@@ -1,29 +1,28 @@
-// A busy task's next line, given numbers only, so that nothing copies the state.
+// A busy task's next line, given numbers only. Done in its record's place, it copies neither state nor record.
 ghost use mathlib.Core.Path.{_≡_};
-ghost use Prim.Native.Nat.{_+_, _≤_};
-ghost use lib.ListN.{length};
-ghost use Rattle.lines.specs.Answers.{attemptOf};
-ghost use Rattle.lines.specs.Lines.{counted};
-ghost use Rattle.lines.specs.Record.{idle};
+ghost use mathlib.Core.List.{List};
+ghost use Prim.Native.Nat.{ℕ, _≤_};
+ghost use lib.ListN.{length, getD};
 ghost use Rattle.blocks.specs.Blocks.{foundOf};
+ghost use Rattle.pool.specs.Memory.{touched, There};
+ghost use Rattle.pool.specs.Words.{recordOf};
+ghost use Rattle.pool.specs.LineRun.{followed, Within};
 ghost use Rattle.cells.specs.Answers.{said};
-ghost use Rattle.cells.specs.Turn.{touched, taking, performed, turned, turn, Reaches, There, Ready};
+ghost use Rattle.cells.specs.Turn.{turned, ending, turn, Ready};
 use crate::Outcome;
-use crate::pool::NO_TASK;
-use crate::pool::decide_cas;
-use crate::pool::load;
-use crate::pool::store;
 use blocks::Found;
-use lines::Access;
-use lines::Attempt;
-use lines::Field;
-use lines::Next;
+use lines::Finished;
 use lines::Record;
-use lines::accesses::access_of;
-use lines::following::attempt;
-use lines::following::next_of;
-use lines::records::NO_VALUE;
 use lines::records::idle;
+use pool::Next;
+use pool::run::run;
+use pool::words::CELL;
+use pool::words::KIND;
+use pool::words::LINE;
+use pool::words::STEPS;
+use pool::words::put;
+use pool::words::record_of;
+use pool::words::words_of;
 
 // What a turn leaves besides the pool; `current` is the block that the task's cell then names.
 pub struct Turn {
@@ -33,14 +32,14 @@ pub struct Turn {
     pub outcome: Outcome,
 }
 
-// What an access leaves besides the pool, and the value that it answers.
-struct Touch {
-    current: u32,
-    last: u32,
-    value: u32,
+// What a turn in its record's place leaves besides pool and record.
+pub struct Move {
+    pub current: u32,
+    pub last: u32,
+    pub outcome: Outcome,
 }
 
-// No entry, but a step for callers that have proved what it needs: the entry `step`, and the session runner.
+// No entries, but a step for callers that have proved what it needs: the entry `step`, and in the record's place the session runner.
 pub fn take_turn(
     pool: &mut [u32],
     task: u32,
@@ -49,86 +48,65 @@ pub fn take_turn(
     last: u32,
     free: Found,
 ) -> Turn
-    requires { ⌜ Ready (length (now pool)) task r × There (length (now pool)) (foundOf free) ⌝ }
+    requires { ⌜ Ready (length (now pool)) r × There (length (now pool)) (foundOf free) ⌝ }
     ensures { λ n. ⌜ turned (n .record) (n .current) (n .last) (now (pool .exit)) (said (n .outcome)) ≡ turn (now (pool .entry)) task r current last (foundOf free) ⌝ }
 {
-    let a = access_of(task, r);
-    let m = perform(pool, a, current, last, free);
-    let x = attempt(a, m.value);
-    let next = next_of(task, counted(r, x), m.value);
-    match next {
-        Next::Go(q) => Turn {
-            record: q,
-            current: m.current,
-            last: m.last,
-            outcome: Outcome::Acted,
-        },
-        Next::Done(f) => Turn {
-            record: idle(),
-            current: m.current,
-            last: m.last,
-            outcome: Outcome::Ended(f),
-        },
+    let mut w = words_of(r);
+    let n = make_move(pool, &mut w, task, current, last, free);
+    let record = record_of(&w);
+    let outcome = n.outcome;
+    Turn {
+        record,
+        current: n.current,
+        last: n.last,
+        outcome,
     }
 }
 
-fn counted(r: Record, x: Attempt) -> Record
-    requires { ⌜ (r .steps ≤ 20) × (r .won + r .lost ≤ 3) ⌝ }
-    ensures { λ n. ⌜ n ≡ counted r (attemptOf x) ⌝ }
+pub fn make_move(
+    pool: &mut [u32],
+    rec: &mut [u32],
+    task: u32,
+    current: u32,
+    last: u32,
+    free: Found,
+) -> Move
+    requires { ⌜ (length (now rec) ≡ 12) × Ready (length (now pool)) (recordOf (now rec)) × There (length (now pool)) (foundOf free) ⌝ }
+    ensures { λ n. ⌜ turned (recordOf (now (rec .exit))) (n .current) (n .last) (now (pool .exit)) (said (n .outcome)) ≡ turn (now (pool .entry)) task (recordOf (now (rec .entry))) current last (foundOf free) ⌝ }
 {
-    let mut n = r;
-    n.steps = r.steps + 1;
-    match x {
-        Attempt::Won => n.won = r.won + 1,
-        Attempt::Lost => n.lost = r.lost + 1,
-        Attempt::Untried => {}
+    let n = run(pool, rec, task, current, last, free);
+    let next = n.next;
+    let outcome = follow(rec, next);
+    Move {
+        current: n.current,
+        last: n.last,
+        outcome,
     }
-    n
 }
 
-fn perform(pool: &mut [u32], a: Access, current: u32, last: u32, free: Found) -> Touch
-    requires { ⌜ Reaches (length (now pool)) a × There (length (now pool)) (foundOf free) ⌝ }
-    ensures { λ m. ⌜ touched (now (pool .exit)) (m .current) (m .last) (m .value) ≡ performed (now (pool .entry)) current last (foundOf free) a ⌝ }
+// Each line is one step more.
+fn follow(rec: &mut [u32], n: Next) -> Outcome
+    requires { ⌜ (length (now rec) ≡ 12) × Within n × (getD (now rec) 9 0 ≤ 20) ⌝ }
+    ensures { λ o. ⌜ ((p : List ℕ) (c l : ℕ) → turned (recordOf (now (rec .exit))) c l p (said o) ≡ ending (touched p c l 0) (followed (now (rec .entry)) n)) ⌝ }
 {
-    match a {
-        Access::LoadCell(_) => leave(current, last, current),
-        Access::Load(b, f) => leave(current, last, load(pool, b, f)),
-        Access::Store(b, f, v) => {
-            store(pool, b, f, v);
-            leave(current, last, 0)
+    match n {
+        Next::Go(line, word, value) => {
+            rec[STEPS] = rec[STEPS] + 1;
+            rec[LINE] = line;
+            rec[word] = value;
+            Outcome::Acted
         }
-        Access::DecideCas(b, v) => leave(current, last, decide_cas(pool, b, v)),
-        Access::InstallCas(_, from, to) => {
-            if current == from {
-                leave(to, last, 1)
-            } else {
-                leave(current, last, 0)
-            }
+        Next::Done(a, won, lost) => {
+            let f = Finished {
+                kind: rec[KIND],
+                cell: rec[CELL],
+                answer: a,
+                steps: rec[STEPS] + 1,
+                won,
+                lost,
+            };
+            put(rec, idle());
+            Outcome::Ended(f)
         }
-        Access::Allocate => allocate(pool, free, current, last),
-        Access::Nothing => leave(current, last, 0),
-    }
-}
-
-fn leave(current: u32, last: u32, value: u32) -> Touch
-    ensures { λ m. ⌜ m ≡ record { current = current; last = last; value = value } ⌝ }
-{
-    Touch {
-        current,
-        last,
-        value,
-    }
-}
-
-fn allocate(pool: &mut [u32], free: Found, current: u32, last: u32) -> Touch
-    requires { ⌜ There (length (now pool)) (foundOf free) ⌝ }
-    ensures { λ m. ⌜ touched (now (pool .exit)) (m .current) (m .last) (m .value) ≡ taking (foundOf free) (now (pool .entry)) current last ⌝ }
-{
-    match free {
-        Found::At(b) => {
-            store(pool, b, Field::X, NO_TASK);
-            leave(current, b, b)
-        }
-        Found::Nowhere => leave(current, last, NO_VALUE),
     }
 }

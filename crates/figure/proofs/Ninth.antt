@@ -16,7 +16,7 @@ use Rattle.lines.specs.declared.Access.{Access}
 use Rattle.lines.specs.declared.Access.the-variants.{LoadCell, Load, Store, DecideCas, InstallCas, Allocate, Nothing}
 use Rattle.lines.specs.Answers.{Result, Next, Go, Done}
 use Rattle.lines.specs.Record.{noValue, idle}
-use Rattle.cells.specs.Pool.{offset}
+use Rattle.pool.specs.Pool.{offset}
 use Rattle.lines.specs.Lines.{Line, for25, for28, l1, l2, l3, l4, l5, l6, l7, l8, l30, lineOf, accessAt, accessOf, attempt, counted, nextAt, nextOf}
 use Rattle.history.specs.Basics.{upd, _∈_}
 use Rattle.history.specs.History.{Op, read, swap, Action, begin, step, untried, Response, run}

@@ -15,7 +15,7 @@ use Rattle.lines.specs.declared.Access.the-variants.{LoadCell, Load, Store, Dec
 use Rattle.lines.specs.Answers.{Next, Go, Done}
 use Rattle.lines.specs.Record.{noValue, idle}
 use Rattle.lines.specs.Lines.{accessOf, nextOf}
-use Rattle.cells.specs.Pool.{noTask, fresh}
+use Rattle.pool.specs.Pool.{noTask, fresh}
 use Rattle.questions.specs.Questions.{refusal, beginQuestions, swapQuestions, stepQuestions, lookQuestions}
 use Rattle.lines.specs.Record.{firstRead, firstSwap}
 use Rattle.cells.specs.Look.{shownValue, shown}

@@ -7,10 +7,8 @@ use native.Mathlib.Decide.{decLe}
 use lib.Dec.{eqb, leb}
 use borrow.Author.Tests.{le-leb, lt-leb}
 use Rattle.lines.specs.declared.Record.{Record}
-use Rattle.lines.specs.declared.Access.the-variants.{Nothing}
-use Rattle.lines.specs.Answers.{Go}
 use Rattle.lines.specs.Basics.{within}
-use Rattle.lines.specs.Lines.{Line, Wanted, for13, for25, for28, l1, l2, l3, nowhere, deciding, lineAt, lineOf, accessOf, nextAt}
+use Rattle.lines.specs.Lines.{Line, Wanted, for13, for25, for28, l1, l2, l3, nowhere, deciding, lineAt, lineOf}
 
 out : (n a b : ℕ) → (a ≤ n → n ≤ b → ⊥) → within n a b ≡ false
 out n a b h = go (decLe a n)
@@ -23,16 +21,8 @@ out n a b h = go (decLe a n)
 abbrev pub Outside : ℕ → Type 0
 Outside n = (1 ≤ n → n ≤ 3 → ⊥) × (4 ≤ n → n ≤ 8 → ⊥) × (10 ≤ n → n ≤ 12 → ⊥) × (15 ≤ n → n ≤ 24 → ⊥) × (26 ≤ n → n ≤ 30 → ⊥)
 
-no-line : (n w : ℕ) → Outside n → lineAt n w ≡ nowhere
+pub no-line : (n w : ℕ) → Outside n → lineAt n w ≡ nowhere
 no-line n w h = rw (out n 1 3 (h .0), out n 4 8 (h .1), out n 10 12 (h .2), out n 15 24 (h .3), out n 26 30 (h .4))
-
--- a record there goes on as it is
-pub no-next : (t : ℕ) (r : Record) (v : ℕ) → Outside (r .line) → Go r ≡ nextAt (lineOf r) t r v
-no-next t r v h = rw (no-line (r .line) (r .wanted) h)
-
--- and accesses nothing
-pub no-access : (t : ℕ) (r : Record) → Outside (r .line) → Nothing ≡ accessOf t r
-no-access t r h = rw (no-line (r .line) (r .wanted) h)
 
 -- rewrites the line and leaves the record
 pub line-at : (r : Record) (n : ℕ) → r .line ≡ n → lineOf r ≡ lineAt n (r .wanted)

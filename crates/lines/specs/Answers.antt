@@ -3,24 +3,14 @@ use Prim.Native.Nat.{ℕ}
 use Rattle.lines.specs.declared.Record.{Record}
 use Rattle.lines.specs.declared.Answer.{Answer}
 use Rattle.lines.specs.declared.Answer.the-variants as code
-use Rattle.lines.specs.declared.Attempt as Tried
-use Rattle.lines.specs.declared.Attempt.the-variants as tried
 use Rattle.lines.specs.declared.Finished.{Finished}
-use Rattle.lines.specs.declared.Next as Code
-use Rattle.lines.specs.declared.Next.the-variants as next
-use Rattle.history.specs.History.{Response, Value, Yes, No, Attempt, success, failure, untried}
+use Rattle.history.specs.History.{Response, Value, Yes, No}
 
 -- a read's value, or whether a swap won
 abbrev pub answerOf : Answer → Response
 answerOf (code.Value v) = Value v
 answerOf code.Yes = Yes
 answerOf code.No = No
-
--- what became of a step's hardware CAS: won, lost, or none attempted
-abbrev pub attemptOf : Tried.Attempt → Attempt
-attemptOf tried.Won = success
-attemptOf tried.Lost = failure
-attemptOf tried.Untried = untried
 
 -- a finished call: its kind (1 is a read, 2 a swap) and cell, what it answers, its steps, its hardware CAS attempts won and lost
 pub record Result : Type 0 where
@@ -38,7 +28,3 @@ result f = record { kind = f .kind; cell = f .cell; answer = answerOf (f .answer
 pub data Next : Type 0 where
   Go : Record → Next
   Done : Result → Next
-
-abbrev pub followed : Code.Next → Next
-followed (next.Go r) = Go r
-followed (next.Done f) = Done (result f)

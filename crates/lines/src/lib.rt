@@ -1,7 +1,5 @@
 // The lines of figure 2 without its memory: a task's record, what its next line accesses, and what follows. What they do is
-// defined in specs/; the pool and the figure with a new block each time both run these definitions.
-pub mod accesses;
-pub mod following;
+// defined in specs/; the figure with a new block each time runs these definitions, and the code of pool::run does what they say.
 pub mod paths;
 pub mod records;
 
@@ -43,13 +41,6 @@ pub struct Finished {
     pub lost: u32,
 }
 
-// What became of a step's hardware CAS.
-pub enum Attempt {
-    Won,
-    Lost,
-    Untried,
-}
-
 // The five words of a block, in their order.
 pub enum Field {
     X,
@@ -72,10 +63,4 @@ pub enum Access {
     // Takes an unused block and stores its X.
     Allocate,
     Nothing,
-}
-
-// What follows a step: the task's next record, or the end of its call.
-pub enum Next {
-    Go(Record),
-    Done(Finished),
 }

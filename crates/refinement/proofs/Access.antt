@@ -11,9 +11,9 @@ use Rattle.lines.specs.declared.Access.{Access}
 use Rattle.lines.specs.declared.Access.the-variants.{LoadCell, Load, Store, DecideCas, InstallCas, Allocate, Nothing}
 use Rattle.lines.specs.Record.{noValue}
 use Rattle.lines.specs.Lines.{found, attempt}
-use Rattle.cells.specs.Pool.{setWord}
+use Rattle.pool.specs.Pool.{setWord}
 use Rattle.blocks.specs.Blocks.{unused}
-use Rattle.cells.specs.Turn.{Touched, touched, performed}
+use Rattle.pool.specs.Memory.{Touched, touched, performed}
 use Rattle.cells.specs.Step.{current, withBlocks}
 use Rattle.blocks.proofs.Unused.{Found}
 use Rattle.figure.specs.Figure.{World, install, Accessed, accessCell, accessed, store as storeWord}

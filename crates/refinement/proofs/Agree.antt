@@ -17,7 +17,7 @@ use Rattle.lines.specs.declared.Field.{Field}
 use Rattle.lines.specs.declared.Field.the-variants.{X, Y, C, D}
 use Rattle.lines.specs.Basics.{within}
 use Rattle.lines.specs.Record.{idle, recordAt}
-use Rattle.cells.specs.Pool.{word}
+use Rattle.pool.specs.Pool.{word}
 use Rattle.questions.specs.Questions.{tasksOk, cellsOk, blocksOk, takenBefore}
 use Rattle.cells.specs.Begin.{withRecord}
 use Rattle.cells.specs.Step.{current, withCounts}

@@ -9,7 +9,7 @@ use lib.Seq.{set-getD}
 use Rattle.questions.specs.declared.State.{State}
 use Rattle.lines.specs.declared.Field.{Field}
 use Rattle.lines.specs.declared.Field.the-variants.{X}
-use Rattle.cells.specs.Pool.{offset, setWord, noTask}
+use Rattle.pool.specs.Pool.{offset, setWord, noTask}
 use Rattle.blocks.specs.Blocks.{used}
 use Rattle.cells.specs.Step.{current, withBlocks}
 use Rattle.cells.proofs.Words.{fields, set-here, set-else}

@@ -9,8 +9,8 @@ use Rattle.lines.specs.declared.Field.the-variants.{D}
 use Rattle.lines.specs.Record.{noValue, recordAt}
 use Rattle.questions.specs.declared.State.{State}
 use Rattle.questions.specs.Questions.{refusal, fit, stepQuestions}
-use Rattle.cells.specs.Pool.{word}
-use Rattle.cells.specs.Turn.{Touched}
+use Rattle.pool.specs.Pool.{word}
+use Rattle.pool.specs.Memory.{Touched}
 use Rattle.cells.specs.Step.{current, answers}
 use Rattle.cells.specs.Machine.{triedBy}
 use Rattle.cells.proofs.Stepping.{own-acting}

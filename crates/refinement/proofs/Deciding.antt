@@ -23,9 +23,9 @@ use Rattle.questions.specs.Questions.{takenBefore, hasTaken}
 use Rattle.questions.proofs.Tests.{both}
 use Rattle.questions.proofs.Numbers.{number}
 use Rattle.blocks.specs.Blocks.{unused}
-use Rattle.cells.specs.Pool.{offset, word, setWord}
+use Rattle.pool.specs.Pool.{offset, word, setWord}
 use Rattle.cells.specs.Open.{After}
-use Rattle.cells.specs.Turn.{Touched, touched, performed}
+use Rattle.pool.specs.Memory.{Touched, touched, performed}
 use Rattle.cells.specs.Step.{current}
 use Rattle.cells.specs.Machine.{Pool}
 use Rattle.cells.proofs.Words.{fields, set-else}

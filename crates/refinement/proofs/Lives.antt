@@ -16,10 +16,10 @@ use Rattle.lines.specs.Record.{noValue, recordAt, idle}
 use Rattle.lines.specs.Lines.{Line, Wanted, for13, for25, for28, l2, lineOf, found}
 use Rattle.questions.specs.Questions.{refusal, openQuestions, takenBefore, hasTaken}
 use Rattle.questions.proofs.Numbers.{number, at-number}
-use Rattle.cells.specs.Pool.{word, setWord}
+use Rattle.pool.specs.Pool.{word, setWord}
 use Rattle.cells.specs.Answers.{Said, Refused, Acted, Ended}
 use Rattle.cells.specs.Open.{After}
-use Rattle.cells.specs.Turn.{Touched, touched}
+use Rattle.pool.specs.Memory.{Touched, touched}
 use Rattle.cells.specs.Step.{current}
 use Rattle.cells.specs.Events.{eventOf}
 use Rattle.cells.specs.Machine.{Pool, begins, pool}

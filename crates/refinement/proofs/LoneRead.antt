@@ -17,7 +17,7 @@ use Rattle.lines.specs.Record.{noValue, isIdle, recordAt}
 use Rattle.lines.specs.Lines.{found, accessOf, nextOf}
 use Rattle.questions.specs.Questions.{refusal, openQuestions}
 use Rattle.lines.specs.Record.{firstRead}
-use Rattle.cells.specs.Pool.{word}
+use Rattle.pool.specs.Pool.{word}
 use Rattle.cells.specs.Step.{current}
 use Rattle.cells.specs.Look.{looked, shown, shownValue}
 use Rattle.history.specs.Basics.{upd}

@@ -12,7 +12,7 @@ use borrow.Author.Tests.{eqb-true, eqb-false, eq-eqb, ne-eqb}
 use Rattle.questions.specs.declared.State.{State}
 use Rattle.lines.specs.declared.Field.{Field}
 use Rattle.lines.specs.declared.Field.the-variants.{X}
-use Rattle.cells.specs.Pool.{offset, word, setWord}
+use Rattle.pool.specs.Pool.{offset, word, setWord}
 use Rattle.cells.specs.Step.{current, withBlocks}
 use Rattle.questions.proofs.Tests.{blocks-true}
 use Rattle.cells.proofs.Words.{fields, set-here, set-else}

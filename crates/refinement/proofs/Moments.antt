@@ -16,7 +16,7 @@ use Rattle.lines.specs.Basics.{within}
 use Rattle.lines.specs.Record.{noValue, recordAt}
 use Rattle.questions.specs.declared.State.{State}
 use Rattle.questions.specs.Questions.{refusal, openQuestions}
-use Rattle.cells.specs.Pool.{word}
+use Rattle.pool.specs.Pool.{word}
 use Rattle.cells.specs.Step.{current}
 use Rattle.history.specs.History.{Action, begin, step, Response, Value, Yes, No, Event, refused, accepted, answered, history, run, Calls, noCalls, callsOf}
 use Rattle.history.specs.Basics.{_∈_}

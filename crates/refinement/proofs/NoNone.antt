@@ -14,7 +14,7 @@ use Rattle.lines.specs.declared.Field.{Field}
 use Rattle.lines.specs.Answers.{Next, Go, Done}
 use Rattle.lines.specs.Record.{noValue}
 use Rattle.lines.specs.Lines.{Line, accessOf, nextOf}
-use Rattle.cells.specs.Pool.{word}
+use Rattle.pool.specs.Pool.{word}
 use Rattle.questions.specs.Questions.{refusal, openQuestions, lookQuestions}
 use Rattle.cells.specs.Step.{current}
 use Rattle.cells.specs.Look.{looked, shown, shownValue}

@@ -10,7 +10,7 @@ use lib.ListN.{getD, length, replicate, length-replicate, getD-replicate}
 use borrow.Author.Tests.{eqb-true}
 use Rattle.lines.specs.declared.Field.{Field}
 use Rattle.lines.specs.Record.{idle}
-use Rattle.cells.specs.Pool.{word, fresh}
+use Rattle.pool.specs.Pool.{word, fresh}
 use Rattle.questions.specs.Questions.{refusal, openQuestions, answers}
 use Rattle.cells.specs.Open.{openState, openPool}
 use Rattle.questions.proofs.Tests.{nth, all-yes, all-at, within-true, blocks-true}

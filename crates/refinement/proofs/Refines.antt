@@ -11,7 +11,7 @@ use Rattle.questions.specs.declared.State.{State}
 use Rattle.lines.specs.declared.Field.{Field}
 use Rattle.lines.specs.declared.Field.the-variants.{C, D}
 use Rattle.lines.specs.Record.{recordAt}
-use Rattle.cells.specs.Pool.{word}
+use Rattle.pool.specs.Pool.{word}
 use Rattle.questions.specs.Questions.{refusal, countsTrue, fit, openQuestions}
 use Rattle.cells.specs.Open.{opened}
 use Rattle.cells.specs.Step.{current}

@@ -15,13 +15,13 @@ use Rattle.lines.specs.declared.Access.{Access}
 use Rattle.lines.specs.declared.Access.the-variants.{LoadCell, Load, Store, DecideCas, InstallCas, Allocate, Nothing}
 use Rattle.lines.specs.declared.Field.the-variants.{X, D}
 use Rattle.lines.specs.Record.{noValue, recordAt}
-use Rattle.cells.specs.Pool.{word, setWord}
+use Rattle.pool.specs.Pool.{word, setWord}
 use Rattle.lines.specs.Lines.{l30, lineOf, accessAt, nextAt, found, counted}
 use Rattle.questions.proofs.Numbers.{number}
 use Rattle.blocks.specs.Blocks.{unused}
 use Rattle.questions.specs.Questions.{refusal, openQuestions}
 use Rattle.cells.specs.Open.{After}
-use Rattle.cells.specs.Turn.{Touched, touched, performed}
+use Rattle.pool.specs.Memory.{Touched, touched, performed}
 use Rattle.cells.specs.Step.{current}
 use Rattle.cells.specs.Events.{eventOf}
 use Rattle.cells.specs.Machine.{Pool, pool}

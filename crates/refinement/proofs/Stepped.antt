@@ -20,7 +20,8 @@ use Rattle.questions.proofs.Numbers.{number, at-number}
 use Rattle.blocks.specs.Blocks.{unused}
 use Rattle.cells.specs.Open.{After, leaving, unless}
 use Rattle.cells.specs.Begin.{withRecord, started, readBegun, swapBegun}
-use Rattle.cells.specs.Turn.{Touched, performed, ending}
+use Rattle.pool.specs.Memory.{Touched, performed}
+use Rattle.cells.specs.Turn.{ending}
 use Rattle.cells.specs.Counts.{recounted}
 use Rattle.cells.specs.Step.{current, withBlocks, withCounts, putBack, ran, stepped}
 use Rattle.cells.proofs.Stepping.{asked, own-acting}

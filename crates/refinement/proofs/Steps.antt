@@ -20,7 +20,8 @@ use Rattle.cells.specs.Open.{After, unless}
 use Rattle.lines.specs.Record.{firstRead, firstSwap}
 use Rattle.cells.specs.Begin.{readBegun, swapBegun, started}
 use Rattle.blocks.specs.Blocks.{unused}
-use Rattle.cells.specs.Turn.{Touched, performed, ending}
+use Rattle.pool.specs.Memory.{Touched, performed}
+use Rattle.cells.specs.Turn.{ending}
 use Rattle.cells.specs.Step.{current, withBlocks, putBack, triedAt, ran, stepped}
 use Rattle.questions.proofs.Tests.{nth, all-yes}
 use Rattle.questions.proofs.Numbers.{number, at-number}

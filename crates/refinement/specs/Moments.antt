@@ -3,7 +3,7 @@
 use mathlib.Core.List.{List}
 use Prim.Native.Nat.{ℕ}
 use Rattle.lines.specs.Record.{recordAt}
-use Rattle.cells.specs.Pool.{word}
+use Rattle.pool.specs.Pool.{word}
 use Rattle.cells.specs.Step.{current}
 use Rattle.history.specs.History.{Action}
 use Rattle.history.specs.Moments.{Mark, linearized}

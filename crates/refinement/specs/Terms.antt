@@ -9,7 +9,7 @@ use Rattle.lines.specs.declared.Record.{Record}
 use Rattle.questions.specs.declared.State.{State}
 use Rattle.lines.specs.declared.Field.the-variants.{C, D}
 use Rattle.lines.specs.Record.{noValue}
-use Rattle.cells.specs.Pool.{word}
+use Rattle.pool.specs.Pool.{word}
 use Rattle.cells.specs.Open.{opened}
 use Rattle.cells.specs.Step.{current}
 use Rattle.history.specs.History.{Action, begin, step, read, aRead, Value, Report, Attempt, success, failure, untried, wins, losses, Event}

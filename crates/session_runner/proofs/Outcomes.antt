@@ -17,7 +17,8 @@ use Rattle.blocks.specs.Blocks.{unused}
 use Rattle.cells.specs.Open.{After, unless}
 use Rattle.cells.specs.Begin.{started, readBegun, swapBegun}
 use Rattle.cells.specs.Step.{current, ran, stepped}
-use Rattle.cells.specs.Turn.{Touched, performed, ending, turn}
+use Rattle.pool.specs.Memory.{Touched, performed}
+use Rattle.cells.specs.Turn.{ending, turn}
 use Rattle.cells.proofs.Stepping.{Acting, own-acting}
 use Rattle.figure.proofs.LineLaws.{every-line, Leads, goes, done as ends, leads}
 use Rattle.history.specs.History.{read, swap, Action, begin, step, taskOf, untried}

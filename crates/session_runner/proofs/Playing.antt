@@ -1,6 +1,6 @@
 -- The loop over the actions, the opening before it, and the whole.
 use mathlib.Core.Path.{_≡_, refl, sym, ap, subst, _∙_}
-use mathlib.Core.Option.{none}
+use mathlib.Core.Option.{Option, none}
 use mathlib.Core.List.{List, [], _∷_, _++_, map, append-assoc}
 use Prim.Native.Nat.{ℕ, zero, suc, _+_, _≤_, _<_}
 use native.Mathlib.Numerals.{add-one}
@@ -14,7 +14,8 @@ use Rattle.text.proofs.Appending.{nothing, entire}
 use Rattle.questions.specs.declared.State.{State}
 use Rattle.lines.specs.Answers.{Result}
 use Rattle.cells.specs.Answers.{Said, Refused, Acted, Ended, acts}
-use Rattle.cells.specs.Open.{After, leaving, opened}
+use Rattle.lines.specs.Record.{idle}
+use Rattle.cells.specs.Open.{After, leaving, unless, openState, openPool, opened}
 use Rattle.questions.specs.Questions.{refusal, openQuestions}
 use Rattle.cells.proofs.Acts.{acts-iff, open-acts}
 use Rattle.refinement.specs.Reached.{Reached}
@@ -101,6 +102,10 @@ module _ (n v b : ℕ) (vs p : List ℕ) (l : List Action) {s₀ s : State} {p�
   pub opens-reached : o ≡ Acted → Reached n v s p′
   opens-reached q = subst (λ (r : After). Reached n v (r .state) (r .pool)) (sym e) (reached-open s₀ p n v b vs (allowed s₀ p n v b vs (sym (ap (λ (r : After). r .outcome) e) ∙ q)))
 
+  pub opens-idle : o ≡ Acted → s .records ≡ replicate 32 idle
+  unfolding opened
+  opens-idle q = ap (λ (r : After). r .state .records) e ∙ ap (λ (x : Option ℕ). unless x s₀ p (leaving (openState n v b) (openPool p vs) Acted) .state .records) (allowed s₀ p n v b vs (sym (ap (λ (r : After). r .outcome) e) ∙ q))
+
 zeros : (n m : ℕ) → n ≤ m → take {A = ℕ} n (replicate m 0) ≡ replicate n 0
 zeros zero m h = refl
 zeros (suc n) zero h = absurd (omega arith)
@@ -108,6 +113,9 @@ zeros (suc n) (suc m) h = ap (λ (l : List ℕ). 0 ∷ l) (zeros n m (omega arit
 
 pub pool-zeros : {l : List ℕ} {w : ℕ} (b : ℕ) → l ≡ replicate 640 0 → w ≡ poolWords b → w ≤ 640 → take w l ≡ replicate (poolWords b) 0
 pool-zeros {l} {w} b e d h = ap (take w) e ∙ zeros w 640 h ∙ ap (λ (k : ℕ). replicate k 0) d
+
+pub places-length : {l : List ℕ} → l ≡ replicate 384 0 → 384 ≡ length l
+places-length e = sym (ap length e ∙ length-replicate {A = ℕ} 384 0)
 
 pub pool-length : {l : List ℕ} {w : ℕ} → l ≡ replicate 640 0 → w ≤ 640 → w ≡ length (take w l)
 pool-length {l} {w} e h = let d : length l ≡ 640 = ap length e ∙ length-replicate {A = ℕ} 640 0 in sym (length-take-le w l (omega (arith, d, h)))

@@ -1,4 +1,4 @@
 pub mod Actions
-pub mod Turns
 pub mod Space
 pub mod Loop
+pub mod Places

@@ -1,8 +1,8 @@
 // Runs a session file and prints its lines.
 pub mod actions;
+pub mod advance;
 mod play;
 mod printing;
-pub mod turns;
 
 use cells::Outcome;
 use lines::records::idle;
@@ -58,6 +58,7 @@ pub fn blank() -> State
 fn start(
     out: &mut [u8],
     pool: &mut [u32],
+    records: &mut [u32],
     tasks: u32,
     cells: u32,
     blocks: u32,
@@ -65,6 +66,7 @@ fn start(
     forms: &[u32],
     kept: &[u32],
 ) -> usize
+    requires { ⌜ now records ≡ replicate 384 0 ⌝ }
     requires { ⌜ length (now kept) ≤ 65535 ⌝ }
     requires { ⌜ Named (length (now forms)) (now kept) ⌝ }
     requires { ⌜ 921000 ≤ length (now out) ⌝ }
@@ -76,7 +78,7 @@ fn start(
         Outcome::Refused(k) => printing::put_no(out, 0, 0, k),
         Outcome::Acted => {
             let s = first.state;
-            play::play(out, tasks, cells, s, pool, forms, kept)
+            play::play(out, records, tasks, cells, s, pool, forms, kept)
         }
         Outcome::Ended(_) => 0,
     }
@@ -98,7 +100,14 @@ pub fn pool_space() -> [u32; 640]
     [0; 640]
 }
 
-// Runs the session that was read, on a pool of its own.
+// Twelve words for the record of each task.
+fn record_space() -> [u32; 384]
+    ensures { λ r. ⌜ r ≡ replicate 384 0 ⌝ }
+{
+    [0; 384]
+}
+
+// Runs the session that was read, on a pool and records of its own.
 fn run(
     out: &mut [u8],
     tasks: u32,
@@ -115,9 +124,11 @@ fn run(
 {
     let words = pool_words(blocks);
     let mut pool = pool_space();
+    let mut records = record_space();
     start(
         out,
         &mut pool[..words],
+        &mut records,
         tasks,
         cells,
         blocks,

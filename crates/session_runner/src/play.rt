@@ -1,19 +1,16 @@
 // The actions in their order, each with its line, and what is printed after the last.
 use crate::actions;
-use crate::actions::Action;
+use crate::advance::advance;
 use crate::printing;
-use crate::turns::act;
-use crate::turns::slot;
-use blocks::Found;
-use blocks::unused_block;
 use cells::Looked;
 use cells::Outcome;
-use cells::counts::recount;
+use pool::words::record_of;
 use questions::State;
 ghost use mathlib.Core.Path.{_≡_};
 ghost use mathlib.Core.List.{map};
 ghost use Prim.Native.Nat.{_+_, _*_, _≤_};
-ghost use lib.ListN.{length};
+ghost use lib.ListN.{length, replicate};
+ghost use Rattle.lines.specs.Record.{idle};
 ghost use Rattle.text.specs.Append.{Appended};
 ghost use Rattle.refinement.specs.Reached.{Reached};
 ghost use Rattle.session_reader.specs.Reading.{actAt};
@@ -25,6 +22,7 @@ ghost use Rattle.session_text.specs.Lines.{eventLine, Small};
 ghost use Rattle.session_text.specs.Printed.{addEvent, lookLine, cellLines, pendingTasks, endText, played};
 ghost use Rattle.session_runner.specs.Actions.{totalsOf};
 ghost use Rattle.session_runner.specs.Loop.{Few};
+ghost use Rattle.session_runner.specs.Places.{stateOf};
 
 // Finished calls, and their hardware CAS attempts.
 pub struct Tally {
@@ -122,10 +120,36 @@ fn finish(
     printing::put_end(out, a, z.finished, unfinished, z.hard)
 }
 
-// Every action, and what is printed after the last. What the opening left stays fit, so question 6 is not asked again. What
-// is left in the pool is open: it is the session's own.
+// The state whose records stand as words.
+fn with_records(
+    first: State,
+    last: u32,
+    current: [u32; 16],
+    records: &[u32],
+    counts: [u8; 128],
+) -> State
+    requires { ⌜ (length (now records) ≡ 384) × (length (first .records) ≡ 32) ⌝ }
+    ensures { λ s. ⌜ s ≡ stateOf (first .tasks) (first .cells) (first .blocks) last current (now (records .entry)) counts ⌝ }
+{
+    let mut s = first;
+    s.last = last;
+    s.current = current;
+    s.counts = counts;
+    let mut t = 0;
+    while t < 32 {
+        let from = 12 * t;
+        let to = from + 12;
+        let r = record_of(&records[from..to]);
+        s.records[t] = r;
+        t += 1;
+    }
+    s
+}
+
+// Every action, and what is printed after the last. What is left in the pool is open: it is the session's own.
 pub fn play(
     out: &mut [u8],
+    records: &mut [u32],
     tasks: u32,
     cells: u32,
     first: State,
@@ -134,6 +158,7 @@ pub fn play(
     kept: &[u32],
 ) -> usize
     requires { ⌜ Reached tasks cells first (now pool) ⌝ }
+    requires { ⌜ (now records ≡ replicate 384 0) × (first .records ≡ replicate 32 idle) ⌝ }
     requires { ⌜ length (now kept) ≤ 65535 ⌝ }
     requires { ⌜ Named (length (now forms)) (now kept) ⌝ }
     requires { ⌜ 921000 ≤ length (now out) ⌝ }
@@ -141,34 +166,32 @@ pub fn play(
 {
     let mut i = 0;
     let mut at = 0;
-    let mut s = first;
+    let mut last = first.last;
+    let mut current = first.current;
+    let mut counts = first.counts;
     let mut z = Tally {
         finished: 0,
         hard: 0,
     };
     while i < kept.len() {
         let a = actions::action_at(forms, kept[i]);
-        let task = actions::task_of(a);
-        let t = slot(task, s.tasks);
-        let r = s.records[t];
-        let k = slot(r.cell, s.cells);
-        // Only line 4 asks for a block.
-        let free = if r.line == 4 {
-            unused_block(&s.counts, s.blocks, s.last)
-        } else {
-            Found::Nowhere
-        };
-        let c = s.current[k];
-        let n = act(pool, s.tasks, s.cells, a, r, c, s.last, free);
-        let q = n.record;
+        let n = advance(
+            pool,
+            records,
+            &mut current,
+            &mut counts,
+            first.tasks,
+            first.cells,
+            first.blocks,
+            last,
+            a,
+        );
         let outcome = n.outcome;
-        s.last = n.last;
-        s.current[k] = n.current;
-        s.records[t] = q;
-        recount(&mut s.counts, r, q, c, n.current);
-        at = report(out, at, i as u32, task, outcome);
+        last = n.last;
+        at = report(out, at, i as u32, actions::task_of(a), outcome);
         z = count(z, outcome);
         i += 1;
     }
+    let s = with_records(first, last, current, records, counts);
     finish(out, at, tasks, cells, z, s, pool)
 }

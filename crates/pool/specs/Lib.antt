@@ -1,0 +1,4 @@
+pub mod Pool
+pub mod Memory
+pub mod Words
+pub mod LineRun
