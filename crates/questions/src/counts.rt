@@ -67,11 +67,11 @@ pub fn same_counts(counts: &[u8; 128], table: &[u8; 128], blocks: u32) -> bool
 {
     let n = blocks as usize;
     let mut b: usize = 0;
+    // No way out of the loop, so that many counts are compared at a time.
+    let mut same = true;
     while b < n {
-        if counts[b] != table[b] {
-            return false;
-        }
+        same = same & (counts[b] == table[b]);
         b = b + 1;
     }
-    true
+    same
 }

@@ -1,13 +1,13 @@
 // The state, and the questions before anything is done. A refusal is the number of the first that is answered no, or 0.
 ghost use mathlib.Core.Path.{_≡_};
-ghost use mathlib.Core.Bool.{cond, false};
+ghost use mathlib.Core.Bool.{cond, false, _||_, not};
 ghost use mathlib.Core.Option.{Option·getD};
 ghost use mathlib.Core.List.{_∷_};
 ghost use lib.Dec.{eqb, ltb, leb};
 ghost use lib.ListN.{getD};
 ghost use Prim.Native.Nat.{_+_, _≤_};
 ghost use Rattle.lines.specs.Basics.{allFrom};
-ghost use Rattle.questions.specs.Questions.{refusal, tasksOk, cellsOk, blocksOk, hasNone, openQuestions, reads, swaps, lineFit, blocksFit, valuesFit, recordFit, fit, swapQuestions, stepQuestions};
+ghost use Rattle.questions.specs.Questions.{refusal, tasksOk, cellsOk, blocksOk, hasNone, openQuestions, reads, swaps, lineFit, hasTaken, blocksFit, valuesFit, recordFit, fit, swapQuestions, stepQuestions};
 
 pub mod counts;
 
@@ -122,18 +122,40 @@ fn line_fit(r: Record) -> bool
     }
 }
 
+// Most numbers are below: the line is asked last.
+fn taken_fit(r: Record, blocks: u32) -> bool
+    ensures { λ b. ⌜ b ≡ (not (hasTaken r) || ltb (r .taken) blocks) ⌝ }
+{
+    if r.taken < blocks {
+        return true;
+    }
+    let line = r.line;
+    !(((5 <= line) & (line <= 8)) | (line == 30))
+}
+
 fn blocks_fit(r: Record, blocks: u32) -> bool
     ensures { λ b. ⌜ b ≡ blocksFit r blocks ⌝ }
 {
-    let holds = !((r.line == 10) | (r.line == 15));
-    let taken = ((5 <= r.line) & (r.line <= 8)) | (r.line == 30);
-    (!holds | (r.held < blocks)) & (!taken | (r.taken < blocks))
+    if r.held < blocks {
+        return taken_fit(r, blocks);
+    }
+    let line = r.line;
+    if !((line == 10) | (line == 15)) {
+        return false;
+    }
+    taken_fit(r, blocks)
 }
 
 fn values_fit(r: Record) -> bool
     ensures { λ b. ⌜ b ≡ valuesFit r ⌝ }
 {
-    (r.kind == 1) | (!(r.expected == NO_VALUE) & !(r.new == NO_VALUE))
+    if r.kind == 1 {
+        return true;
+    }
+    if r.expected == NO_VALUE {
+        return false;
+    }
+    !(r.new == NO_VALUE)
 }
 
 // Their sum may need more than 32 bits.
