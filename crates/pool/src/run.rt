@@ -33,14 +33,7 @@ use lines::Answer;
 use lines::Field;
 use lines::records::NO_VALUE;
 
-pub fn run(
-    pool: &mut [u32],
-    rec: &[u32],
-    task: u32,
-    current: u32,
-    last: u32,
-    free: Found,
-) -> Ran
+pub fn run(pool: &mut [u32], rec: &[u32], task: u32, current: u32, last: u32, free: Found) -> Ran
     requires { ⌜ Reach (length (now pool)) (now rec) × There (length (now pool)) (foundOf free) ⌝ }
     ensures { λ r. ⌜ Within (r .next) × (left (now (pool .exit)) (r .current) (r .last) (followed (now (rec .entry)) (r .next)) ≡ lineRun (now (pool .entry)) task (recordOf (now (rec .entry))) current last (foundOf free)) ⌝ }
 {
