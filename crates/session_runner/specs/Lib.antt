@@ -1,4 +1,2 @@
-pub mod Actions
-pub mod Space
+pub mod Totals
 pub mod Loop
-pub mod Places

@@ -1,9 +1,18 @@
--- The loop over the actions.
+-- What is printed, from the opening on.
 use mathlib.Core.List.{List, _++_}
 use Prim.Native.Nat.{ℕ, _+_, _<_}
 use Rattle.history.specs.History.{Action, Event, refused, accepted, answered, history, run}
 use Rattle.cells.specs.Machine.{Pool, pool}
-use Rattle.session_text.specs.Printed.{Totals, eventLines, addEvents, endText}
+use Rattle.text.specs.Lines.{badLine}
+use Rattle.session_start.specs.Start.{Start, noSession, notOpened, ready}
+use Rattle.session_text.specs.Lines.{noLine}
+use Rattle.session_text.specs.Printed.{Totals, eventLines, addEvents, endText, played}
+
+-- what a session prints, by what its file leads to
+abbrev pub startText : Start → List ℕ
+startText (noSession n) = badLine n
+startText (notOpened n) = noLine 0 n
+startText (ready n v x l) = played n v x l
 
 -- what is still to be printed from action i on, with the totals so far
 unfoldable pub playedOn : (tasks cells i : ℕ) → Totals → Pool → List Action → List ℕ

@@ -1,10 +1,10 @@
 // The actions in their order, each with its line, and what is printed after the last.
-use crate::actions;
-use crate::advance::advance;
 use crate::printing;
 use cells::Looked;
 use cells::Outcome;
-use pool::words::record_of;
+use machine::actions;
+use machine::advance::advance;
+use machine::places::with_records;
 use questions::State;
 ghost use mathlib.Core.Path.{_≡_};
 ghost use mathlib.Core.List.{map};
@@ -20,9 +20,8 @@ ghost use Rattle.cells.specs.Events.{eventOf};
 ghost use Rattle.history.specs.History.{untried};
 ghost use Rattle.session_text.specs.Lines.{eventLine, Small};
 ghost use Rattle.session_text.specs.Printed.{addEvent, lookLine, cellLines, pendingTasks, endText, played};
-ghost use Rattle.session_runner.specs.Actions.{totalsOf};
+ghost use Rattle.session_runner.specs.Totals.{totalsOf};
 ghost use Rattle.session_runner.specs.Loop.{Few};
-ghost use Rattle.session_runner.specs.Places.{stateOf};
 
 // Finished calls, and their hardware CAS attempts.
 pub struct Tally {
@@ -118,32 +117,6 @@ fn finish(
     let a = put_cells(out, at, s, pool, cells);
     let unfinished = pending(s, tasks as usize);
     printing::put_end(out, a, z.finished, unfinished, z.hard)
-}
-
-// The state whose records stand as words.
-fn with_records(
-    first: State,
-    last: u32,
-    current: [u32; 16],
-    records: &[u32],
-    counts: [u8; 128],
-) -> State
-    requires { ⌜ (length (now records) ≡ 384) × (length (first .records) ≡ 32) ⌝ }
-    ensures { λ s. ⌜ s ≡ stateOf (first .tasks) (first .cells) (first .blocks) last current (now (records .entry)) counts ⌝ }
-{
-    let mut s = first;
-    s.last = last;
-    s.current = current;
-    s.counts = counts;
-    let mut t = 0;
-    while t < 32 {
-        let from = 12 * t;
-        let to = from + 12;
-        let r = record_of(&records[from..to]);
-        s.records[t] = r;
-        t += 1;
-    }
-    s
 }
 
 // Every action, and what is printed after the last. What is left in the pool is open: it is the session's own.

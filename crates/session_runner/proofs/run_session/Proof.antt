@@ -1,20 +1,14 @@
-use Rattle.session_runner.proofs.Playing.{none-printed, all-printed}
 use native.Mathlib.Omega.{arith}
 use borrow.Author.Needs.{needs}
+use Rattle.session_runner.proofs.Playing.{none-printed, all-printed}
 use Rattle.session_runner.proofs.run_session.Statement.{statement}
 use Rattle.session_runner.proofs.run_session.Tie as tie
 
 returns : tie.Need-returns
 returns c = none-printed _ _ (omega arith)
 
-print-requires : tie.Need-print-requires
-print-requires c κs = let r = c .before .before .before .before .before .before .before .read-session in (r .ensures .1 .0, (omega (arith, c .before .before .before .before .before .before .before .before .before .before .before .action-space .ensures .1, r .kept), search needs))
-
 returns-2 : tie.Need-returns-2
-returns-2 c =
-    let s = c .before .before .before .before .before .before .before .before .before .before .before .before .before .before in
-    all-printed _ _ _ _ (c .before .before .print .ensures) (c .before .before .before .before .before .before .before .before .before .before .read-session .ensures .0)
-    (s .before .before .value-space .ensures .1) (s .before .form-space .ensures .1) (s .action-space .ensures .1) (s .before .before .before .if1 .left)
+returns-2 c = all-printed _ _ _ _ (c .before .before .before .print .ensures) (c .before .before .before .before .before .before .before .before .before .before .before .before .before .open-session .ensures .0) (c .before .before .before .before .before .before .before .before .before .before .before .before .before .before .before .before .before .before .before .before .before .before .if1 .left)
 
 pub run-session-spec : {M : Type 1} → statement M
 run-session-spec =
@@ -24,6 +18,8 @@ run-session-spec =
     (λ c κs. search needs)
     (λ c κs. search needs)
     (λ c κs. search needs)
+    (λ c κs. search needs)
+    (λ c. search needs)
     (λ c. search needs)
     (λ c. search needs)
     (λ c. search needs)
@@ -31,6 +27,6 @@ run-session-spec =
     (λ c. search needs)
     (λ c. search needs)
     (λ c. search needs)
-    print-requires
+    (λ c κs. search needs)
     (λ c. search needs)
     returns-2)

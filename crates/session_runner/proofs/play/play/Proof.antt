@@ -13,10 +13,11 @@ use Rattle.refinement.proofs.Reaching.{reached-fit, reached-arrays}
 use Rattle.session_reader.specs.Reading.{actAt}
 use Rattle.session_text.specs.Printed.{totals, played}
 use Rattle.session_runner.specs.Loop.{playedOn, Few}
-use Rattle.session_runner.specs.Actions.{actOf, totalsOf}
-use Rattle.session_runner.specs.Places.{stateOf}
+use Rattle.machine.specs.Actions.{actOf}
+use Rattle.machine.specs.Places.{stateOf}
+use Rattle.session_runner.specs.Totals.{totalsOf}
 use Rattle.text.proofs.Toward.{Toward, toward-start, toward-more, toward-last}
-use Rattle.session_runner.proofs.Placing.{records-length, idle-places}
+use Rattle.machine.proofs.Placing.{records-length, idle-places}
 use Rattle.session_runner.proofs.Playing.{one-action, no-action}
 use Rattle.cells.specs.Open.{After}
 use Rattle.cells.specs.Events.{eventOf}
@@ -25,7 +26,7 @@ use Rattle.session_text.specs.Lines.{Small}
 use Rattle.session_runner.proofs.Outcomes.{small}
 use Rattle.session_runner.proofs.Room.{weights, all-at-most, Paid, paid}
 use Rattle.session_runner.proofs.Counting.{few}
-use Rattle.session_runner.proofs.Turning.{reached-small, reached-then}
+use Rattle.machine.proofs.Turning.{reached-small, reached-then}
 use Rattle.session_runner.proofs.play.play.Statement.{statement}
 use Rattle.session_runner.proofs.play.play.Tie as tie
 

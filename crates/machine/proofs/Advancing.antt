@@ -1,0 +1,100 @@
+-- One action in place is the action: begins and steps of a fit state whose parts are lent one by one.
+use mathlib.Core.Path.{_≡_, refl, sym, ap, subst, _∙_}
+use mathlib.Core.Bool.{true, false}
+use mathlib.Core.Option.{Option, Option·getD}
+use mathlib.Core.List.{List, _∷_}
+use Prim.Native.Nat.{ℕ, _≤_, _<_}
+use lib.ListN.{length, getD, set}
+use borrow.Author.Tests.{lt-ltb, le-ltb, ne-eqb}
+use Rattle.lines.specs.declared.Record.{Record}
+use Rattle.lines.specs.Record.{recordAt}
+use Rattle.pool.specs.Memory.{There}
+use Rattle.pool.specs.Words.{recordsOf}
+use Rattle.questions.specs.declared.State.{State}
+use Rattle.questions.specs.Questions.{Question, refusal, fit, swapQuestions}
+use Rattle.questions.proofs.Fits.{sizes}
+use Rattle.questions.proofs.Refusals.{is-refused, is-allowed}
+use Rattle.cells.specs.Answers.{Refused, Acted}
+use Rattle.cells.specs.Open.{leaving, unless}
+use Rattle.cells.specs.Begin.{started, begun}
+use Rattle.cells.specs.Counts.{recounted, Countable}
+use Rattle.cells.specs.Step.{putBack, stepped}
+use Rattle.cells.specs.Turn.{Turned, turn, Ready}
+use Rattle.cells.proofs.Stepping.{Free, Acting, own-acting}
+use Rattle.machine.specs.Places.{stateOf, renames}
+use Rattle.machine.proofs.Placing.{records-length}
+use Rattle.machine.proofs.Quiet.{quiet}
+
+module _ (n v b l : ℕ) (c w k p : List ℕ) (fits : fit (stateOf n v b l c w k) p ≡ true) where
+  abbrev s : State
+  s = stateOf n v b l c w k
+
+  pub few-tasks : n ≤ 32
+  few-tasks = sizes s p fits .tasks
+
+  module _ (t : ℕ) where
+    abbrev at : Record
+    at = recordAt (recordsOf 32 w) t
+
+    -- A BEGIN, whose first record is q
+
+    pub begin-nowhere : (q : Record) → n ≤ t → leaving s p (Refused 7) ≡ begun s p t q
+    unfolding begun
+    begin-nowhere q h = rw (fits, le-ltb t n h)
+
+    module _ (q r : Record) (m : ℕ) (er : r ≡ at) (em : m ≡ Option·getD (refusal ((6, true) ∷ swapQuestions n v r t (q .cell) (q .expected) (q .new))) 0) where
+      abbrev asked : Record → List Question
+      asked x = swapQuestions n v x t (q .cell) (q .expected) (q .new)
+
+      same : refusal (asked at) ≡ refusal (asked r)
+      same = ap (λ (x : Record). refusal (asked x)) (sym er)
+
+      pub begin-refused : (m ≡ 0 → ⊥) → leaving s p (Refused m) ≡ begun s p t q
+      unfolding begun
+      begin-refused h = rw fits (sym (ap (λ (o : Option ℕ). unless o s p (started s p t q)) (same ∙ is-refused (asked r) m em h)))
+
+      pub begin-acts : m ≡ 0 → (w′ : List ℕ) → recordsOf 32 w′ ≡ set (recordsOf 32 w) t q → leaving (stateOf n v b l c w′ k) p Acted ≡ begun s p t q
+      unfolding begun
+      begin-acts z w′ e = rw (fits, e) (sym (ap (λ (o : Option ℕ). unless o s p (started s p t q)) (same ∙ is-allowed (asked r) m em z refl)))
+
+    -- A STEP
+
+    pub step-nowhere : n ≤ t → leaving s p (Refused 7) ≡ stepped s p t
+    unfolding stepped
+    step-nowhere h = rw (fits, le-ltb t n h)
+
+    module _ (own : t < n) where
+      idle-at : at .line ≡ 0 → leaving s p (Refused 11) ≡ stepped s p t
+      unfolding stepped
+      idle-at z = rw (fits, lt-ltb t n own, z)
+
+      acting : (at .line ≡ 0 → ⊥) → Acting s p t at
+      acting busy = own-acting s p t (rw (fits, lt-ltb t n own, ne-eqb (at .line) 0 busy))
+
+      -- what the turn of a record needs, and what its counts need
+      abbrev Needs : Record → Type 0
+      Needs x = (x .line ≡ 0 → ⊥) → (x .cell < 16) × ((f : Option ℕ) → Free s x f → (Ready (length p) x × There (length p) f)
+          × (length c ≡ 16 → length k ≡ 128 → (u : Turned) → u ≡ turn p t x (getD c (x .cell) 0) l f → Countable k x (u .record) (getD c (x .cell) 0) (u .current)
+          × (renames (x .line) (u .record .line) ≡ false → k ≡ recounted k x (u .record) (getD c (x .cell) 0) (u .current))))
+
+      needs-at : Needs at
+      needs-at busy = let a = acting busy in (a .cell, λ f free. ((a .ready, a .there f free), λ ec ek u eu. let n = a .countable (ec, records-length 32 w, ek) f free in rw eu (n, λ z. quiet p t at (getD c (at .cell) 0) l f (a .line) k z n)))
+
+      abbrev Done : Record → Type 0
+      Done x = (x .line ≡ 0 → ⊥) → (f : Option ℕ) → Free s x f → (u : Turned) (w′ k′ : List ℕ) → u ≡ turn p t x (getD c (x .cell) 0) l f
+          → k′ ≡ recounted k x (u .record) (getD c (x .cell) 0) (u .current) → recordsOf 32 w′ ≡ set (recordsOf 32 w) t (u .record)
+          → leaving (stateOf n v b (u .last) (set c (x .cell) (u .current)) w′ k′) (u .pool) (u .outcome) ≡ stepped s p t
+
+      done-at : Done at
+      done-at busy f free u w′ k′ eu ek ew = rw (ew, ek) (ap (putBack s t at) eu ∙ sym (acting busy .acts f free))
+
+      -- of the record that the code has read
+      module _ (r : Record) (er : r ≡ at) where
+        pub step-idle : r .line ≡ 0 → leaving s p (Refused 11) ≡ stepped s p t
+        step-idle z = idle-at (ap (λ (x : Record). x .line) (sym er) ∙ z)
+
+        pub step-needs : Needs r
+        step-needs = subst Needs (sym er) needs-at
+
+        pub step-done : Done r
+        step-done = subst Done (sym er) done-at

@@ -1,0 +1,131 @@
+-- A line other than 4, 10 and 15 that does not end its call leaves the counts as they are.
+use mathlib.Core.Path.{_≡_, refl, sym, ap, _∙_}
+use mathlib.Core.Bool.{Bool, true, false, cond, _&&_, _||_, not, false≢true}
+use mathlib.Core.Option.{Option, none, some}
+use mathlib.Core.List.{List}
+use Prim.Native.Nat.{ℕ, _+_, _≤_, _<_}
+use native.Mathlib.Omega.{arith}
+use lib.Dec.{eqb}
+use lib.ListN.{length, getD}
+use Rattle.lines.specs.declared.Record.{Record}
+use Rattle.lines.specs.declared.Access.{Access}
+use Rattle.lines.specs.declared.Access.the-variants.{LoadCell, Load, Store, DecideCas, InstallCas, Allocate, Nothing}
+use Rattle.lines.specs.declared.Field.the-variants.{D}
+use Rattle.lines.specs.Answers.{Next, Go, Done}
+use Rattle.lines.specs.Record.{noValue}
+use Rattle.lines.specs.Lines.{Line, for13, for25, for28, l1, l2, l3, l4, l5, l6, l7, l8, l10, l11, l12, l15, l16, l17, l18, l19, l20, l21, l22, l23, l24, l26, l27, l30, nowhere, lineOf, accessAt, accessOf, goto, decide, answer, readAnswer, nextAt, attempt, counted}
+use Rattle.history.specs.History.{Yes, No}
+use Rattle.pool.specs.Pool.{word}
+use Rattle.pool.specs.Memory.{Touched, performed}
+use Rattle.questions.specs.Questions.{reads, swaps, ofKind, lineFit, holdsBefore, takenBefore, recordUses}
+use Rattle.questions.specs.Counts.{claimed}
+use Rattle.questions.proofs.Numbers.{number, at-number}
+use Rattle.cells.specs.Counts.{released, renamed, recounted, Countable}
+use Rattle.cells.specs.Turn.{ending, turn}
+use Rattle.cells.proofs.Countable.{recounted-same}
+use Rattle.machine.specs.Places.{renames}
+
+-- a record at line n holds a block; it has taken one
+abbrev holdsAt : ℕ → Bool
+holdsAt n = not (eqb n 0) && holdsBefore n
+
+abbrev takenAt : ℕ → Bool
+takenAt n = not (eqb n 0) && takenBefore n
+
+-- the record q names what r names, which is at line n
+abbrev Same : ℕ → (r q : Record) → Type 0
+Same n r q = (q .held ≡ r .held) × (q .taken ≡ r .taken) × (holdsAt (q .line) ≡ holdsAt n) × (takenAt (q .line) ≡ takenAt n)
+
+abbrev installs : Access → Bool
+installs (LoadCell k) = false
+installs (Load b f) = false
+installs (Store b f v) = false
+installs (DecideCas b v) = false
+installs (InstallCas k b n) = true
+installs Allocate = false
+installs Nothing = false
+
+stays : (p : List ℕ) (c l : ℕ) (f : Option ℕ) (a : Access) → installs a ≡ false → performed p c l f a .current ≡ c
+stays p c l f (LoadCell k) h = refl
+stays p c l f (Load b g) h = refl
+stays p c l f (Store b g v) h = refl
+stays p c l f (DecideCas b v) h = go (eqb (word p b D) noValue) refl
+  where
+    go : (x : Bool) → eqb (word p b D) noValue ≡ x → performed p c l f (DecideCas b v) .current ≡ c
+    go true e = rw e
+    go false e = rw e
+stays p c l f (InstallCas k b n) h = absurd (false≢true (sym h))
+stays p c l none Allocate h = refl
+stays p c l (some b) Allocate h = refl
+stays p c l f Nothing h = refl
+
+-- what follows a line, unless it ends the call
+module _ (t : ℕ) (r : Record) (v : ℕ) where
+  abbrev Kept : Line → Next → Type 0
+  Kept i (Go q) = Same (number i) r q × ((x : Record) → installs (accessAt i t x) ≡ false)
+  Kept i (Done f) = Unit {0}
+
+  either : (i : Line) (b : Bool) (x y : Next) → Kept i x → Kept i y → Kept i (cond b x y)
+  either i true x y h k = h
+  either i false x y h k = k
+
+  abbrev Plain : Line → Type 0
+  Plain i = (eqb (number i) 4 || (eqb (number i) 10 || eqb (number i) 15)) ≡ false
+
+  kept : (i : Line) → Plain i → ofKind i (reads r) (swaps r) ≡ true → Kept i (nextAt i t r v)
+  kept (l1 w) h k = ((refl, refl, refl, refl), λ x. refl)
+  kept (l2 w) h k = ((refl, refl, refl, refl), λ x. refl)
+  kept (l3 for13) h k = tt
+  kept (l3 for25) h k = either (l3 for25) (eqb v (r .new)) (answer r Yes) (decide r 28) tt ((refl, refl, refl, refl), λ x. refl)
+  kept (l3 for28) h k = either (l3 for28) (eqb v (r .expected)) (goto r 4) (answer r No) ((refl, refl, refl, refl), λ x. refl) tt
+  kept l4 h k = absurd (false≢true (sym h))
+  kept l5 h k = ((refl, refl, refl, refl), λ x. refl)
+  kept l6 h k = ((refl, refl, refl, refl), λ x. refl)
+  kept l7 h k = ((refl, refl, refl, refl), λ x. refl)
+  kept l8 h k = ((refl, refl, refl, refl), λ x. refl)
+  kept l10 h k = absurd (false≢true (sym h))
+  kept l11 h k = ((refl, refl, refl, refl), λ x. refl)
+  kept l12 h k = either l12 (eqb v 0) (answer r (readAnswer r (r .loaded))) (decide r 13) tt ((refl, refl, refl, refl), λ x. refl)
+  kept l15 h k = absurd (false≢true (sym h))
+  kept l16 h k = ((refl, refl, refl, refl), λ x. refl)
+  kept l17 h k = either l17 (eqb v 0) (goto r 18) (goto r 27) ((refl, refl, refl, refl), λ x. refl) ((refl, refl, refl, refl), λ x. refl)
+  kept l18 h k = ((refl, refl, refl, refl), λ x. refl)
+  kept l19 h k = either l19 (eqb v t) (goto r 20) (goto r 27) ((refl, refl, refl, refl), λ x. refl) ((refl, refl, refl, refl), λ x. refl)
+  kept l20 h k = ((refl, refl, refl, refl), λ x. refl)
+  kept l21 h k = either l21 (eqb v 0) (cond (eqb (r .loaded) (r .expected)) (goto r 23) (goto r 22)) (decide r 28) (either l21 (eqb (r .loaded) (r .expected)) (goto r 23) (goto r 22) ((refl, refl, refl, refl), λ x. refl) ((refl, refl, refl, refl), λ x. refl)) ((refl, refl, refl, refl), λ x. refl)
+  kept l22 h k = tt
+  kept l23 h k = ((refl, refl, refl, refl), λ x. refl)
+  kept l24 h k = either l24 (eqb v 0) (goto r 26) (decide r 25) ((refl, refl, refl, refl), λ x. refl) ((refl, refl, refl, refl), λ x. refl)
+  kept l26 h k = tt
+  kept l27 h k = ((refl, refl, refl, refl), λ x. refl)
+  kept l30 h k = either l30 (eqb v 1) (answer r Yes) (answer r No) tt tt
+  kept nowhere h k = absurd (false≢true k)
+
+or-right : (a b : Bool) → (a || b) ≡ false → b ≡ false
+or-right true b h = absurd (false≢true (sym h))
+or-right false b h = h
+
+claimed-same : (l : List ℕ) (r q : Record) → Same (r .line) r q → claimed l q ≡ claimed l r
+claimed-same l r q h = rw (h .2, h .3, h .0, h .1)
+
+module _ (p : List ℕ) (t : ℕ) (r : Record) (c l : ℕ) (f : Option ℕ) (fits : lineFit r ≡ true) where
+  abbrev m : Touched
+  m = performed p c l f (accessOf t r)
+
+  abbrev r′ : Record
+  r′ = counted r (attempt (accessOf t r) (m .value))
+
+  -- what follows leaves a call pending
+  goes : (x : Next) → Kept t r′ (m .value) (lineOf r) x → renames (r .line) (ending m x .record .line) ≡ false → (ending m x .current ≡ c) × Same (r .line) r (ending m x .record)
+  goes (Go q) h z = (stays p c l f (accessOf t r) (h .1 r), rw (at-number r fits) (h .0))
+  goes (Done y) h z = absurd (false≢true (sym z))
+
+  plain : renames (r .line) (turn p t r c l f .record .line) ≡ false → Plain t r′ (m .value) (lineOf r)
+  plain z = rw (at-number r fits) at (or-right (eqb (turn p t r c l f .record .line) 0) (eqb (r .line) 4 || (eqb (r .line) 10 || eqb (r .line) 15)) z)
+
+  pub quiet : (k : List ℕ) → renames (r .line) (turn p t r c l f .record .line) ≡ false → Countable k r (turn p t r c l f .record) c (turn p t r c l f .current) → k ≡ recounted k r (turn p t r c l f .record) c (turn p t r c l f .current)
+  unfolding recounted
+  quiet k z n =
+      let x = nextAt (lineOf r) t r′ (m .value) in
+      let g = goes x (kept t r′ (m .value) (lineOf r) (plain z) fits) z in
+      rw (g .0) (sym (ap (λ (y : List ℕ). renamed y c c) (claimed-same (released k r) r (turn p t r c l f .record) (g .1)) ∙ recounted-same k r c (n .0) (λ b h. omega (arith, n .5 b h))))

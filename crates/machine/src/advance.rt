@@ -1,0 +1,131 @@
+// One action, in place: the tasks' records stand as words, twelve for each, and with the other parts of the state they are lent. For the
+// session runner, and for the tools that run the same actions. Of a fit state, so question 6 is not asked: what an opening left stays fit.
+use crate::actions::Action;
+use blocks::Found;
+use blocks::unused_block;
+use cells::Outcome;
+use cells::counts::recount;
+use cells::turn::make_move;
+use lines::Record;
+use lines::records::first_read;
+use lines::records::first_swap;
+use pool::words::put;
+use pool::words::record_of;
+use questions::begin_refusal;
+ghost use mathlib.Core.Path.{_≡_};
+ghost use mathlib.Core.Bool.{true, false};
+ghost use mathlib.Core.List.{List};
+ghost use Prim.Native.Nat.{ℕ, _≤_};
+ghost use lib.ListN.{length};
+ghost use Rattle.questions.specs.Questions.{fit};
+ghost use Rattle.cells.specs.Answers.{said, Refused};
+ghost use Rattle.cells.specs.Open.{leaving};
+ghost use Rattle.cells.specs.Begin.{begun};
+ghost use Rattle.cells.specs.Counts.{recounted, Countable};
+ghost use Rattle.cells.specs.Machine.{does};
+ghost use Rattle.machine.specs.Actions.{actOf};
+ghost use Rattle.machine.specs.Places.{stateOf, renames};
+
+// What an action leaves besides what is lent.
+pub struct Advanced {
+    pub last: u32,
+    pub outcome: Outcome,
+}
+
+pub fn advance(
+    pool: &mut [u32],
+    records: &mut [u32],
+    current: &mut [u32; 16],
+    counts: &mut [u8; 128],
+    tasks: u32,
+    cells: u32,
+    blocks: u32,
+    last: u32,
+    a: Action,
+) -> Advanced
+    requires { ⌜ (length (now records) ≡ 384) × (fit (stateOf tasks cells blocks last (now current) (now records) (now counts)) (now pool) ≡ true) × (length (now current) ≡ 16) × (length (now counts) ≡ 128) ⌝ }
+    ensures { λ u. ⌜ leaving (stateOf tasks cells blocks (u .last) (now (current .exit)) (now (records .exit)) (now (counts .exit))) (now (pool .exit)) (said (u .outcome)) ≡ does (stateOf tasks cells blocks last (now (current .entry)) (now (records .entry)) (now (counts .entry))) (now (pool .entry)) (actOf a) ⌝ }
+{
+    match a {
+        Action::Read(task, k) => {
+            let outcome = begin(records, tasks, cells, task, first_read(k));
+            Advanced { last, outcome }
+        }
+        Action::Swap(task, k, e, w) => {
+            let outcome = begin(records, tasks, cells, task, first_swap(k, e, w));
+            Advanced { last, outcome }
+        }
+        Action::Step(task) => {
+            if tasks <= task {
+                return refuse(last, 7);
+            }
+            let from = 12 * task as usize;
+            let to = from + 12;
+            let r = record_of(&records[from..to]);
+            if r.line == 0 {
+                return refuse(last, 11);
+            }
+            let k = r.cell as usize;
+            let c = current[k];
+            // Only line 4 asks for a block.
+            let free = if r.line == 4 {
+                unused_block(counts, blocks, last)
+            } else {
+                Found::Nowhere
+            };
+            let n = make_move(pool, &mut records[from..to], task, c, last, free);
+            current[k] = n.current;
+            let q = record_of(&records[from..to]);
+            recount_changed(counts, r, q, c, n.current);
+            let outcome = n.outcome;
+            Advanced {
+                last: n.last,
+                outcome,
+            }
+        }
+    }
+}
+
+// Most lines change nothing that is counted.
+fn recount_changed(counts: &mut [u8; 128], r: Record, q: Record, c: u32, d: u32)
+    requires { ⌜ Countable (now counts) r q c d × (renames (r .line) (q .line) ≡ false → now counts ≡ recounted (now counts) r q c d) ⌝ }
+    ensures { λ _. ⌜ now (counts .exit) ≡ recounted (now (counts .entry)) r q c d ⌝ }
+{
+    if q.line == 0 {
+        recount(counts, r, q, c, d);
+        return;
+    }
+    let line = r.line;
+    match line {
+        4 | 10 | 15 => recount(counts, r, q, c, d),
+        _ => {}
+    }
+}
+
+fn refuse(last: u32, n: u32) -> Advanced
+    ensures { λ u. ⌜ (u .last ≡ last) × (said (u .outcome) ≡ Refused n) ⌝ }
+{
+    Advanced {
+        last,
+        outcome: Outcome::Refused(n),
+    }
+}
+
+// The task's call begins with the record q.
+fn begin(records: &mut [u32], tasks: u32, cells: u32, task: u32, q: Record) -> Outcome
+    requires { ⌜ (length (now records) ≡ 384) × (tasks ≤ 32) ⌝ }
+    ensures { λ o. ⌜ ((b l : ℕ) (c k p : List ℕ) → fit (stateOf tasks cells b l c (now (records .entry)) k) p ≡ true → leaving (stateOf tasks cells b l c (now (records .exit)) k) p (said o) ≡ begun (stateOf tasks cells b l c (now (records .entry)) k) p task q) ⌝ }
+{
+    if tasks <= task {
+        return Outcome::Refused(7);
+    }
+    let from = 12 * task as usize;
+    let to = from + 12;
+    let r = record_of(&records[from..to]);
+    let n = begin_refusal(true, tasks, cells, r, task, q);
+    if n != 0 {
+        return Outcome::Refused(n);
+    }
+    put(&mut records[from..to], q);
+    Outcome::Acted
+}

@@ -1,0 +1,110 @@
+-- The opening, what follows from it, and what a tool prints of it.
+use mathlib.Core.Path.{_≡_, refl, sym, ap, subst, _∙_}
+use mathlib.Core.Option.{Option, none, some}
+use mathlib.Core.List.{List, _∷_, _++_}
+use Prim.Native.Nat.{ℕ, zero, suc, _≤_}
+use native.Mathlib.Omega.{arith}
+use lib.ListN.{length, take, drop, replicate, length-replicate, length-append}
+use lib.Seq.{length-take-le, take-at}
+use Rattle.questions.specs.declared.State.{State}
+use Rattle.questions.specs.Questions.{refusal, openQuestions}
+use Rattle.lines.specs.Answers.{Result}
+use Rattle.lines.specs.Record.{idle}
+use Rattle.cells.specs.Answers.{Said, Refused, Acted, Ended, acts}
+use Rattle.cells.specs.Open.{After, leaving, unless, openState, openPool, opened}
+use Rattle.cells.specs.Machine.{Pool}
+use Rattle.cells.proofs.Acts.{acts-iff, open-acts}
+use Rattle.refinement.specs.Reached.{Reached}
+use Rattle.refinement.proofs.Reaching.{reached-open}
+use Rattle.history.specs.History.{Action}
+use Rattle.session_file.specs.Session.{Verdict, bad, session, verdict}
+use Rattle.session_reader.specs.Reading.{judged}
+use Rattle.session_reader.specs.Kept.{Named}
+use Rattle.session_reader.proofs.Verdicts.{right-sizes}
+use Rattle.session_text.specs.Printed.{blank, poolWords}
+use Rattle.session_text.specs.Tools.{toolAfterOpen, toolText}
+use Rattle.session_start.specs.Start.{Start, notOpened, ready, startAfter, startOf, toolStart, New, Opens, Ready}
+use Rattle.session_start.specs.declared.Opening.{Opening}
+use Rattle.session_start.specs.declared.Opening.the-variants as opening
+
+-- BY THE OPENING'S OUTCOME
+
+module _ (n v : ℕ) (l : List Action) (s : State) (p : List ℕ) where
+  abbrev of : Said → Start
+  of x = startAfter n v l (leaving s p x)
+
+  pub on-refused : {o : Said} {q : ℕ} → o ≡ Refused q → notOpened q ≡ of o
+  unfolding startAfter
+  on-refused e = ap of (sym e)
+
+  pub on-acted : {o : Said} → o ≡ Acted → ready n v (s, p) l ≡ of o
+  unfolding startAfter
+  on-acted e = ap of (sym e)
+
+  pub on-ended : {o : Said} {f : Result} → o ≡ Ended f → notOpened 0 ≡ of o
+  unfolding startAfter
+  on-ended e = ap of (sym e)
+
+-- ON A NEW POOL
+
+zeros : (n m : ℕ) → n ≤ m → take {A = ℕ} n (replicate m 0) ≡ replicate n 0
+zeros zero m h = refl
+zeros (suc n) zero h = absurd (omega arith)
+zeros (suc n) (suc m) h = ap (λ (l : List ℕ). 0 ∷ l) (zeros n m (omega arith))
+
+pub new-length : {l : List ℕ} → l ≡ replicate 640 0 → length l ≡ 640
+new-length e = ap length e ∙ length-replicate {A = ℕ} 640 0
+
+allowed : (s : State) (p : List ℕ) (n v b : ℕ) (vs : List ℕ) → opened s p n v b vs .outcome ≡ Acted → refusal (openQuestions (length p) n v b vs) ≡ none
+allowed s p n v b vs e = acts-iff (openQuestions (length p) n v b vs) .1 (sym (open-acts s p n v b vs) ∙ ap acts e)
+
+module _ (n v b : ℕ) (vs new : List ℕ) {w : ℕ} (en : new ≡ replicate 640 0) (ew : w ≡ poolWords b) (hw : w ≤ 640) {s₀ s : State} {p : List ℕ} {o : Said} (eb : s₀ ≡ blank) (e : leaving s p o ≡ opened s₀ (take w new) n v b vs) (el : length p ≡ length (take w new)) where
+  -- the cells' words, and the rest of the pool
+  abbrev whole : List ℕ
+  whole = p ++ drop w new
+
+  words : length p ≡ w
+  words = el ∙ length-take-le w new (omega (arith, new-length en, hw))
+
+  theirs : take w whole ≡ p
+  theirs = take-at p (drop w new) w words
+
+  pub opens : leaving s (take w whole) o ≡ opened blank (replicate (poolWords b) 0) n v b vs
+  opens =
+      ap (λ (q : List ℕ). leaving s q o) theirs ∙ e ∙ ap (λ (t : State). opened t (take w new) n v b vs) eb
+      ∙ ap (λ (q : List ℕ). opened blank q n v b vs) (ap (take w) en ∙ zeros w 640 hw ∙ ap (λ (k : ℕ). replicate k 0) ew)
+
+  pub newly : o ≡ Acted → New n v s w whole
+  unfolding opened
+  newly q =
+      let a = allowed s₀ (take w new) n v b vs (sym (ap (λ (r : After). r .outcome) e) ∙ q) in record {
+        within = omega (arith, words, length-append p (drop w new));
+        reached = subst (Reached n v s) (sym theirs) (subst (λ (r : After). Reached n v (r .state) (r .pool)) (sym e) (reached-open s₀ (take w new) n v b vs a));
+        all-idle = ap (λ (r : After). r .state .records) e ∙ ap (λ (x : Option ℕ). unless x s₀ (take w new) (leaving (openState n v b) (openPool (take w new) vs) Acted) .state .records) a;
+      }
+
+-- THE READER'S ANSWER
+
+pub judged-start : {a b c : ℕ} {v : Verdict} (s : List ℕ) → v ≡ judged a b c s → a ≡ 32768 → b ≡ 40960 → c ≡ 65535 → startOf v ≡ startOf (verdict s)
+judged-start {a} {b} {c} s e p q r = ap startOf (e ∙ right-sizes a b c s p q r)
+
+pub made-ready : (o : Opening) (s : State) (f k p : List ℕ) {i : ℕ} → Opens o s i p → i ≤ length k → length k ≡ 65535 → Named (length f) (take i k) → Ready o s f k p
+made-ready (opening.NoSession n) s f k p x h l m = tt
+made-ready (opening.NotOpened n) s f k p x h l m = tt
+made-ready (opening.Open n v w j) s f k p x h l m = (x .0, omega (arith, h, x .1), l, subst (λ (i : ℕ). Named (length f) (take i k)) (sym (x .1)) m)
+
+-- A TOOL'S TEXT
+
+-- an open is refused or acts
+pub opened-cases : (P : After → Type 0) (s : State) (p : List ℕ) (n v b : ℕ) (vs : List ℕ) → ((q : ℕ) → P (leaving s p (Refused q))) → P (leaving (openState n v b) (openPool p vs) Acted) → P (opened s p n v b vs)
+unfolding opened
+opened-cases P s p n v b vs x y = go (refusal (openQuestions (length p) n v b vs))
+  where
+    go : (o : Option ℕ) → P (unless o s p (leaving (openState n v b) (openPool p vs) Acted))
+    go none = y
+    go (some q) = x q
+
+pub tool-started : (text : (tasks : ℕ) → Pool → List Action → List ℕ) (v : Verdict) → toolStart text (startOf v) ≡ toolText text v
+unfolding startAfter toolAfterOpen
+tool-started text (bad n) = refl
+tool-started text (session o l) = opened-cases (λ r. toolStart text (startAfter (o .tasks) (o .cells) l r) ≡ toolAfterOpen text (o .tasks) l r) blank (replicate (poolWords (o .blocks)) 0) (o .tasks) (o .cells) (o .blocks) (o .values) (λ q. refl) refl
