@@ -22,6 +22,14 @@ pub fn text_space() -> [u8; ROOM]
     [0; ROOM]
 }
 
+// For what moments prints: a line of at most 32 bytes for each action and each task, with some to spare.
+pub fn marks_space() -> [u8; 2400000]
+    ensures { λ r. ⌜ r ≡ zeros 2400000 ⌝ }
+    ensures { λ r. ⌜ 2400000 ≡ length r ⌝ }
+{
+    [0; 2400000]
+}
+
 pub fn value_space() -> [u32; 32768]
     ensures { λ r. ⌜ (r ≡ replicate 32768 0) × (length r ≡ 32768) ⌝ }
 {

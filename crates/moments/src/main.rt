@@ -1,9 +1,9 @@
 // Reads a session from standard input and writes when each of its calls took effect.
+use buffers::file_space;
+use buffers::marks_space;
 use libc::STDIN_FILENO;
 use libc::STDOUT_FILENO;
 use moments_runner::run_moments;
-use session_runner::file_space;
-use session_runner::text_space;
 
 fn main() {
     let mut file = file_space();
@@ -16,7 +16,7 @@ fn main() {
         return;
     }
     let n = read.count;
-    let mut out = text_space();
+    let mut out = marks_space();
     let end = run_moments(&file[..n], &mut out);
     report::write_all(
         STDOUT_FILENO,

@@ -1,9 +1,9 @@
 // Writes the name of each session that an argument names, and when its calls took effect.
+use buffers::file_space;
+use buffers::marks_space;
 use case_files::read_case;
 use libc::STDOUT_FILENO;
 use moments_runner::run_moments;
-use session_runner::file_space;
-use session_runner::text_space;
 
 fn run_one(i: usize) {
     let mut file = file_space();
@@ -12,7 +12,7 @@ fn run_one(i: usize) {
         return;
     }
     let n = read.count;
-    let mut out = text_space();
+    let mut out = marks_space();
     let end = run_moments(&file[..n], &mut out);
     report::write_all(STDOUT_FILENO, &out[..end], b"output");
 }

@@ -22,7 +22,8 @@ use Rattle.cells.specs.Answers.{Said, Refused, Acted, Ended}
 use Rattle.cells.specs.Open.{After, leaving, unless}
 use Rattle.cells.specs.Begin.{started, readBegun, swapBegun}
 use Rattle.cells.specs.Step.{current, putBack, ran, stepped}
-use Rattle.cells.specs.Turn.{Touched, performed, ending, turn}
+use Rattle.pool.specs.Memory.{Touched, performed}
+use Rattle.cells.specs.Turn.{ending, turn}
 use Rattle.cells.specs.Events.{eventOf}
 use Rattle.cells.specs.Machine.{does}
 use Rattle.cells.proofs.Stepping.{Acting, own-acting}

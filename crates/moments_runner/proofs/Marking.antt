@@ -22,16 +22,15 @@ use Rattle.history.specs.Moments.{Spot, Mark, marks, marked, markOf, markOfPend
 use Rattle.figure.specs.Moments.{Notes, noNotes, noted, note, noting, names, ruled, stands}
 use Rattle.figure.proofs.AsBegun.{opOf, cell-of}
 use Rattle.refinement.specs.Moments.{seesPool}
-use Rattle.session_runner.specs.Turns.{slot}
 use Rattle.moments_runner.specs.declared.notes.Sight.{Sight}
 use Rattle.moments_runner.specs.declared.notes.Own.{Own}
 use Rattle.moments_runner.specs.Words.{wordOf, encode, insertWord, Small, Listed}
-use Rattle.moments_runner.specs.Notes.{seen, sightOf, notesOf, ownOf, ownNotes}
+use Rattle.moments_runner.specs.Notes.{slot, seen, holdsWith, sightOf, notesOf, ownOf, ownNotes}
 use Rattle.moments_runner.specs.Loop.{endingSpot, endedWords, EndFits, notedLine, spreads, standWords, StandFits, closing, Closing}
 use Rattle.moments_runner.proofs.Encoding.{none-listed, one-listed}
 use Rattle.moments_runner.proofs.Noting.{zeros-at}
 use Rattle.moments_runner.proofs.Doing.{Steps, Did, refuses, begins, moves, ends, did, BegunAs, AllBegun, begun-next}
-use Rattle.moments_runner.proofs.Seeing.{holds, Who, same-noted}
+use Rattle.moments_runner.proofs.Seeing.{Who, same-noted}
 
 abbrev left : ℕ → Pool → Notes → Calls → List Mark → List Action → List Mark
 left n x o b l r = marks (noting pool seesPool) (names pool seesPool) n (x, o) b l r
@@ -75,23 +74,32 @@ module _ (s : State) (p : List ℕ) (records : length (s .records) ≡ 32) (task
     pub words-here : words′ ≡ endedWords (spot t) (opOf (rec t)) t u words
     pub fits-here : EndFits (spot t) u
 
+  -- nothing spreads where no step is done
+  spread-line : (a : Action) (u : Said) (n : ℕ) (x : Sight) → spreads (notedLine a u n) x ≡ true → spreads n x ≡ true
+  spread-line (begin t op) u n x e = absurd (false≢true e)
+  spread-line (step t) (Refused q) n x e = absurd (false≢true e)
+  spread-line (step t) Acted n x e = e
+  spread-line (step t) (Ended f) n x e = e
+
   -- with what the code found for these
-  pub coded : (t : ℕ) (a : Action) (u : Said) (words words′ : List ℕ) (o′ : Notes) {x : Sight} {own : Own} {line : ℕ} (w : List ℕ) {b : Bool}
-      → x ≡ sees t → own ≡ ownOf t loaded stored active inactive decided replaced → line ≡ notedLine a u (rec t .line) → b ≡ spreads line x
-      → ((b ≡ true) × ((v : ℕ) → v < 32 → eqb (getD w v 0) 1 ≡ holds s p t v)) ⊎ (b ≡ false) → length w ≡ 32
-      → o′ ≡ noted o t (sightOf line idle x w) → words′ ≡ endedWords (endingSpot i own (rec t) x) (opOf (rec t)) t u words → EndFits (endingSpot i own (rec t) x) u
+  pub coded : (t : ℕ) (a : Action) (u : Said) (words words′ : List ℕ) (o′ : Notes) {r : Record} {x : Sight} {own : Own} {line : ℕ} (w : List ℕ) {b : Bool}
+      → r ≡ rec t → x ≡ seen p r (current s (slot (r .cell) (s .cells))) → own ≡ ownOf t loaded stored active inactive decided replaced → line ≡ notedLine a u (r .line) → b ≡ spreads (r .line) x
+      → (b ≡ true → (v : ℕ) → v < 32 → eqb (getD w v 0) 1 ≡ holdsWith (rec v) r) → length w ≡ 32
+      → o′ ≡ noted o t (sightOf line idle x w) → words′ ≡ endedWords (endingSpot i own r x) (opOf r) t u words → EndFits (endingSpot i own r x) u
       → Coded t a u words words′ o′
-  coded t a u words words′ o′ {own = own} w {b} ex eo el eb came size en ew f = record {
+  coded t a u words words′ o′ {r} {x} {own} {line} w {b} er ex eo el eb came size en ew f = record {
     list = w;
-    who = record { who = λ e. go came (eb ∙ (λ j. spreads (el j) (ex j)) ∙ e); size = size };
-    noted-here = en ∙ λ j. noted o t (sightOf (el j) idle (ex j) w);
-    words-here = ew ∙ λ j. endedWords (endingSpot i (eo j) (rec t) (ex j)) (opOf (rec t)) t u words;
-    fits-here = subst (λ (v : Own). EndFits (endingSpot i v (rec t) (sees t)) u) eo (subst (λ (v : Sight). EndFits (endingSpot i own (rec t) v) u) ex f);
+    who = record { who = λ e v h. came (eb ∙ (λ j. spreads (er j .line) (sight j)) ∙ spread-line a u (rec t .line) (sees t) e) v h ∙ ap (holdsWith (rec v)) er; size = size };
+    noted-here = en ∙ λ j. noted o t (sightOf (at j) idle (sight j) w);
+    words-here = ew ∙ λ j. endedWords (endingSpot i (eo j) (er j) (sight j)) (opOf (er j)) t u words;
+    fits-here = subst (λ (v : Own). EndFits (endingSpot i v (rec t) (sees t)) u) eo (subst (λ (v : Sight). EndFits (endingSpot i own (rec t) v) u) sight (subst (λ (v : Record). EndFits (endingSpot i own v x) u) er f));
   }
     where
-      go : ((b ≡ true) × ((v : ℕ) → v < 32 → eqb (getD w v 0) 1 ≡ holds s p t v)) ⊎ (b ≡ false) → b ≡ true → (v : ℕ) → v < 32 → eqb (getD w v 0) 1 ≡ holds s p t v
-      go (inl (q, h)) e = h
-      go (inr q) e = absurd (false≢true (sym q ∙ e))
+      sight : x ≡ sees t
+      sight = ex ∙ ap (λ (q : Record). seen p q (current s (slot (q .cell) (s .cells)))) er
+
+      at : line ≡ notedLine a u (rec t .line)
+      at = el ∙ ap (λ (q : Record). notedLine a u (q .line)) er
 
   module _ {t : ℕ} (z : Steps s p t) where
     in-tasks : slot t (s .tasks) ≡ t

@@ -9,8 +9,16 @@ use native.Mathlib.Decide.{decLe}
 use lib.Dec.{eqb, ltb}
 use lib.ListN.{length, getD, set, replicate, length-set}
 use lib.Seq.{getD-set-same, getD-set-other}
-use borrow.Author.Tests.{lt-ltb, le-ltb, eq-eqb, ne-eqb}
+use borrow.Author.Tests.{lt-ltb, le-ltb, ltb-true, eq-eqb, ne-eqb}
 use Rattle.history.proofs.Basics.{either}
+use Rattle.moments_runner.specs.Notes.{slot}
+
+pub slot-below : (n m b : ℕ) → m ≤ b → 0 < b → slot n m < b
+slot-below n m b h l = go (ltb n m) refl
+  where
+    go : (x : Bool) → ltb n m ≡ x → slot n m < b
+    go true e = rw e (omega (arith, ltb-true n m e))
+    go false e = rw e l
 
 -- ONE TASK'S
 

@@ -14,7 +14,7 @@ use Rattle.cells.specs.Step.{current}
 use Rattle.figure.specs.Moments.{holdsBlock, Notes, noted}
 use Rattle.refinement.specs.Moments.{seesPool}
 use Rattle.moments_runner.specs.declared.notes.Sight.{Sight}
-use Rattle.moments_runner.specs.Notes.{seen, sightOf}
+use Rattle.moments_runner.specs.Notes.{seen, holdsWith, sightOf}
 use Rattle.moments_runner.specs.Loop.{spreads}
 
 first-true : (a b : Bool) → (a && b) ≡ true → a ≡ true
@@ -38,7 +38,7 @@ module _ (s : State) (p : List ℕ) (t : ℕ) where
 
   -- who holds its block
   abbrev pub holds : ℕ → Bool
-  holds u = let q = recordAt (s .records) u in holdsBlock q && (eqb (q .cell) (r .cell) && eqb (q .held) (r .held))
+  holds u = holdsWith (recordAt (s .records) u) r
 
   -- what the list says, where that matters
   pub record Who (n : ℕ) (x : Sight) (w : List ℕ) : Type 0 where

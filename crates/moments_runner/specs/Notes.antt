@@ -1,16 +1,16 @@
 -- What the code keeps beside the cells: each task's notes at its place of six lists, and what a task sees of the block that it holds.
 use mathlib.Core.Path.{_≡_}
-use mathlib.Core.Bool.{cond, _&&_}
+use mathlib.Core.Bool.{Bool, cond, _&&_}
 use mathlib.Core.Option.{Option, none, some}
 use mathlib.Core.List.{List, []}
 use Prim.Native.Nat.{ℕ}
-use lib.Dec.{eqb}
+use lib.Dec.{eqb, ltb}
 use lib.ListN.{getD, length}
 use Rattle.lines.specs.declared.Record.{Record}
 use Rattle.lines.specs.declared.Field.the-variants.{C, D}
 use Rattle.lines.specs.Basics.{within}
 use Rattle.lines.specs.Record.{noValue}
-use Rattle.cells.specs.Pool.{word}
+use Rattle.pool.specs.Pool.{word}
 use Rattle.history.specs.Moments.{sideNumber}
 use Rattle.history.specs.Moments as Moments
 use Rattle.figure.specs.Moments.{holdsBlock, Notes}
@@ -21,6 +21,14 @@ use Rattle.moments_runner.specs.declared.spots.Spot.{Spot}
 use Rattle.moments_runner.specs.declared.spots.Standing.{Standing}
 use Rattle.moments_runner.specs.declared.spots.Standing.the-variants as standing
 use Rattle.moments_runner.specs.Words.{ruleNumber}
+
+-- the place of one of m; the first for a number that is none of them
+abbrev pub slot : ℕ → ℕ → ℕ
+slot n m = cond (ltb n m) n 0
+
+-- the record q holds the block of the record r
+abbrev pub holdsWith : (q r : Record) → Bool
+holdsWith q r = holdsBlock q && (eqb (q .cell) (r .cell) && eqb (q .held) (r .held))
 
 -- of the words of the pool, a record, and the block that its cell names
 abbrev pub seen : List ℕ → Record → (current : ℕ) → Sight

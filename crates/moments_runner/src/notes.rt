@@ -1,16 +1,17 @@
 // What is noted beside the cells at each step, of the block that a task holds.
 use lines::Record;
 use lines::records::NO_VALUE;
-use questions::State;
+use machine::places::record_at;
 use questions::counts::is_holding;
 ghost use mathlib.Core.Path.{_≡_};
-ghost use mathlib.Core.Bool.{_&&_, cond};
-ghost use Prim.Native.Nat.{ℕ, _+_, _<_};
+ghost use mathlib.Core.Bool.{true, _&&_, cond};
+ghost use Prim.Native.Nat.{ℕ, _+_, _≤_, _<_};
 ghost use lib.Dec.{eqb};
 ghost use lib.ListN.{getD, length};
 ghost use Rattle.lines.specs.Record.{idle, recordAt};
-ghost use Rattle.figure.specs.Moments.{holdsBlock, noteFor, noted};
-ghost use Rattle.moments_runner.specs.Notes.{seen, sightOf, notesOf, ownOf, Sized};
+ghost use Rattle.figure.specs.Moments.{noteFor, noted};
+ghost use Rattle.pool.specs.Words.{recordsOf};
+ghost use Rattle.moments_runner.specs.Notes.{slot as «slotOf», seen, holdsWith, sightOf, notesOf, ownOf, Sized};
 
 // What a task sees of the block that it holds, before its step.
 pub struct Sight {
@@ -57,29 +58,41 @@ pub fn see(pool: &[u32], r: Record, current: u32) -> Sight
     }
 }
 
-// Has 1 for each task that holds the block of task t.
-pub fn holders(s: State, t: usize) -> [u16; 32]
-    requires { ⌜ t < 32 ⌝ }
-    ensures { λ w. ⌜ ((u : ℕ) → u < 32 → eqb (getD w u 0) 1 ≡ (holdsBlock (recordAt (s .records) u) && (eqb (recordAt (s .records) u .cell) (recordAt (s .records) t .cell) && eqb (recordAt (s .records) u .held) (recordAt (s .records) t .held)))) ⌝ }
+// The place of one of m; the first for a number that is none of them.
+pub fn slot(n: u32, m: u32) -> usize
+    ensures { λ r. ⌜ r ≡ «slotOf» n m ⌝ }
+{
+    if n < m { n as usize } else { 0 }
+}
+
+// What the task with that record sees.
+pub fn see_cell(pool: &[u32], r: Record, current: &[u32; 16], cells: u32) -> Sight
+    requires { ⌜ (cells ≤ 16) × (length (now current) ≡ 16) ⌝ }
+    ensures { λ x. ⌜ x ≡ seen (now (pool .entry)) r (getD (now (current .entry)) («slotOf» (r .cell) cells) 0) ⌝ }
+{
+    let k = slot(r.cell, cells);
+    see(pool, r, current[k])
+}
+
+// Has 1 for each task that holds the block of the record r, where that is asked.
+pub fn holders(records: &[u32], r: Record, asked: bool) -> [u16; 32]
+    requires { ⌜ length (now records) ≡ 384 ⌝ }
+    ensures { λ w. ⌜ (asked ≡ true → (u : ℕ) → u < 32 → eqb (getD w u 0) 1 ≡ holdsWith (recordAt (recordsOf 32 (now (records .entry))) u) r) ⌝ }
     ensures { λ w. ⌜ length w ≡ 32 ⌝ }
 {
     let mut w = [0; 32];
-    let r = s.records[t];
+    if !asked {
+        return w;
+    }
     let mut u = 0;
     while u < 32 {
-        let q = s.records[u];
+        let q = record_at(records, u);
         if is_holding(q) & ((q.cell == r.cell) & (q.held == r.held)) {
             w[u] = 1;
         }
         u += 1;
     }
     w
-}
-
-pub fn nobody() -> [u16; 32]
-    ensures { λ w. ⌜ length w ≡ 32 ⌝ }
-{
-    [0; 32]
 }
 
 fn note_own(notes: &mut [u16; 32], on: bool, t: usize, v: u16)

@@ -4,19 +4,18 @@ use crate::calls::end_call;
 use crate::calls::noted_line;
 use crate::calls::spreads;
 use crate::notes::holders;
-use crate::notes::nobody;
 use crate::notes::note;
 use crate::notes::own_notes;
-use crate::notes::see;
+use crate::notes::see_cell;
+use crate::notes::slot;
 use crate::words::put_marks;
-use blocks::Found;
-use blocks::unused_block;
-use cells::counts::recount;
+use buffers::record_space;
+use machine::actions::action_at;
+use machine::actions::task_of;
+use machine::advance::advance;
+use machine::places::record_at;
+use machine::places::with_records;
 use questions::State;
-use session_runner::actions::action_at;
-use session_runner::actions::task_of;
-use session_runner::turns::act;
-use session_runner::turns::slot;
 ghost use mathlib.Core.Path.{_≡_};
 ghost use mathlib.Core.List.{map};
 ghost use Prim.Native.Nat.{ℕ, _≤_};
@@ -39,10 +38,10 @@ fn mark_space() -> [u32; MARKS]
     [0; MARKS]
 }
 
-// The loop of session_runner's play, with notes beside it. What the opening left stays fit, so question 6 is not asked
-// again. What is left in the pool is open: it is the session's own.
+// Every action, with notes beside it. What is left in the pool is open: it is the session's own.
 fn list_marks(
     list: &mut [u32],
+    records: &mut [u32],
     tasks: u32,
     cells: u32,
     first: State,
@@ -50,7 +49,8 @@ fn list_marks(
     forms: &[u32],
     kept: &[u32],
 ) -> usize
-    requires { ⌜ Reached tasks cells first (now pool) × (first .records ≡ replicate 32 idle) ⌝ }
+    requires { ⌜ Reached tasks cells first (now pool) ⌝ }
+    requires { ⌜ (now records ≡ replicate 384 0) × (first .records ≡ replicate 32 idle) ⌝ }
     requires { ⌜ length (now kept) ≤ 65535 ⌝ }
     requires { ⌜ Named (length (now forms)) (now kept) ⌝ }
     requires { ⌜ 65567 ≤ length (now list) ⌝ }
@@ -59,7 +59,9 @@ fn list_marks(
 {
     let mut i = 0;
     let mut n = 0;
-    let mut s = first;
+    let mut last = first.last;
+    let mut current = first.current;
+    let mut counts = first.counts;
     let mut loaded = [0; 32];
     let mut stored = [0; 32];
     let mut active = [0; 32];
@@ -68,29 +70,25 @@ fn list_marks(
     let mut replaced = [0; 32];
     while i < kept.len() {
         let a = action_at(forms, kept[i]);
-        let task = task_of(a);
-        let t = slot(task, s.tasks);
-        let r = s.records[t];
-        let k = slot(r.cell, s.cells);
-        // Only line 4 asks for a block.
-        let free = if r.line == 4 {
-            unused_block(&s.counts, s.blocks, s.last)
-        } else {
-            Found::Nowhere
-        };
-        let c = s.current[k];
-        let x = see(pool, r, c);
-        let y = act(pool, s.tasks, s.cells, a, r, c, s.last, free);
-        let q = y.record;
+        let t = slot(task_of(a), first.tasks);
+        let r = record_at(records, t);
+        let x = see_cell(pool, r, &current, first.cells);
+        let who = holders(records, r, spreads(r.line, x));
+        let y = advance(
+            pool,
+            records,
+            &mut current,
+            &mut counts,
+            first.tasks,
+            first.cells,
+            first.blocks,
+            last,
+            a,
+        );
+        last = y.last;
         let outcome = y.outcome;
         let o = own_notes(&loaded, &stored, &active, &inactive, &decided, &replaced, t);
         n = end_call(list, n, outcome, r, x, o, i as u16, t as u32);
-        let line = noted_line(a, outcome, r.line);
-        let who = if spreads(line, x) {
-            holders(s, t)
-        } else {
-            nobody()
-        };
         note(
             &mut loaded,
             &mut stored,
@@ -98,18 +96,15 @@ fn list_marks(
             &mut inactive,
             &mut decided,
             &mut replaced,
-            line,
+            noted_line(a, outcome, r.line),
             x,
             &who,
             t,
             i as u16,
         );
-        s.last = y.last;
-        s.current[k] = y.current;
-        s.records[t] = q;
-        recount(&mut s.counts, r, q, c, y.current);
         i += 1;
     }
+    let s = with_records(first, last, current, records, counts);
     close(
         list,
         n,
@@ -141,6 +136,16 @@ pub fn play(
     ensures { λ r. ⌜ Appended (now (out .entry)) (now (out .exit)) 0 r (momentsText tasks (first, now (pool .entry)) (map (actAt (now (forms .entry))) (now (kept .entry)))) ⌝ }
 {
     let mut list = mark_space();
-    let n = list_marks(&mut list, tasks, cells, first, pool, forms, kept);
+    let mut records = record_space();
+    let n = list_marks(
+        &mut list,
+        &mut records,
+        tasks,
+        cells,
+        first,
+        pool,
+        forms,
+        kept,
+    );
     put_marks(out, &list, n)
 }

@@ -1,9 +1,9 @@
 // Reads a session from standard input and writes what it prints.
+use buffers::file_space;
+use buffers::text_space;
 use libc::STDIN_FILENO;
 use libc::STDOUT_FILENO;
-use session_runner::file_space;
 use session_runner::run_session;
-use session_runner::text_space;
 
 fn main() {
     let mut file = file_space();

@@ -1,9 +1,9 @@
 // Runs each session that an argument names, and writes its name and what it prints.
+use buffers::file_space;
+use buffers::text_space;
 use case_files::read_case;
 use libc::STDOUT_FILENO;
-use session_runner::file_space;
 use session_runner::run_session;
-use session_runner::text_space;
 
 fn run_one(i: usize) {
     let mut file = file_space();

@@ -1,7 +1,7 @@
 // Draws a session, as shake does, and runs it, as the session program does: shaken_session SEED N V B LENGTH.
+use buffers::text_space;
 use libc::STDOUT_FILENO;
 use session_runner::run_session;
-use session_runner::text_space;
 use shaker::session_space;
 
 fn main() {

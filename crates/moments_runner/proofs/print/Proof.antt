@@ -1,24 +1,34 @@
-use Rattle.session_runner.proofs.Playing.{taken}
-use mathlib.Core.Path.{sym}
+use mathlib.Core.Path.{_≡_, sym}
+use Prim.Native.Nat.{ℕ, _≤_}
+use native.Mathlib.Omega.{arith}
+use lib.ListN.{length, take}
 use lib.Seq.{length-take-le}
 use borrow.Author.Needs.{needs}
 use Rattle.moments_runner.proofs.print.Statement.{statement}
 use Rattle.moments_runner.proofs.print.Tie as tie
 
-slice-aggregate-run : tie.Need-slice-aggregate-run
-slice-aggregate-run c = let h = rw (c .before .before .before .found2 .given .1) at (c .before .before .before .before .before .before .before .before .before .pre .0) in sym (length-take-le _ _ (h .some))
+slice-relend-prefix-play : tie.Need-slice-relend-prefix-play
+slice-relend-prefix-play c = let h = rw (c .before .before .opening3 .given .1) at (c .before .before .before .before .before .before .before .before .pre .0) in h .0 .within
 
-slice-aggregate-run-2 : tie.Need-slice-aggregate-run-2
-slice-aggregate-run-2 c = let h = rw (c .before .before .before .before .found2 .given .1) at (c .before .before .before .before .before .before .before .before .before .before .pre .0) in sym (length-take-le _ _ (h .many))
+slice-aggregate-play : tie.Need-slice-aggregate-play
+slice-aggregate-play c = let h = rw (c .before .before .before .opening3 .given .1) at (c .before .before .before .before .before .before .before .before .before .pre .0) in sym (length-take-le _ _ (h .0 .within))
 
-run-requires : tie.Need-run-requires
-run-requires c κs = let h = rw (c .before .before .before .before .found2 .given .1) at (c .before .before .before .before .before .before .before .before .before .before .pre .0) in (taken (c .before .before .before .before .before .before .before .before .before .before .args .actions .now) (h .many) (c .before .before .before .before .before .before .before .before .before .before .pre .1 .0), (h .named, search needs))
+slice-aggregate-play-2 : tie.Need-slice-aggregate-play-2
+slice-aggregate-play-2 c = let h = rw (c .before .before .before .before .opening3 .given .1) at (c .before .before .before .before .before .before .before .before .before .before .pre .0) in sym (length-take-le _ _ (h .1))
+
+play-requires : tie.Need-play-requires
+play-requires c κs =
+    let h = rw (c .before .before .before .before .opening3 .given .1) at (c .before .before .before .before .before .before .before .before .before .before .pre .0) in
+    ((h .0 .reached, h .0 .all-idle), (omega (arith, length-take-le _ (c .before .before .before .before .before .before .before .before .before .before .args .kept .now) (h .1), h .1, h .2), (h .3, search needs)))
 
 returns : tie.Need-returns
-returns c = rw (c .before .before .before .before .before .found .given .1) (c .before .before .put-bad .ensures .0)
+returns c = rw (c .before .before .before .before .before .opening .given .1) (c .before .before .put-bad .ensures .0)
 
 returns-2 : tie.Need-returns-2
-returns-2 c = rw (c .before .before .before .before .before .before .before .found2 .given .1) (c .before .before .run .ensures)
+returns-2 c = rw (c .before .before .before .before .before .opening2 .given .1) (c .before .before .put-bad2 .ensures .0)
+
+returns-3 : tie.Need-returns-3
+returns-3 c = rw (c .before .before .before .before .before .before .before .before .before .opening3 .given .1) (c .before .before .before .before .play .ensures)
 
 pub print-spec : {M : Type 1} → statement M
 print-spec =
@@ -27,10 +37,16 @@ print-spec =
     (λ c. search needs)
     (λ c κs. search needs)
     (λ c. search needs)
-    slice-aggregate-run
-    slice-aggregate-run-2
-    run-requires
+    (λ c κs. search needs)
+    (λ c. search needs)
+    slice-relend-prefix-play
+    slice-aggregate-play
+    slice-aggregate-play-2
+    play-requires
     (λ c. search needs)
     returns
     (λ c. search needs)
-    returns-2)
+    returns-2
+    (λ c. search needs)
+    (λ c. search needs)
+    returns-3)

@@ -6,7 +6,7 @@ use mathlib.Core.List.{List}
 use Rattle.lines.specs.declared.Record.{Record}
 use Rattle.pool.specs.Words.{recordsOf}
 use Rattle.questions.specs.declared.State.{State}
-use Rattle.machine.proofs.Placing.{place-read, place-length, records-length, one-more, all-copied}
+use Rattle.machine.proofs.Placing.{records-length, one-more, all-copied}
 use borrow.Author.Needs.{needs}
 use Rattle.machine.proofs.places.with_records.Statement.{statement}
 use Rattle.machine.proofs.places.with_records.Tie as tie
@@ -23,18 +23,18 @@ abbrev μ-loop : tie.MeasureT-loop
 loop-holds : tie.Need-loop-holds Inv-loop μ-loop
 loop-holds c = (search needs, c .before .pre .1, refl, refl)
 
-record-of-requires : tie.Need-record-of-requires Inv-loop μ-loop
-record-of-requires c κs = let t = c .before .before .loop .t in place-length (c .before .before .before .before .args .records .now) (12 * t) (12 * t + 12) refl (omega (arith, c .before .loop-test .taken, c .before .before .before .before .pre .0))
+record-at-requires : tie.Need-record-at-requires Inv-loop μ-loop
+record-at-requires c κs = (c .loop-test .taken, c .before .before .before .pre .0)
 
 loop-again : tie.Need-loop-again Inv-loop μ-loop
 loop-again c =
-    let l = c .before .before .before .loop in
-    let w = c .before .before .before .before .before .args .records .now in
-    let h = c .before .before .loop-test .taken in (
+    let l = c .before .before .loop in
+    let w = c .before .before .before .before .args .records .now in
+    let h = c .before .loop-test .taken in (
       omega (arith, h),
-      length-set (l .s .records) l.t (c .record-of .result) ∙ l .inv .1,
-      one-more (l .s .records) (recordsOf 32 w) l.t _ (omega (arith, h, l .inv .1)) (omega (arith, h, records-length 32 w)) (l .inv .2) (place-read 32 w l.t _ _ h refl refl (c .record-of .ensures)),
-      ap (λ (s : State). with s (set (l .s .records) l.t (c .record-of .result))) (l .inv .3),
+      length-set (l .s .records) l.t (c .record-at .result) ∙ l .inv .1,
+      one-more (l .s .records) (recordsOf 32 w) l.t _ (omega (arith, h, l .inv .1)) (omega (arith, h, records-length 32 w)) (l .inv .2) (c .record-at .ensures),
+      ap (λ (s : State). with s (set (l .s .records) l.t (c .record-at .result))) (l .inv .3),
     )
 
 returns : tie.Need-returns Inv-loop μ-loop
@@ -51,13 +51,7 @@ with-records-spec =
     Inv-loop
     μ-loop
     loop-holds
-    (λ c. omega arith)
-    (λ c. omega arith)
-    (λ c. omega arith)
-    (λ c. omega arith)
-    (λ c. omega arith)
-    (λ c. omega (arith, c .loop-test .taken, c .before .before .before .pre .0))
-    record-of-requires
+    record-at-requires
     (λ c. omega arith)
     (λ c. search needs)
     (λ c. omega arith)

@@ -14,7 +14,7 @@ use Rattle.session_reader.specs.Reading.{actAt}
 use Rattle.session_text.specs.Printed.{totals, played}
 use Rattle.session_runner.specs.Loop.{playedOn, Few}
 use Rattle.machine.specs.Actions.{actOf}
-use Rattle.machine.specs.Places.{stateOf}
+use Rattle.machine.specs.Places.{wholeOf}
 use Rattle.session_runner.specs.Totals.{totalsOf}
 use Rattle.text.proofs.Toward.{Toward, toward-start, toward-more, toward-last}
 use Rattle.machine.proofs.Placing.{records-length, idle-places}
@@ -30,14 +30,10 @@ use Rattle.machine.proofs.Turning.{reached-small, reached-then}
 use Rattle.session_runner.proofs.play.play.Statement.{statement}
 use Rattle.session_runner.proofs.play.play.Tie as tie
 
--- the state that the loop is at
-abbrev whole : State → (last : ℕ) (current records counts : List ℕ) → State
-whole s l c w k = stateOf (s .tasks) (s .cells) (s .blocks) l c w k
-
 abbrev Inv-loop : tie.InvT-loop
 Inv-loop out₀ records₀ tasks cells first pool₀ forms kept i₀ at₀ last₀ current₀ counts₀ z₀ out records pool i at last current counts z =
-    Toward out₀ out 0 at (playedOn tasks cells i (totalsOf z) (whole first last current records counts, pool) (drop i (map (actAt forms) kept))) (played tasks cells (first, pool₀) (map (actAt forms) kept))
-    × (i ≤ length kept) × (at + weights (recordsOf 32 records) ≤ 14 * i + 896) × (z .finished ≤ i) × (z .hard ≤ i * 100) × (length pool ≡ length pool₀) × Reached tasks cells (whole first last current records counts) pool × (length records ≡ 384)
+    Toward out₀ out 0 at (playedOn tasks cells i (totalsOf z) (wholeOf first last current records counts, pool) (drop i (map (actAt forms) kept))) (played tasks cells (first, pool₀) (map (actAt forms) kept))
+    × (i ≤ length kept) × (at + weights (recordsOf 32 records) ≤ 14 * i + 896) × (z .finished ≤ i) × (z .hard ≤ i * 100) × (length pool ≡ length pool₀) × Reached tasks cells (wholeOf first last current records counts) pool × (length records ≡ 384)
 
 abbrev μ-loop : tie.MeasureT-loop
 μ-loop out₀ records₀ tasks cells first pool₀ forms kept i₀ at₀ last₀ current₀ counts₀ z₀ out records pool i at last current counts z = length kept - i
@@ -46,7 +42,7 @@ loop-holds : tie.Need-loop-holds Inv-loop μ-loop
 unfolding played playedOn
 loop-holds c =
     let a = c .before .before .before .before .before .before .before .args in
-    let e : a .first ≡ whole a.first (a .first .last) (a .first .current) a.records.now (a .first .counts) =
+    let e : a .first ≡ wholeOf a.first (a .first .last) (a .first .current) a.records.now (a .first .counts) =
     ap (λ (x : List Record). record { tasks = a .first .tasks; cells = a .first .cells; blocks = a .first .blocks; last = a .first .last; current = a .first .current; records = x; counts = a .first .counts }) (c .before .before .before .before .before .before .before .pre .1 .0 .1 ∙ sym idle-places ∙ ap (recordsOf 32) (sym (c .before .before .before .before .before .before .before .pre .1 .0 .0)))
     in (
       subst (λ (s : State). Toward a.out.now a.out.now 0 0 (playedOn a.tasks a.cells 0 (totals 0 0) (s, a.pool.now) (map (actAt a.forms.now) a.kept.now)) (played a.tasks a.cells (a .first, a.pool.now) (map (actAt a.forms.now) a.kept.now))) e (toward-start _ _ _),
@@ -74,7 +70,7 @@ report-requires c κs = omega (arith, c .before .before .before .before .before 
 count-requires : tie.Need-count-requires Inv-loop μ-loop
 count-requires c κs =
     let l = c .before .before .before .before .before .before .before .before .before .before .before .before .before .before .before .before .before .loop in
-    (omega (arith, l .inv .3, c .before .before .before .before .before .before .before .before .before .before .before .before .before .before .before .before .loop-test .taken, c .before .before .before .before .before .before .before .before .before .before .before .before .before .before .before .before .before .before .before .before .before .before .before .before .before .pre .1 .1 .0), omega (arith, l .inv .4, c .before .before .before .before .before .before .before .before .before .before .before .before .before .before .before .before .loop-test .taken, c .before .before .before .before .before .before .before .before .before .before .before .before .before .before .before .before .before .before .before .before .before .before .before .before .before .pre .1 .1 .0), subst (λ (y : After). Few (eventOf untried (y .outcome))) (sym (c .before .before .before .before .before .before .before .before .before .advance .ensures)) (few (whole (c .before .before .before .before .before .before .before .before .before .before .before .before .before .before .before .before .before .before .before .before .before .before .before .before .before .args .first) l.last l.current l.records l.counts) l.pool (actOf (c .before .before .before .before .before .before .before .before .before .before .before .before .before .before .action-at .result))))
+    (omega (arith, l .inv .3, c .before .before .before .before .before .before .before .before .before .before .before .before .before .before .before .before .loop-test .taken, c .before .before .before .before .before .before .before .before .before .before .before .before .before .before .before .before .before .before .before .before .before .before .before .before .before .pre .1 .1 .0), omega (arith, l .inv .4, c .before .before .before .before .before .before .before .before .before .before .before .before .before .before .before .before .loop-test .taken, c .before .before .before .before .before .before .before .before .before .before .before .before .before .before .before .before .before .before .before .before .before .before .before .before .before .pre .1 .1 .0), subst (λ (y : After). Few (eventOf untried (y .outcome))) (sym (c .before .before .before .before .before .before .before .before .before .advance .ensures)) (few (wholeOf (c .before .before .before .before .before .before .before .before .before .before .before .before .before .before .before .before .before .before .before .before .before .before .before .before .before .args .first) l.last l.current l.records l.counts) l.pool (actOf (c .before .before .before .before .before .before .before .before .before .before .before .before .before .before .action-at .result))))
 
 add-i : tie.Need-add-i Inv-loop μ-loop
 add-i c = record { fits = omega (arith, c .before .before .before .before .before .before .before .before .before .before .before .before .before .before .before .before .before .loop-test .taken, c .before .before .before .before .before .before .before .before .before .before .before .before .before .before .before .before .before .before .before .before .before .before .before .before .before .before .pre .1 .1 .0) }
@@ -87,7 +83,7 @@ loop-again c =
     let l = c .before .before .before .before .before .before .before .before .before .before .before .before .before .before .before .before .before .before .loop in
     let a = c .before .before .before .before .before .before .before .before .before .before .before .before .before .before .before .before .before .before .before .before .before .before .before .before .before .before .args in
     let x = actOf (c .before .before .before .before .before .before .before .before .before .before .before .before .before .before .before .action-at .result) in
-    let s = whole (a .first) l.last l.current l.records l.counts in
+    let s = wholeOf (a .first) l.last l.current l.records l.counts in
     let r = c .before .before .before .report .ensures in
     let k = c .count .ensures in
     let d = c .before .before .before .before .before .before .before .before .before .before .advance .ensures in
@@ -119,7 +115,7 @@ returns : tie.Need-returns Inv-loop μ-loop
 returns c =
     let l = c .before .before .before .before .before .before .before .before .loop in
     let a = c .before .before .before .before .before .before .before .before .before .before .before .before .before .before .before .before .args in
-    toward-last (l .inv .0) (rw (no-action a.tasks a.cells (actAt a.forms.now) a.kept.now l.i (totalsOf l.z) (whole (a .first) l.last l.current l.records l.counts) l.pool (omega (arith, c .before .before .before .before .before .before .before .loop-test .left))) (rw (c .before .before .before .before .before .with-records .ensures) at (c .before .before .finish .ensures)))
+    toward-last (l .inv .0) (rw (no-action a.tasks a.cells (actAt a.forms.now) a.kept.now l.i (totalsOf l.z) (wholeOf (a .first) l.last l.current l.records l.counts) l.pool (omega (arith, c .before .before .before .before .before .before .before .loop-test .left))) (rw (c .before .before .before .before .before .with-records .ensures) at (c .before .before .finish .ensures)))
 
 pub play-spec : {M : Type 1} → statement M
 play-spec =
