@@ -11,7 +11,6 @@ session: it is alone there (moments_selftest.py asks it of every drawn session).
 What shows is that it comes before those that are after it.
 """
 
-import os
 import sys
 
 import make_moments_cases
@@ -74,18 +73,6 @@ def not_stored(condition, moment, rule):
     return (NOT_STORED, NOT_STORED.replace(
         "        return None", "        if %s:\n            return Mark(o, %s,"
         " ITSELF, %s)\n        return None" % (condition, moment, rule)))
-
-
-def both(*edits):
-    """Two edits as one, of the text from the first to the second."""
-    with open(os.path.join(mutants.HERE, "moments.py")) as file:
-        source = file.read()
-    (first, _), (last, _) = edits
-    span = new = source[source.index(first):source.index(last) + len(last)]
-    for old, text in edits:
-        assert span.count(old) == 1, old
-        new = new.replace(old, text)
-    return span, new
 
 
 # What is misread; the text replaced; the text put there.
@@ -241,8 +228,8 @@ MISREADINGS = [
     # the blocks
     ("blocks' lives are mixed up, the last one's events stand", NEW_BLOCK,
      "        return super().take_unused_block()\n"),
-    ("blocks' lives are mixed up, the first one's events stand", *both(
-        (NEW_BLOCK, "        return super().take_unused_block()\n"),
+    ("blocks' lives are mixed up, the first one's events stand", *mutants.both(
+        "moments", (NEW_BLOCK, "        return super().take_unused_block()\n"),
         (NOTE, NOTE.replace("event[call.block] = i",
                             "event.setdefault(call.block, i)")))),
     ("the first setting of C and D is the last", NOTE, """                if is_now and (not was or event is not self.replaced and

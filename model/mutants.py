@@ -867,6 +867,18 @@ def edited(names, where, old, new):
     return modules
 
 
+def both(name, first, last):
+    """Two edits of a file as one, of the text from the first to the last."""
+    with open(os.path.join(HERE, name + ".py")) as file:
+        source = file.read()
+    span = source[source.index(first[0]):source.index(last[0]) + len(last[0])]
+    new = span
+    for old, text in (first, last):
+        assert span.count(old) == 1, old
+        new = new.replace(old, text)
+    return span, new
+
+
 def misread(where, old, new):
     """A session's and cells_cases' runs in a model with this one edit."""
     modules = edited(("cells", "reader", "rate", "session", "cells_cases"),

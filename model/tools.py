@@ -4,6 +4,9 @@
 refusal prints only `(bad R)`" (change request 6).
 """
 
+import os
+import sys
+
 import cells
 import reader
 
@@ -23,3 +26,39 @@ def take_session(data):
 def bad(number):
     """"a refusal prints only `(bad R)`"."""
     return b"(bad %d)\n" % number
+
+
+def arguments_of(data):
+    """A stored case of a tool with arguments: "the first line holds the
+    arguments", parted by one space; and the session, which is the rest."""
+    line, end, rest = data.partition(b"\n")
+    if not end:
+        raise ValueError("a first line without its end: %r" % line)
+    return line.split(b" "), rest
+
+
+class Stored:
+    """A tool with arguments as a program of its stored cases."""
+
+    def __init__(self, tool):
+        self.Trace = tool.Trace
+        self.run_args = tool.run_args
+
+    def run(self, data, trace=None):
+        return self.run_args(*arguments_of(data), trace)
+
+
+def main(usage, count, run):
+    """A tool with so many arguments as a program.  "prints `(bad 14)` on
+    standard output and a usage line on standard error, before anything is read"
+    (the design page)."""
+    arguments = [os.fsencode(word) for word in sys.argv[1:]]
+    try:
+        numbers = reader.numbers(arguments, count)
+    except reader.Bad as refused:
+        sys.stdout.buffer.write(bad(refused.number))
+        print(usage, file=sys.stderr)
+        return
+    # One byte more than question 12 allows is enough to answer it.
+    data = sys.stdin.buffer.read(reader.MOST_BYTES + 1)
+    sys.stdout.buffer.write(run(*numbers, data))
