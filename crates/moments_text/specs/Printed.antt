@@ -14,4 +14,4 @@ abbrev pub momentsPrinted : List ℕ → List ℕ
 momentsPrinted = toolPrinted momentsText
 
 abbrev pub momentsWithin : (room : ℕ) → List ℕ → List ℕ
-momentsWithin = toolWithin momentsText
+momentsWithin = toolWithin 2400000 momentsText

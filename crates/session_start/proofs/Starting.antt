@@ -1,11 +1,15 @@
 -- The opening, what follows from it, and what a tool prints of it.
 use mathlib.Core.Path.{_≡_, refl, sym, ap, subst, _∙_}
 use mathlib.Core.Option.{Option, none, some}
-use mathlib.Core.List.{List, _∷_, _++_}
-use Prim.Native.Nat.{ℕ, zero, suc, _≤_}
+use mathlib.Core.List.{List, [], _∷_, _++_}
+use Prim.Native.Nat.{ℕ, zero, suc, _≤_, _<_}
 use native.Mathlib.Omega.{arith}
 use lib.ListN.{length, take, drop, replicate, length-replicate, length-append}
 use lib.Seq.{length-take-le, take-at}
+use borrow.Author.Tests.{le-leb, lt-leb}
+use Rattle.io.specs.Counts.{Counts}
+use Rattle.text.specs.Append.{Appended}
+use Rattle.text.proofs.Appending.{nothing, entire}
 use Rattle.questions.specs.declared.State.{State}
 use Rattle.questions.specs.Questions.{refusal, openQuestions}
 use Rattle.lines.specs.Answers.{Result}
@@ -14,15 +18,13 @@ use Rattle.cells.specs.Answers.{Said, Refused, Acted, Ended, acts}
 use Rattle.cells.specs.Open.{After, leaving, unless, openState, openPool, opened}
 use Rattle.cells.specs.Machine.{Pool}
 use Rattle.cells.proofs.Acts.{acts-iff, open-acts}
-use Rattle.refinement.specs.Reached.{Reached}
-use Rattle.refinement.proofs.Reaching.{reached-open}
 use Rattle.history.specs.History.{Action}
 use Rattle.session_file.specs.Session.{Verdict, bad, session, verdict}
 use Rattle.session_reader.specs.Reading.{judged}
 use Rattle.session_reader.specs.Kept.{Named}
 use Rattle.session_reader.proofs.Verdicts.{right-sizes}
 use Rattle.session_text.specs.Printed.{blank, poolWords}
-use Rattle.session_text.specs.Tools.{toolAfterOpen, toolText}
+use Rattle.session_text.specs.Tools.{toolAfterOpen, toolText, toolPrinted, toolWithin}
 use Rattle.session_start.specs.Start.{Start, notOpened, ready, startAfter, startOf, toolStart, New, Opens, Ready}
 use Rattle.session_start.specs.declared.Opening.{Opening}
 use Rattle.session_start.specs.declared.Opening.the-variants as opening
@@ -79,7 +81,8 @@ module _ (n v b : ℕ) (vs new : List ℕ) {w : ℕ} (en : new ≡ replicate 640
   newly q =
       let a = allowed s₀ (take w new) n v b vs (sym (ap (λ (r : After). r .outcome) e) ∙ q) in record {
         within = omega (arith, words, length-append p (drop w new));
-        reached = subst (Reached n v s) (sym theirs) (subst (λ (r : After). Reached n v (r .state) (r .pool)) (sym e) (reached-open s₀ (take w new) n v b vs a));
+        reached = record { old = s₀; words = take w new; blocks = b; values = vs; allowed = a; actions = []; came = ap (λ (q : List ℕ). (s, q)) theirs ∙ ap (λ (r : After). (r .state, r .pool)) e };
+        no-actions = refl;
         all-idle = ap (λ (r : After). r .state .records) e ∙ ap (λ (x : Option ℕ). unless x s₀ (take w new) (leaving (openState n v b) (openPool (take w new) vs) Acted) .state .records) a;
       }
 
@@ -108,3 +111,25 @@ pub tool-started : (text : (tasks : ℕ) → Pool → List Action → List ℕ) 
 unfolding startAfter toolAfterOpen
 tool-started text (bad n) = refl
 tool-started text (session o l) = opened-cases (λ r. toolStart text (startAfter (o .tasks) (o .cells) l r) ≡ toolAfterOpen text (o .tasks) l r) blank (replicate (poolWords (o .blocks)) 0) (o .tasks) (o .cells) (o .blocks) (o .values) (λ q. refl) refl
+
+-- the tool's text of the file s, r bytes at the start of a buffer, and nothing else changed; nothing where there is less room than it needs
+module _ (need : ℕ) (text : (tasks : ℕ) → Pool → List Action → List ℕ) (s old : List ℕ) where
+  abbrev within : List ℕ
+  within = toolWithin need text (length old) s
+
+  abbrev Entire : (new : List ℕ) (r : ℕ) → Type 0
+  Entire new r = (new ≡ within ++ drop r old) × ((r ≡ length within) × Counts r new)
+
+  no-room : length old < need → [] ≡ within
+  unfolding toolWithin
+  no-room h = rw (lt-leb need (length old) h)
+
+  with-room : need ≤ length old → toolText text (verdict s) ≡ within
+  unfolding toolWithin toolPrinted
+  with-room h = rw (le-leb need (length old) h)
+
+  pub nothing-printed : length old < need → Entire old 0
+  nothing-printed h = entire within (nothing old 0) (no-room h)
+
+  pub all-printed : (new : List ℕ) (r : ℕ) {x : Start} → Appended old new 0 r (toolStart text x) → x ≡ startOf (verdict s) → need ≤ length old → Entire new r
+  all-printed new r a e h = entire within a (ap (toolStart text) e ∙ tool-started text (verdict s) ∙ with-room h)

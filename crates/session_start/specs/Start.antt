@@ -1,6 +1,6 @@
 -- What a session file leads to: no session, cells that are not opened, or cells that are and the actions to do on them.
 use mathlib.Core.Path.{_≡_}
-use mathlib.Core.List.{List, map}
+use mathlib.Core.List.{List, [], map}
 use Prim.Native.Nat.{ℕ, _≤_}
 use lib.ListN.{length, take, replicate}
 use Rattle.questions.specs.declared.State.{State}
@@ -48,6 +48,7 @@ startAt (opening.Open n v w i) s f k p = ready n v (s, take w p) (map (actAt f) 
 pub record New (n v : ℕ) (s : State) (w : ℕ) (p : List ℕ) : Type 0 where
   pub within : w ≤ length p
   pub reached : Reached n v s (take w p)
+  pub no-actions : reached .actions ≡ []
   pub all-idle : s .records ≡ replicate 32 idle
 
 abbrev pub Opens : Opening → State → (actions : ℕ) → (pool : List ℕ) → Type 0

@@ -27,6 +27,6 @@ module _ (text : (tasks : ℕ) → Pool → List Action → List ℕ) where
   unfoldable pub toolPrinted : List ℕ → List ℕ
   toolPrinted s = toolText (verdict s)
 
-  -- nothing is printed where there is no room for the longest text of any tool
-  unfoldable pub toolWithin : (room : ℕ) → List ℕ → List ℕ
-  toolWithin n s = cond (leb 2400000 n) (toolPrinted s) []
+-- nothing is printed where there is less room than the tool needs
+unfoldable pub toolWithin : (need : ℕ) → ((tasks : ℕ) → Pool → List Action → List ℕ) → (room : ℕ) → List ℕ → List ℕ
+toolWithin need text n s = cond (leb need n) (toolPrinted text s) []
