@@ -67,10 +67,10 @@ same-size w ys a e h k l =
     omega (arith, length-append (take a w) (ys ++ drop (e - a) (drop a w)), length-append ys (drop (e - a) (drop a w)), length-take-le a w (omega arith), length-drop (e - a) (drop a w), length-drop a w)
 
 -- copied one by one
-pub one-more : (l m : List Record) (t : ℕ) (x : Record) → t < length l → t < length m → take t l ≡ take t m → x ≡ getD m t idle → take (t + 1) (set l t x) ≡ take (t + 1) m
-one-more l m t x h k e f = rw add-one (take-suc-set l t x h ∙ ap (λ (y : List Record). y ++ (x ∷ [])) e ∙ ap (λ (y : Record). take t m ++ (y ∷ [])) f ∙ sym (take-suc m t idle k))
+pub one-more : {A : Type 0} (d : A) (l m : List A) (t : ℕ) (x : A) → t < length l → t < length m → take t l ≡ take t m → x ≡ getD m t d → take (t + 1) (set l t x) ≡ take (t + 1) m
+one-more {A} d l m t x h k e f = rw add-one (take-suc-set l t x h ∙ ap (λ (y : List A). y ++ (x ∷ [])) e ∙ ap (λ (y : A). take t m ++ (y ∷ [])) f ∙ sym (take-suc m t d k))
 
-pub all-copied : (l m : List Record) (t : ℕ) → length l ≤ t → length m ≤ t → take t l ≡ take t m → l ≡ m
+pub all-copied : {A : Type 0} (l m : List A) (t : ℕ) → length l ≤ t → length m ≤ t → take t l ≡ take t m → l ≡ m
 all-copied l m t h k e = sym (take-all t l h) ∙ e ∙ take-all t m k
 
 -- words of zeros are idle records

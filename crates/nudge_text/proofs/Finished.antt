@@ -15,15 +15,15 @@ use Rattle.nudge_text.specs.Exchange.{exchanged, movedTo, answerAt}
 use Rattle.nudge_text.proofs.Ledger.{beginOf, begins, answers, begunAt, answering, ended, adding, entered-answers, entered-now, own-begin, begin-cases, ended-is, Early, early-start, early-next, moved-early}
 
 -- the answers hold no pending call, and every finished one with its own answer
-record Found (b : Calls) : Type 0 where
-  unanswered : (t k : ℕ) → begins b t ≡ some k → answers b k ≡ none
-  found : (f : FinishedCall) → f ∈ b .finished → answers b (f .call .start .at) ≡ some (f .report .answer)
+pub record Found (b : Calls) : Type 0 where
+  pub unanswered : (t k : ℕ) → begins b t ≡ some k → answers b k ≡ none
+  pub found : (f : FinishedCall) → f ∈ b .finished → answers b (f .call .start .at) ≡ some (f .report .answer)
 
-found-start : Found noCalls
+pub found-start : Found noCalls
 found-start = record { unanswered = λ t k e. refl; found = λ f i. absurd i }
 
 -- a call that is finished after an entry was finished before it, or the entry ended it
-ending-cases : (b : Calls) (a : Action) (e : Event) (f : FinishedCall) → f ∈ enter b a e .finished
+pub ending-cases : (b : Calls) (a : Action) (e : Event) (f : FinishedCall) → f ∈ enter b a e .finished
     → (f ∈ b .finished) ⊎ ((ended (begins b (taskOf a)) a e ≡ some (f .call .start .at, f .report .answer)) × (f .call .last ≡ b .now))
 ending-cases b a (refused r) f i = inl i
 ending-cases b (begin t op) (accepted x) f i = inl i
@@ -44,14 +44,14 @@ ended-closes n p (begin t op) (answered x r) y h = absurd (clash refl h)
 ended-closes n p (step t) (accepted x) y h = absurd (clash refl h)
 ended-closes n p (step t) (answered x r) y h = refl
 
-kept : (b : Calls) (a : Action) (e : Event) → Found b → (m : ℕ) (r : Response) → answers b m ≡ some r → answers (enter b a e) m ≡ some r
+pub kept : (b : Calls) (a : Action) (e : Event) → Found b → (m : ℕ) (r : Response) → answers b m ≡ some r → answers (enter b a e) m ≡ some r
 kept b a e F m r h = entered-answers b a e m ∙ go (ended (begins b (taskOf a)) a e) refl
   where
     go : (o : Option (ℕ × Response)) → ended (begins b (taskOf a)) a e ≡ o → adding o (answers b m) m ≡ some r
     go none q = h
     go (some (k, s)) q = rw (ne-eqb k m (λ z. clash (F .unanswered (taskOf a) k (ended-is (begins b (taskOf a)) a e k s q)) (ap (answers b) z ∙ h))) h
 
-found-next : (b : Calls) (a : Action) (e : Event) → Early b → Found b → Found (enter b a e)
+pub found-next : (b : Calls) (a : Action) (e : Event) → Early b → Found b → Found (enter b a e)
 found-next b a e E F = record { unanswered = still; found = λ f i. ends f (ending-cases b a e f i) }
   where
     ends : (f : FinishedCall) → (f ∈ b .finished) ⊎ ((ended (begins b (taskOf a)) a e ≡ some (f .call .start .at, f .report .answer)) × (f .call .last ≡ b .now))
@@ -87,12 +87,12 @@ finished-answers h = found-on h noCalls early-start found-start .found
 
 -- AFTER ITS LAST STEP
 
-kept-on : (h : List (Action × Event)) (b : Calls) → Early b → Found b → (m : ℕ) (r : Response) → answers b m ≡ some r → answers (enterAll b h) m ≡ some r
+pub kept-on : (h : List (Action × Event)) (b : Calls) → Early b → Found b → (m : ℕ) (r : Response) → answers b m ≡ some r → answers (enterAll b h) m ≡ some r
 kept-on [] b E F m r q = q
 kept-on (x ∷ h) b E F m r q = kept-on h (enter b (x .0) (x .1)) (early-next b (x .0) (x .1) E) (found-next b (x .0) (x .1) E F) m r (kept b (x .0) (x .1) F m r q)
 
 -- whose last step is past is finished already
-earlier : (h : List (Action × Event)) (b : Calls) (f : FinishedCall) → f ∈ enterAll b h .finished → f .call .last < b .now → f ∈ b .finished
+pub earlier : (h : List (Action × Event)) (b : Calls) (f : FinishedCall) → f ∈ enterAll b h .finished → f .call .last < b .now → f ∈ b .finished
 earlier [] b f i l = i
 earlier (x ∷ h) b f i l = go (ending-cases b (x .0) (x .1) f (earlier h (enter b (x .0) (x .1)) f i (rw (entered-now b (x .0) (x .1)) (omega (arith, l)))))
   where

@@ -15,13 +15,13 @@ use Rattle.nudge_text.specs.Exchange.{exchanged, movedTo, answerIn, answ
 
 -- WHERE AN ENTRY STANDS AFTER THE EXCHANGE
 
-moved-first : (i m : ℕ) → m ≡ i → movedTo i m ≡ suc i
+pub moved-first : (i m : ℕ) → m ≡ i → movedTo i m ≡ suc i
 moved-first i m e = rw (eq-eqb m i e)
 
-moved-second : (i m : ℕ) → m ≡ suc i → movedTo i m ≡ i
+pub moved-second : (i m : ℕ) → m ≡ suc i → movedTo i m ≡ i
 moved-second i m e = rw (ne-eqb m i (λ z. omega (arith, e, z)), eq-eqb m (suc i) e)
 
-moved-other : (i m : ℕ) → m ≢ i → m ≢ suc i → movedTo i m ≡ m
+pub moved-other : (i m : ℕ) → m ≢ i → m ≢ suc i → movedTo i m ≡ m
 moved-other i m n o = rw (ne-eqb m i n, ne-eqb m (suc i) o)
 
 pub moved-early : (i m : ℕ) → m < i → movedTo i m ≡ m
@@ -31,7 +31,7 @@ moved-late : (i m : ℕ) → suc i < m → movedTo i m ≡ m
 moved-late i m l = moved-other i m (λ e. omega (arith, l, e)) (λ e. omega (arith, l, e))
 
 -- exchanged twice it is where it was
-moved-back : (i m : ℕ) → movedTo i (movedTo i m) ≡ m
+pub moved-back : (i m : ℕ) → movedTo i (movedTo i m) ≡ m
 moved-back i m = go (either m i) (either m (suc i))
   where
     go : (m ≡ i) ⊎ (m ≢ i) → (m ≡ suc i) ⊎ (m ≢ suc i) → movedTo i (movedTo i m) ≡ m
@@ -131,7 +131,7 @@ entered-now b (step t) (answered x r) = refl
 pub own-begin : (b : Calls) (a : Action) (e : Event) → begins (enter b a e) (taskOf a) ≡ begunAt (b .now) (begins b (taskOf a)) a e
 own-begin b a e = entered-begins b a e (taskOf a) ∙ upd-same (begins b) (taskOf a) _
 
-other-begin : (b : Calls) (a : Action) (e : Event) (s : ℕ) → s ≢ taskOf a → begins (enter b a e) s ≡ begins b s
+pub other-begin : (b : Calls) (a : Action) (e : Event) (s : ℕ) → s ≢ taskOf a → begins (enter b a e) s ≡ begins b s
 other-begin b a e s n = entered-begins b a e s ∙ upd-off (begins b) (taskOf a) _ s n
 
 -- EVERY CALL WAS BEGUN BEFORE NOW, each at a moment of its own

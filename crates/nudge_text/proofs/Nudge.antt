@@ -83,7 +83,7 @@ module _ (g : ℕ → Bool) where
 
 -- EXCHANGES THAT NUDGE NOTHING
 
-same-itself : (a : Response) → sameAnswer a a ≡ true
+pub same-itself : (a : Response) → sameAnswer a a ≡ true
 same-itself (Value v) = eq-eqb v v refl
 same-itself Yes = refl
 same-itself No = refl
@@ -92,10 +92,10 @@ never : (c : Bool) → (c && false) ≡ false
 never true = refl
 never false = refl
 
-still : (x : Pool) (l : List Action) (m : ℕ) (a : Response) (i : ℕ) → answerAt (movedTo i m) (history pool x (exchanged i l)) ≡ some a → nudges x l m a i ≡ false
+pub still : (x : Pool) (l : List Action) (m : ℕ) (a : Response) (i : ℕ) → answerAt (movedTo i m) (history pool x (exchanged i l)) ≡ some a → nudges x l m a i ≡ false
 still x l m a i h = ap (λ o. ofTwoTasks i l && not (answersStill a o)) h ∙ (ap (λ c. ofTwoTasks i l && not c) (same-itself a) ∙ never (ofTwoTasks i l))
 
-short : (i : ℕ) (l : List Action) → length l ≤ i → ofTwoTasks i l ≡ false
+pub short : (i : ℕ) (l : List Action) → length l ≤ i → ofTwoTasks i l ≡ false
 short i [] h = refl
 short zero (a ∷ l) h = absurd (omega (arith, h))
 short (suc i) (a ∷ l) h = short i l (omega (arith, h))

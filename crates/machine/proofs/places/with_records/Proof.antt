@@ -4,6 +4,7 @@ use Prim.Native.Nat.{_+_, _-_, _*_, _≤_}
 use lib.ListN.{length, take, set, length-set}
 use mathlib.Core.List.{List}
 use Rattle.lines.specs.declared.Record.{Record}
+use Rattle.lines.specs.Record.{idle}
 use Rattle.pool.specs.Words.{recordsOf}
 use Rattle.questions.specs.declared.State.{State}
 use Rattle.machine.proofs.Placing.{records-length, one-more, all-copied}
@@ -33,7 +34,7 @@ loop-again c =
     let h = c .before .loop-test .taken in (
       omega (arith, h),
       length-set (l .s .records) l.t (c .record-at .result) ∙ l .inv .1,
-      one-more (l .s .records) (recordsOf 32 w) l.t _ (omega (arith, h, l .inv .1)) (omega (arith, h, records-length 32 w)) (l .inv .2) (c .record-at .ensures),
+      one-more idle (l .s .records) (recordsOf 32 w) l.t _ (omega (arith, h, l .inv .1)) (omega (arith, h, records-length 32 w)) (l .inv .2) (c .record-at .ensures),
       ap (λ (s : State). with s (set (l .s .records) l.t (c .record-at .result))) (l .inv .3),
     )
 

@@ -1,0 +1,4 @@
+pub mod Following
+pub mod Exchanging
+pub mod Steps
+pub mod Naming
