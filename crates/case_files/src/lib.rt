@@ -1,4 +1,6 @@
 // The files that a program's arguments name, each of them a case.
+pub mod first_line;
+
 ghost use Rattle.io.specs.Counts.{Counts};
 use libc::STDOUT_FILENO;
 use report::Input;

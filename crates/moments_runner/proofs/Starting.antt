@@ -1,16 +1,14 @@
--- From an opening on: records that fit a word, the text of the marks, and the whole.
+-- From an opening on: records that fit a word, and the text of the marks.
 use mathlib.Core.Path.{_≡_, refl, sym, ap, subst, _∙_}
 use mathlib.Core.Logic.{inl, inr}
 use mathlib.Core.Bool.{Bool, true, false}
-use mathlib.Core.List.{List, [], _++_}
+use mathlib.Core.List.{List, []}
 use Prim.Native.Nat.{ℕ, _≤_, _<_}
 use native.Mathlib.Omega.{arith}
-use borrow.Author.Tests.{ltb-true, le-leb, lt-leb}
+use borrow.Author.Tests.{ltb-true}
 use lib.Dec.{ltb}
-use lib.ListN.{length, drop}
-use Rattle.io.specs.Counts.{Counts}
+use lib.ListN.{length}
 use Rattle.text.specs.Append.{Appended}
-use Rattle.text.proofs.Appending.{nothing, entire}
 use Rattle.lines.specs.declared.Record.{Record}
 use Rattle.lines.specs.Record.{recordAt}
 use Rattle.questions.specs.declared.State.{State}
@@ -24,11 +22,7 @@ use Rattle.refinement.proofs.Reaching.{reached-fit}
 use Rattle.refinement.proofs.Refines.{together}
 use Rattle.history.specs.History.{Action}
 use Rattle.machine.proofs.Turning.{reached-small}
-use Rattle.session_file.specs.Session.{verdict}
-use Rattle.session_start.specs.Start.{Start, startOf, toolStart}
-use Rattle.session_start.proofs.Starting.{tool-started}
-use Rattle.session_text.specs.Tools.{toolText, toolPrinted, toolWithin}
-use Rattle.moments_text.specs.Printed.{momentsText, momentsWithin}
+use Rattle.moments_text.specs.Printed.{momentsText}
 use Rattle.moments_runner.specs.Words.{wordLines, Listed}
 use Rattle.moments_runner.specs.Notes.{slot}
 use Rattle.moments_runner.specs.Loop.{allMarks}
@@ -72,26 +66,3 @@ marks-printed n x l h = listed-lines h
 
 pub printed : {old new : List ℕ} {r : ℕ} (n : ℕ) (x : Pool) (l : List Action) {words : List ℕ} → Listed words (allMarks n x l) → Appended old new 0 r (wordLines words) → Appended old new 0 r (momentsText n x l)
 printed {old} {new} {r} n x l h p = subst (Appended old new 0 r) (marks-printed n x l h) p
-
--- THE WHOLE
-
-with-room : (s : List ℕ) (n : ℕ) → 2400000 ≤ n → toolText momentsText (verdict s) ≡ momentsWithin n s
-unfolding toolWithin toolPrinted
-with-room s n h = rw (le-leb 2400000 n h)
-
-no-room : (s : List ℕ) (n : ℕ) → n < 2400000 → [] ≡ momentsWithin n s
-unfolding toolWithin
-no-room s n h = rw (lt-leb 2400000 n h)
-
-module _ (s old new : List ℕ) (r : ℕ) where
-  abbrev text : List ℕ
-  text = momentsWithin (length old) s
-
-  abbrev Entire : Type 0
-  Entire = (new ≡ text ++ drop r old) × ((r ≡ length text) × Counts r new)
-
-  pub all-printed : {x : Start} → Appended old new 0 r (toolStart momentsText x) → x ≡ startOf (verdict s) → 2400000 ≤ length old → Entire
-  all-printed a e h = entire text a (ap (toolStart momentsText) e ∙ tool-started momentsText (verdict s) ∙ with-room s (length old) h)
-
-pub none-printed : (s old : List ℕ) → length old < 2400000 → Entire s old old 0
-none-printed s old h = entire (text s old old 0) (nothing old 0) (no-room s (length old) h)

@@ -1,14 +1,14 @@
-use native.Mathlib.Omega.{arith}
 use borrow.Author.Needs.{needs}
-use Rattle.moments_runner.proofs.Starting.{none-printed, all-printed}
+use Rattle.moments_text.specs.Printed.{momentsText}
+use Rattle.session_start.proofs.Starting.{nothing-printed, all-printed}
 use Rattle.moments_runner.proofs.run_moments.Statement.{statement}
 use Rattle.moments_runner.proofs.run_moments.Tie as tie
 
 returns : tie.Need-returns
-returns c = none-printed _ _ (omega arith)
+returns c = nothing-printed 2400000 momentsText _ _ (c .if1 .taken)
 
 returns-2 : tie.Need-returns-2
-returns-2 c = all-printed _ _ _ _ (c .before .before .before .print .ensures) (c .before .before .before .before .before .before .before .before .before .before .before .before .before .open-session .ensures .0) (c .before .before .before .before .before .before .before .before .before .before .before .before .before .before .before .before .before .before .before .before .before .before .if1 .left)
+returns-2 c = all-printed 2400000 momentsText _ _ _ _ (c .before .before .before .print .ensures) (c .before .before .before .before .before .before .before .before .before .before .before .before .before .open-session .ensures .0) (c .before .before .before .before .before .before .before .before .before .before .before .before .before .before .before .before .before .before .before .before .before .before .if1 .left)
 
 pub run-moments-spec : {M : Type 1} → statement M
 run-moments-spec =

@@ -2,8 +2,8 @@ use borrow.Author.Needs.{needs}
 use Rattle.text.specs.Readers.{word, number}
 use Rattle.text.proofs.Reading.{place-at, number-at}
 use lib.ListN.{length}
-use Rattle.nudge_cases.proofs.read_item.Statement.{statement}
-use Rattle.nudge_cases.proofs.read_item.Tie as tie
+use Rattle.case_files.proofs.first_line.read_item.Statement.{statement}
+use Rattle.case_files.proofs.first_line.read_item.Tie as tie
 
 starts-with-requires : tie.Need-starts-with-requires
 starts-with-requires c κs = let a = c .before .before .before .before .before .before .args in number-at a.s.now a.at number 1 (c .before .read .given .1) (c .before .before .before .number .ensures) .within
