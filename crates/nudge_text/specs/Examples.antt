@@ -27,13 +27,17 @@ prints :
     Prints (
     -- answers otherwise: at action 10 the read loads V, at 11 the swap stores it
     ((1, 0), ("(open 2 1 5 (5))\n(swap 0 0 5 9)\n(again 7 (step 0))\n(read 1 0)\n(again 2 (step 1))\n(step 0)\n(step 1)\n", "(nudge 10)\n")) ∷
-    -- none for the same task's next call
+    -- the earliest: exchange 16 too has the read answer 7, because the block is then inactive, and decided
+    ((1, 0), ("(open 3 1 7 (5))\n(swap 0 0 5 7)\n(again 7 (step 0))\n(swap 2 0 5 9)\n(again 3 (step 2))\n(read 1 0)\n(again 2 (step 1))\n(step 0)\n(step 1)\n(step 2)\n(again 3 (step 1))\n", "(nudge 14)\n")) ∷
+    -- none for the next call of the first session's reader
     ((1, 1), ("(open 2 1 5 (5))\n(swap 0 0 5 9)\n(again 7 (step 0))\n(read 1 0)\n(again 2 (step 1))\n(step 0)\n(step 1)\n(read 1 0)\n(again 3 (step 1))\n", "(nudge none)\n")) ∷
     -- does not finish: exchanged, actions 4 and 5 leave the other task in X, and the swap has more than its ten steps to do
     ((1, 0), ("(open 2 1 5 (5))\n(swap 1 0 5 7)\n(step 1)\n(swap 0 0 5 9)\n(again 2 (step 0))\n(again 9 (step 1))\n", "(nudge 4)\n")) ∷
     -- is not begun: no exchange with another task's action has a begin refused, but one before it may leave the same task's call before it
     -- unfinished, and then it is refused with 9
     ((1, 1), ("(open 2 1 5 (5))\n(swap 1 0 5 7)\n(step 1)\n(swap 0 0 5 9)\n(again 2 (step 0))\n(again 9 (step 1))\n(read 1 0)\n(again 3 (step 1))\n", "(nudge 4)\n")) ∷
+    -- none: exchanged, action 12 has the read take three steps more, to the same answer; answers are compared, not counts
+    ((2, 0), ("(open 3 1 7 (5))\n(swap 1 0 5 7)\n(again 4 (step 1))\n(swap 0 0 5 9)\n(again 3 (step 0))\n(read 2 0)\n(again 3 (step 2))\n(step 0)\n(again 3 (step 2))\n", "(nudge none)\n")) ∷
     -- none: the begin is followed to place 0; a refused action of a task that there is not is of another task; a task's own are not exchanged
     ((1, 0), ("(open 2 1 5 (5))\n(step 7)\n(read 1 0)\n(again 3 (step 1))\n", "(nudge none)\n")) ∷
     -- 18: one call too far; no such task; a call that is not finished
@@ -47,4 +51,4 @@ prints :
     []
     )
 unfolding digits word digitsAfter number fit recordFit cellsFit recordsFit hasNone openQuestions uses countsTrue found recounted opened readBegun swapBegun ran stepped fits deeper shapedAfter reader.numbers reader.manyWithin reader.values reader.opening reader.keyword reader.head reader.body reader.form reader.line reader.count reader.times reader.actions reader.asked14 reader.formed reader.verdict numbers upd earliest nudge toolAfterOpen toolPrinted reader.asked15
-prints = (refl, (refl, (refl, (refl, (refl, (refl, (refl, (refl, (refl, (refl, (refl, tt)))))))))))
+prints = (refl, (refl, (refl, (refl, (refl, (refl, (refl, (refl, (refl, (refl, (refl, (refl, (refl, tt)))))))))))))
