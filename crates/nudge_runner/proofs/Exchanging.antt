@@ -3,7 +3,7 @@ use mathlib.Core.Path.{_≡_, refl, sym, ap, subst, _∙_}
 use mathlib.Core.Logic.{_≢_, _⊎_, inl, inr}
 use mathlib.Core.Bool.{Bool, true, false, not, _&&_}
 use mathlib.Core.Option.{Option, none, some}
-use mathlib.Core.List.{List, [], _∷_, _++_, map}
+use mathlib.Core.List.{List, [], _∷_, _++_, map, append-nil}
 use Prim.Native.Nat.{ℕ, zero, suc, _+_, _≤_, _<_}
 use native.Mathlib.Nat.{add-zero, zero-add}
 use native.Mathlib.Omega.{arith}
@@ -163,11 +163,7 @@ module _ (old : State) (words : List ℕ) (tasks cells blocks : ℕ) (values : L
       m = f .call .start .at
 
       its-task : whoOf l m ≡ f .call .start .task
-      its-task = between-on (history pool x₀ l) (subst (λ h. Between (whoOf l) cells noCalls h) (sym (no-more (history pool x₀ l))) (between l)) .whose .of-finished f finished
-        where
-          no-more : (h : List (Action × Event)) → h ++ [] ≡ h
-          no-more [] = refl
-          no-more (x ∷ h) = ap (λ h. x ∷ h) (no-more h)
+      its-task = between-on (history pool x₀ l) (subst (λ h. Between (whoOf l) cells noCalls h) (sym (append-nil (history pool x₀ l))) (between l)) .whose .of-finished f finished
 
       moved-task : whoOf (exchanged i l) (movedTo i m) ≡ f .call .start .task
       moved-task =

@@ -26,8 +26,8 @@ use Rattle.machine.proofs.Listed.{action-then, no-action}
 use Rattle.refinement.specs.Reached.{Reached}
 use Rattle.refinement.proofs.Reaching.{reached-fit}
 use Rattle.nudge_text.specs.Exchange.{exchanged, movedTo, answerAt}
-use Rattle.nudge_text.specs.Nudge.{after, answersStill, nudges, ofTwoTasks, earliest}
-use Rattle.nudge_text.proofs.Nudge.{later-no-nudge}
+use Rattle.nudge_text.specs.Nudge.{after, answersStill, nudges, earliest}
+use Rattle.nudge_text.proofs.Nudge.{alone, later-no-nudge}
 use Rattle.nudge_runner.specs.declared.calls.Noted.{Noted}
 use Rattle.nudge_runner.specs.declared.calls.Noted.the-variants as code
 use Rattle.nudge_runner.specs.Calls.{Summary, Note, noteOf, begunAfter, listing, calls, answerOfCall, noted, Finishes}
@@ -188,18 +188,12 @@ module _ (g : ℕ → Bool) where
   earliest-never zero i h = refl
   earliest-never (suc k) i h = rw (h i (omega arith)) (earliest-never k (i + 1) (λ j o. h j (omega (arith, o))))
 
-alone : (i : ℕ) (l : List Action) → length l ≤ suc i → ofTwoTasks i l ≡ false
-alone i [] h = refl
-alone zero (a ∷ []) h = refl
-alone zero (a ∷ b ∷ l) h = absurd (omega (arith, h))
-alone (suc i) (a ∷ l) h = alone i l (omega (arith, h))
-
 module _ (x : Pool) (l : List Action) where
   -- no exchange is left
   pub none-left : (m : ℕ) (r : Response) (i k : ℕ) → length l ≤ i + 1 → earliest (nudges x l m r) i k ≡ none
   none-left m r i k h = earliest-never (nudges x l m r) k i (λ j o. ap (λ (c : Bool). c && not (answersStill r (answerAt (movedTo j m) (history pool x (exchanged j l))))) (alone j l (omega (arith, h, o, add-one i))))
 
-  -- nor is one before the call's last step
+  -- none nudges the call after its last step
   pub none-later : (t : ℕ) (c : Summary) → Finishes (history pool x l) t c → (i k : ℕ) → c .last < i → earliest (nudges x l (c .begun) (c .answer)) i k ≡ none
   none-later t c N i k h =
       earliest-never (nudges x l (c .begun) (c .answer)) k i (λ j o.

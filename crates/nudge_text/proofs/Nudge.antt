@@ -2,7 +2,7 @@
 use mathlib.Core.Path.{_≡_, refl, sym, ap, _∙_}
 use mathlib.Core.Logic.{_⊎_, inl, inr}
 use mathlib.Core.Bool.{Bool, true, false, not, _&&_, cond}
-use mathlib.Core.Option.{Option, none, some}
+use mathlib.Core.Option.{none, some}
 use mathlib.Core.List.{List, [], _∷_, _++_}
 use Prim.Native.Nat.{ℕ, zero, suc, _+_, _≤_, _<_}
 use lib.Dec.{eqb, ltb}
@@ -83,7 +83,7 @@ module _ (g : ℕ → Bool) where
 
 -- EXCHANGES THAT NUDGE NOTHING
 
-pub same-itself : (a : Response) → sameAnswer a a ≡ true
+same-itself : (a : Response) → sameAnswer a a ≡ true
 same-itself (Value v) = eq-eqb v v refl
 same-itself Yes = refl
 same-itself No = refl
@@ -92,13 +92,15 @@ never : (c : Bool) → (c && false) ≡ false
 never true = refl
 never false = refl
 
-pub still : (x : Pool) (l : List Action) (m : ℕ) (a : Response) (i : ℕ) → answerAt (movedTo i m) (history pool x (exchanged i l)) ≡ some a → nudges x l m a i ≡ false
+still : (x : Pool) (l : List Action) (m : ℕ) (a : Response) (i : ℕ) → answerAt (movedTo i m) (history pool x (exchanged i l)) ≡ some a → nudges x l m a i ≡ false
 still x l m a i h = ap (λ o. ofTwoTasks i l && not (answersStill a o)) h ∙ (ap (λ c. ofTwoTasks i l && not c) (same-itself a) ∙ never (ofTwoTasks i l))
 
-pub short : (i : ℕ) (l : List Action) → length l ≤ i → ofTwoTasks i l ≡ false
-short i [] h = refl
-short zero (a ∷ l) h = absurd (omega (arith, h))
-short (suc i) (a ∷ l) h = short i l (omega (arith, h))
+-- there is no action after action i
+pub alone : (i : ℕ) (l : List Action) → length l ≤ suc i → ofTwoTasks i l ≡ false
+alone i [] h = refl
+alone zero (a ∷ []) h = refl
+alone zero (a ∷ b ∷ l) h = absurd (omega (arith, h))
+alone (suc i) (a ∷ l) h = alone i l (omega (arith, h))
 
 module _ (x : Pool) (actions : List Action) (f : FinishedCall) (finished : f ∈ callsOf (history pool x actions) .finished) where
   abbrev nudgesIt : ℕ → Bool
@@ -128,7 +130,7 @@ module _ (x : Pool) (actions : List Action) (f : FinishedCall) (finished : f ∈
     where
       go : (c : Bool) → ltb i (length actions) ≡ c → nudgesIt i ≡ false
       go true q = earliest-none nudgesIt (length actions) 0 h i (omega arith) (omega (arith, ltb-true i (length actions) q))
-      go false q = ap (λ c. c && not (answersStill (f .report .answer) (answerAt (movedTo i (f .call .start .at)) (history pool x (exchanged i actions))))) (short i actions (ltb-false i (length actions) q))
+      go false q = ap (λ c. c && not (answersStill (f .report .answer) (answerAt (movedTo i (f .call .start .at)) (history pool x (exchanged i actions))))) (alone i actions (omega (arith, ltb-false i (length actions) q)))
 
 -- From an opening that is not refused, an exchange of two actions that are apart nudges no finished call.
 pub apart-no-nudge : (old : State) (words : List ℕ) (tasks cells blocks : ℕ) (values : List ℕ) → refusal (openQuestions (length words) tasks cells blocks values) ≡ none
