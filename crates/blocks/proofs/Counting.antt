@@ -1,6 +1,7 @@
--- How often all blocks are used, added up: each cell names one block, a task uses at most two, and at line 4 at most one.
+-- How many blocks are in use, added up: each cell names one block, each task but one holds at most one that was replaced, and each but the
+-- one at line 4 has taken at most one.
 use mathlib.Core.Path.{_≡_, refl}
-use mathlib.Core.Bool.{Bool, true, false, _&&_, cond}
+use mathlib.Core.Bool.{Bool, true, false, _&&_, not, cond}
 use Prim.Native.Nat.{ℕ, zero, suc, _+_, _*_, _≤_, _<_}
 use native.Mathlib.Omega.{arith}
 use lib.Dec.{eqb}
@@ -10,8 +11,9 @@ use Rattle.lines.specs.declared.Record.{Record}
 use Rattle.questions.specs.declared.State.{State}
 use Rattle.lines.specs.Basics.{sumFrom}
 use Rattle.lines.specs.Record.{isIdle, recordAt}
-use Rattle.questions.specs.Questions.{holds, hasTaken, recordUses, uses}
-use Rattle.questions.proofs.Sums.{once, once-most, sum-zero, sum-most, sum-less, sum-add, sum-turned}
+use Rattle.questions.specs.Questions.{hasTaken}
+use Rattle.blocks.specs.Blocks.{holdsReplaced}
+use Rattle.questions.proofs.Sums.{once, once-most, sum-zero, sum-same, sum-most, sum-less, sum-add, sum-turned}
 
 -- where k numbers add up to less than k, one of them is 0
 pub gap : (f : ℕ → ℕ) (i k : ℕ) → sumFrom f i k < k → (b : ℕ) × (b < i + k) × (f b ≡ 0)
@@ -40,50 +42,59 @@ sum-if : (y : Bool) (x i k : ℕ) → sumFrom (λ b. cond (y && eqb x b) 1 0) i 
 sum-if true x i k = sum-one x i k
 sum-if false x i k = omega (arith, sum-zero (λ b. 0) i k (λ b l m. refl))
 
--- WHAT ONE RECORD USES
+-- WHAT KEEPS A BLOCK IN USE
 
-module _ (r : Record) (n : ℕ) where
-  busy-uses : sumFrom (λ b. cond (holds r && eqb (r .held) b) 1 0 + cond (hasTaken r && eqb (r .taken) b) 1 0) 0 n ≤ cond (holds r) 1 0 + cond (hasTaken r) 1 0
-  busy-uses =
-      omega (
-        arith,
-        sum-add (λ b. cond (holds r && eqb (r .held) b) 1 0) (λ b. cond (hasTaken r && eqb (r .taken) b) 1 0) 0 n,
-        sum-if (holds r) (r .held) 0 n,
-        sum-if (hasTaken r) (r .taken) 0 n,
-      )
+-- a task that holds it, if it was replaced
+abbrev pub holderOf : State → Record → ℕ → ℕ
+holderOf s r b = once (holdsReplaced s r && eqb (r .held) b)
 
-  record-uses : sumFrom (recordUses r) 0 n ≤ cond (holds r) 1 0 + cond (hasTaken r) 1 0
-  record-uses = go (isIdle r)
-    where
-      go : (x : Bool) → sumFrom (λ b. cond x 0 (cond (holds r && eqb (r .held) b) 1 0 + cond (hasTaken r && eqb (r .taken) b) 1 0)) 0 n ≤ cond (holds r) 1 0 + cond (hasTaken r) 1 0
-      go true = omega (arith, sum-zero (λ b. 0) 0 n (λ b l m. refl))
-      go false = busy-uses
-
-  pub at-most-two : sumFrom (recordUses r) 0 n ≤ 2
-  at-most-two = omega (arith, record-uses, once-most (holds r), once-most (hasTaken r))
-
-  pub at-most-one : r .line ≡ 4 → sumFrom (recordUses r) 0 n ≤ 1
-  at-most-one e =
-      let z : _≡_ {A = ℕ} (cond (hasTaken r) 1 0) 0 = rw e in
-      omega (arith, record-uses, once-most (holds r))
-
--- THE WHOLE TABLE
+-- a task that has taken it
+abbrev pub takerOf : Record → ℕ → ℕ
+takerOf r b = once ((not (isIdle r) && hasTaken r) && eqb (r .taken) b)
 
 module _ (s : State) where
-  abbrev cellUses : ℕ → ℕ → ℕ
-  cellUses k b = cond (eqb (getD (s .current) k 0) b) 1 0
+  abbrev names : (cell block : ℕ) → ℕ
+  names k b = once (eqb (getD (s .current) k 0) b)
 
-  abbrev taskUses : ℕ → ℕ → ℕ
-  taskUses t b = recordUses (recordAt (s .records) t) b
+  abbrev holding : (task block : ℕ) → ℕ
+  holding t = holderOf s (recordAt (s .records) t)
 
-  -- Where a task is at line 4, all blocks together are used at most V + 2N - 1 times.
-  pub all-uses : (t : ℕ) → t < s .tasks → recordAt (s .records) t .line ≡ 4 → sumFrom (uses s) 0 (s .blocks) < s .cells + 2 * s .tasks
-  unfolding uses
-  all-uses t own e =
-      let n = s .blocks in
-      let parts = sum-add (λ b. sumFrom (λ k. cellUses k b) 0 (s .cells)) (λ b. sumFrom (λ t. taskUses t b) 0 (s .tasks)) 0 n in
-      let cells = sum-turned cellUses 0 (s .cells) 0 n in
-      let tasks = sum-turned taskUses 0 (s .tasks) 0 n in
-      let few = sum-most (λ k. sumFrom (cellUses k) 0 n) 1 0 (s .cells) (λ k. sum-one (getD (s .current) k 0) 0 n) in
-      let fewer = sum-less (λ t. sumFrom (taskUses t) 0 n) t 0 (s .tasks) (λ t. at-most-two (recordAt (s .records) t) n) (at-most-one (recordAt (s .records) t) n e) (omega arith) (omega arith) in
-      omega (arith, parts, cells, tasks, few, fewer)
+  abbrev taking : (task block : ℕ) → ℕ
+  taking t = takerOf (recordAt (s .records) t)
+
+  -- and a cell that names it
+  abbrev pub claims : ℕ → ℕ
+  claims b = sumFrom (λ k. names k b) 0 (s .cells) + sumFrom (λ t. holding t b + taking t b) 0 (s .tasks)
+
+  module _ (n : ℕ) where
+    abbrev held : ℕ → ℕ
+    held t = sumFrom (holding t) 0 n
+
+    abbrev taken : ℕ → ℕ
+    taken t = sumFrom (taking t) 0 n
+
+    holds-one : (t : ℕ) → held t ≤ once (holdsReplaced s (recordAt (s .records) t))
+    holds-one t = let r = recordAt (s .records) t in sum-if (holdsReplaced s r) (r .held) 0 n
+
+    takes-one : (t : ℕ) → let r = recordAt (s .records) t in taken t ≤ once (not (isIdle r) && hasTaken r)
+    takes-one t = let r = recordAt (s .records) t in sum-if (not (isIdle r) && hasTaken r) (r .taken) 0 n
+
+    holds-none : (w : ℕ) → holdsReplaced s (recordAt (s .records) w) ≡ false → held w ≡ 0
+    holds-none w e = let z : once (holdsReplaced s (recordAt (s .records) w)) ≡ 0 = rw e in omega (arith, holds-one w)
+
+    takes-none : (t : ℕ) → recordAt (s .records) t .line ≡ 4 → taken t ≡ 0
+    takes-none t e = let r = recordAt (s .records) t in let z : once (not (isIdle r) && hasTaken r) ≡ 0 = rw e in omega (arith, takes-one t)
+
+    -- Where task w holds no replaced block, and task t, at line 4, has taken none: of n blocks at most V + (N - 1) + (N - 1) are in use.
+    pub few-claims : (w t : ℕ) → w < s .tasks → holdsReplaced s (recordAt (s .records) w) ≡ false → t < s .tasks → recordAt (s .records) t .line ≡ 4
+        → sumFrom claims 0 n + 2 ≤ s .cells + 2 * s .tasks
+    few-claims w t l e m g =
+        let parts = sum-add (λ b. sumFrom (λ k. names k b) 0 (s .cells)) (λ b. sumFrom (λ t. holding t b + taking t b) 0 (s .tasks)) 0 n in
+        let cells = sum-turned names 0 (s .cells) 0 n in
+        let tasks = sum-turned (λ t b. holding t b + taking t b) 0 (s .tasks) 0 n in
+        let each = sum-same (λ t. held t + taken t) (λ t. sumFrom (λ b. holding t b + taking t b) 0 n) 0 (s .tasks) (λ t _ _. sum-add (holding t) (taking t) 0 n) in
+        let both = sum-add held taken 0 (s .tasks) in
+        let named = sum-most (λ k. sumFrom (names k) 0 n) 1 0 (s .cells) (λ k. sum-one (getD (s .current) k 0) 0 n) in
+        let holders = sum-less held w 0 (s .tasks) (λ t. omega (arith, holds-one t, once-most (holdsReplaced s (recordAt (s .records) t)))) (holds-none w e) (omega arith) (omega arith) in
+        let takers = sum-less taken t 0 (s .tasks) (λ t. let r = recordAt (s .records) t in omega (arith, takes-one t, once-most (not (isIdle r) && hasTaken r))) (takes-none t g) (omega arith) (omega arith) in
+        omega (arith, parts, cells, tasks, each, both, named, holders, takers)

@@ -1,5 +1,5 @@
--- The counts tell which blocks are used; at line 4 some block is unused, and the search by the counts finds the one that a search of the
--- table would.
+-- The counts tell which blocks are used; where some task holds no replaced block, one is unused at line 4; and the search by the counts finds
+-- the one that a search of the table would.
 use mathlib.Core.Path.{_≡_, refl, sym, _∙_}
 use mathlib.Core.Logic.{_⊎_, inl, inr, ⊎-elim}
 use mathlib.Core.Bool.{Bool, true, false, _&&_, _||_, not, cond, and-eq-true-iff, false≢true}
@@ -15,12 +15,12 @@ use Rattle.lines.specs.declared.Record.{Record}
 use Rattle.questions.specs.declared.State.{State}
 use Rattle.lines.specs.Basics.{sumFrom, anyFrom}
 use Rattle.lines.specs.Record.{isIdle, recordAt}
-use Rattle.questions.specs.Questions.{holds, hasTaken, blocksOk, recordUses, uses, countsTrue, fit, fitTests}
-use Rattle.blocks.specs.Blocks.{isCurrent, usedByTask, used, usesBlock, blockAfter, unusedFrom, found, unused, readFrom}
-use Rattle.questions.proofs.Tests.{nth, blocks-true, blocks-most}
-use Rattle.questions.proofs.Sums.{sum-same}
+use Rattle.questions.specs.Questions.{holds, hasTaken, blocksOk, recordUses, namesOf, uses, countsTrue, fit, fitTests}
+use Rattle.blocks.specs.Blocks.{isCurrent, usedByTask, used, usesBlock, holdsReplaced, Spare, blockAfter, unusedFrom, found, unused, readFrom}
+use Rattle.questions.proofs.Tests.{nth, none-of, blocks-true, blocks-most}
+use Rattle.questions.proofs.Sums.{once}
 use Rattle.questions.proofs.Uses.{count-is}
-use Rattle.blocks.proofs.Counting.{gap, all-uses}
+use Rattle.blocks.proofs.Counting.{gap, holderOf, takerOf, claims, few-claims}
 
 -- A COUNT IS 0 EXACTLY IF THE TABLE SAYS THAT THE BLOCK IS NOT USED
 
@@ -50,17 +50,32 @@ record-none r b = go (isIdle r) (holds r && eqb (r .held) b) (hasTaken r && eqb 
     go false false true = refl
     go false false false = refl
 
+none-names : (s : State) (b : ℕ) → eqb (namesOf (s .current) b (s .cells)) 0 ≡ not (isCurrent s b)
+unfolding isCurrent
+none-names s b = none-adds (λ k. cond (eqb (getD (s .current) k 0) b) 1 0) (λ k. eqb (getD (s .current) k 0) b) (λ k. one-is-zero (eqb (getD (s .current) k 0) b)) 0 (s .cells)
+
 none-uses : (s : State) (b : ℕ) → eqb (uses s b) 0 ≡ not (used s b)
-unfolding uses used isCurrent usedByTask
+unfolding uses used usedByTask
 none-uses s b =
-    let cells = none-adds (λ k. cond (eqb (getD (s .current) k 0) b) 1 0) (λ k. eqb (getD (s .current) k 0) b) (λ k. one-is-zero (eqb (getD (s .current) k 0) b)) 0 (s .cells) in
     let tasks = none-adds (λ t. recordUses (recordAt (s .records) t) b) (λ t. usesBlock (recordAt (s .records) t) b) (λ t. record-none (recordAt (s .records) t) b) 0 (s .tasks) in
-    sum-is-zero (sumFrom (λ k. cond (eqb (getD (s .current) k 0) b) 1 0) 0 (s .cells)) (sumFrom (λ t. recordUses (recordAt (s .records) t) b) 0 (s .tasks))
-    ∙ rw (cells, tasks, not-or (isCurrent s b) (usedByTask s b))
+    sum-is-zero (namesOf (s .current) b (s .cells)) (sumFrom (λ t. recordUses (recordAt (s .records) t) b) 0 (s .tasks))
+    ∙ rw (none-names s b, tasks, not-or (isCurrent s b) (usedByTask s b))
 
 -- Where the counts are true, a block's count is 0 exactly if document 01's `used` says no.
 pub count-of-unused : (s : State) → countsTrue s ≡ true → (b : ℕ) → b < s .blocks → eqb (getD (s .counts) b 0) 0 ≡ not (used s b)
 count-of-unused s e b h = rw (count-is s e b h) (none-uses s b)
+
+-- a cell's block is current
+pub named-current : (s : State) (k : ℕ) → k < s .cells → isCurrent s (getD (s .current) k 0) ≡ true
+unfolding isCurrent
+named-current s k h = go (isCurrent s b) refl
+  where
+    b : ℕ
+    b = getD (s .current) k 0
+
+    go : (x : Bool) → isCurrent s b ≡ x → x ≡ true
+    go true e = refl
+    go false e = sym (none-of (λ j. eqb (getD (s .current) j 0) b) 0 (s .cells) e k (omega arith) (omega arith)) ∙ eq-eqb b b refl
 
 -- GOING ROUND
 
@@ -139,24 +154,54 @@ unless-not : (x : Bool) → not x ≡ true → x ≡ false
 unless-not true h = absurd (false≢true h)
 unless-not false h = refl
 
--- the counts of all blocks add up to at most V + 2N - 1, so one of the V + 2N or more is 0
-free : (s : State) (t : ℕ) → countsTrue s ≡ true → s .cells + 2 * s .tasks ≤ s .blocks → t < s .tasks → recordAt (s .records) t .line ≡ 4 → (b : ℕ) × (b < s .blocks) × (used s b ≡ false)
-free s t e enough own g =
-    let counted = sum-same (uses s) (λ b. getD (s .counts) b 0) 0 (s .blocks) (λ b l h. count-is s e b (omega arith)) in
-    let z = gap (λ b. getD (s .counts) b 0) 0 (s .blocks) (omega (arith, all-uses s t own g, counted)) in
-    let below : z .0 < s .blocks = omega (arith, z .1) in
-    (z .0, below, unless-not (used s (z .0)) (sym (count-of-unused s e (z .0) below) ∙ eq-eqb _ _ (z .2)))
+-- by a task, of a block that no cell names
+record-claims : (s : State) (r : Record) (b : ℕ) → isCurrent s b ≡ false
+    → eqb (holderOf s r b + takerOf r b) 0 ≡ not (usesBlock r b)
+record-claims s r b e = go (isIdle r) (hasTaken r) (eqb (r .held) b) (eqb (r .taken) b) (λ h. rw (eqb-true (r .held) b h, e))
+  where
+    busy : (h n x z : Bool) → (x ≡ true → n ≡ true) → eqb (once ((h && n) && x) + once z) 0 ≡ not ((h && x) || z)
+    busy false n x true c = refl
+    busy false n x false c = refl
+    busy true true true true c = refl
+    busy true true true false c = refl
+    busy true true false true c = refl
+    busy true true false false c = refl
+    busy true false true z c = absurd (false≢true (c refl))
+    busy true false false true c = refl
+    busy true false false false c = refl
+
+    go : (i k x y : Bool) → (x ≡ true → not (isCurrent s (r .held)) ≡ true)
+        → eqb (once (((not i && holds r) && not (isCurrent s (r .held))) && x) + once ((not i && k) && y)) 0 ≡ not (not i && ((holds r && x) || (k && y)))
+    go true k x y c = refl
+    go false k x y c = busy (holds r) (not (isCurrent s (r .held))) x (k && y) c
+
+-- nothing keeps a block in use exactly if it is not used
+none-claims : (s : State) (b : ℕ) → eqb (claims s b) 0 ≡ not (used s b)
+unfolding used usedByTask
+none-claims s b =
+    sum-is-zero (namesOf (s .current) b (s .cells)) (sumFrom (λ t. holderOf s (recordAt (s .records) t) b + takerOf (recordAt (s .records) t) b) 0 (s .tasks))
+    ∙ rw (none-names s b, not-or (isCurrent s b) (usedByTask s b)) (go (isCurrent s b) refl)
+  where
+    go : (x : Bool) → isCurrent s b ≡ x → not x && eqb (sumFrom (λ t. holderOf s (recordAt (s .records) t) b + takerOf (recordAt (s .records) t) b) 0 (s .tasks)) 0 ≡ not x && not (usedByTask s b)
+    go true e = refl
+    go false e = none-adds _ (λ t. usesBlock (recordAt (s .records) t) b) (λ t. record-claims s (recordAt (s .records) t) b e) 0 (s .tasks)
+
+-- at most V + 2N - 2 are kept in use, so one of the V + 2N - 1 or more is not
+free : (s : State) (t : ℕ) → Spare s → s .cells + 2 * s .tasks ≤ s .blocks + 1 → t < s .tasks → recordAt (s .records) t .line ≡ 4 → (b : ℕ) × (b < s .blocks) × (used s b ≡ false)
+free s t (w, l, e) enough own g =
+    let z = gap (claims s) 0 (s .blocks) (omega (arith, few-claims s (s .blocks) w t l e own g)) in
+    (z .0, omega (arith, z .1), unless-not (used s (z .0)) (sym (none-claims s (z .0)) ∙ eq-eqb _ _ (z .2)))
 
 again : (s : State) (o q : Option ℕ) → o ≡ q → Found s q → Found s o
 again s o q e h = rw e h
 
--- In every fit state, a task whose next line is 4 finds an unused block.
-pub one-is-unused : (s : State) (p : List ℕ) (t : ℕ) → fit s p ≡ true → t < s .tasks → recordAt (s .records) t .line ≡ 4
+-- In every fit state in which some task holds no replaced block, a task whose next line is 4 finds an unused block.
+pub one-is-unused : (s : State) (p : List ℕ) (t : ℕ) → fit s p ≡ true → Spare s → t < s .tasks → recordAt (s .records) t .line ≡ 4
     → (b : ℕ) × (unused s ≡ some b) × (used s b ≡ false) × (b < s .blocks)
 unfolding fit
-one-is-unused s p t e own g =
+one-is-unused s p t e spare own g =
     let test = nth (fitTests s p) e in
-    let x = free s t (test 6) (blocks-true (s .tasks) (s .cells) (s .blocks) (length p) (test 2) .0) own g in
+    let x = free s t spare (blocks-true (s .tasks) (s .cells) (s .blocks) (length p) (test 2) .0) own g in
     again s (unused s) (readFrom s (blockAfter (s .blocks) (s .last)) (s .blocks)) (same-block s p e)
     (round s (x .0) (x .1) (x .2) (blockAfter (s .blocks) (s .last)) (after-below (s .blocks) (s .last) (ltb-true _ _ (test 4))))
 

@@ -1,8 +1,9 @@
 -- Which blocks are in use, and the search for one that is not.
-use mathlib.Core.Bool.{Bool, _&&_, _||_, not, cond}
+use mathlib.Core.Path.{_≡_}
+use mathlib.Core.Bool.{Bool, true, false, _&&_, _||_, not, cond}
 use mathlib.Core.Option.{Option, none, some}
 use mathlib.Core.List.{List}
-use Prim.Native.Nat.{ℕ, zero, suc, _+_}
+use Prim.Native.Nat.{ℕ, zero, suc, _+_, _<_}
 use lib.Dec.{eqb, leb, ltb}
 use lib.ListN.{getD}
 use Rattle.lines.specs.declared.Record.{Record}
@@ -27,6 +28,14 @@ usedByTask s b = anyFrom (λ t. usesBlock (recordAt (s .records) t) b) 0 (s .tas
 unfoldable pub used : State → ℕ → Bool
 used s b = isCurrent s b || usedByTask s b
 
+-- a task holds a block that no cell names any more
+abbrev pub holdsReplaced : State → Record → Bool
+holdsReplaced s r = (not (isIdle r) && holds r) && not (isCurrent s (r .held))
+
+-- some task holds none: so it is in every state that an opening leads to (refinement/proofs/Refines.antt)
+abbrev pub Spare : State → Type 0
+Spare s = (t : ℕ) × (t < s .tasks) × (holdsReplaced s (recordAt (s .records) t) ≡ false)
+
 -- THE SEARCH FOR AN UNUSED BLOCK, by the counts alone
 
 -- the block after b, going round after the last
@@ -44,6 +53,11 @@ found l n last = cond (leb n 128 && ltb last n) (unusedFrom l n (blockAfter n la
 
 abbrev pub unused : State → Option ℕ
 unused s = found (s .counts) (s .blocks) (s .last)
+
+-- whether it is found
+abbrev pub isFound : Option ℕ → Bool
+isFound none = false
+isFound (some b) = true
 
 -- what a search that ended says
 abbrev pub foundOf : Found → Option ℕ

@@ -1,7 +1,7 @@
 // Which block is handed out: the first whose count is 0.
 ghost use mathlib.Core.Path.{_≡_};
 ghost use Prim.Native.Nat.{_≤_, _<_};
-ghost use Rattle.blocks.specs.Blocks.{blockAfter, found, foundOf};
+ghost use Rattle.blocks.specs.Blocks.{blockAfter, found, foundOf, isFound};
 
 pub enum Found {
     At(u32),
@@ -33,4 +33,13 @@ pub fn unused_block(counts: &[u8; 128], blocks: u32, last: u32) -> Found
         left = left - 1;
     }
     Found::Nowhere
+}
+
+pub fn is_found(free: Found) -> bool
+    ensures { λ b. ⌜ b ≡ isFound (foundOf free) ⌝ }
+{
+    match free {
+        Found::At(_) => true,
+        Found::Nowhere => false,
+    }
 }

@@ -64,12 +64,12 @@ pub sum-most : (f : ℕ → ℕ) (m i k : ℕ) → ((j : ℕ) → f j ≤ m) →
 sum-most f m i zero h = omega arith
 sum-most f m i (suc k) h = omega (arith, h i, sum-most f m (i + 1) k h)
 
--- each value is at most 2, and one of them at most 1
-pub sum-less : (f : ℕ → ℕ) (t i k : ℕ) → ((j : ℕ) → f j ≤ 2) → f t ≤ 1 → i ≤ t → t < i + k → sumFrom f i k < k * 2
+-- each value is at most 1, and one of them is 0
+pub sum-less : (f : ℕ → ℕ) (t i k : ℕ) → ((j : ℕ) → f j ≤ 1) → f t ≡ 0 → i ≤ t → t < i + k → sumFrom f i k < k
 sum-less f t i zero h d l m = absurd (omega arith)
 sum-less f t i (suc k) h d l m =
     ⊎-elim
-    (λ q. omega (arith, rw (← q) at d, sum-most f 2 (i + 1) k h))
+    (λ q. omega (arith, rw (← q) at d, sum-most f 1 (i + 1) k h))
     (λ lt. omega (arith, h i, sum-less f t (i + 1) k h d (omega arith) (omega arith)))
     (eq-or-lt-of-le l)
 

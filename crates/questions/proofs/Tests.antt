@@ -4,12 +4,12 @@ use mathlib.Core.Logic.{⊎-elim}
 use mathlib.Core.Bool.{Bool, true, false, _&&_, _||_, not, cond, and-eq-true-iff, false≢true}
 use mathlib.Core.Option.{none}
 use mathlib.Core.List.{List, [], _∷_}
-use Prim.Native.Nat.{ℕ, zero, suc, _+_, _*_, _≤_, _<_}
+use Prim.Native.Nat.{ℕ, zero, suc, _+_, _-_, _*_, _≤_, _<_}
 use native.Mathlib.Omega.{arith}
 use native.Mathlib.Nat.{eq-or-lt-of-le}
 use lib.Dec.{eqb, leb}
 use lib.ListN.{getD}
-use borrow.Author.Tests.{eqb-true, leb-true}
+use borrow.Author.Tests.{eqb-true, leb-true, leb-false, le-leb, lt-leb}
 use Rattle.lines.specs.Basics.{within, ands, allFrom, anyFrom}
 use Rattle.questions.specs.Questions.{Question, refusal, blocksOk, answers}
 
@@ -29,18 +29,31 @@ pub implied : (a b : Bool) → (a ≡ true → b ≡ true) → (not a || b) ≡ 
 implied true b h = h refl
 implied false b h = refl
 
+pub implied-not : (a b : Bool) → (not a || b) ≡ not (a && not b)
+implied-not true true = refl
+implied-not true false = refl
+implied-not false b = refl
+
 pub within-true : (n a b : ℕ) → within n a b ≡ true → (a ≤ n) × (n ≤ b)
 within-true n a b e = let q = and-eq-true-iff (leb a n) (leb n b) .0 e in (leb-true a n (q .0), leb-true n b (q .1))
 
-pub blocks-true : (n v b len : ℕ) → blocksOk n v b len ≡ true → (v + 2 * n ≤ b) × (len ≡ 5 * b)
+-- the code asks by a sum: nothing is taken away from 0
+pub one-fewer : (a b : ℕ) → leb a (b + 1) ≡ leb (a - 1) b
+one-fewer a b = go (leb (a - 1) b) refl
+  where
+    go : (x : Bool) → leb (a - 1) b ≡ x → leb a (b + 1) ≡ x
+    go true e = let h = leb-true (a - 1) b e in le-leb a (b + 1) (omega arith)
+    go false e = let h = leb-false (a - 1) b e in lt-leb a (b + 1) (omega arith)
+
+pub blocks-true : (n v b len : ℕ) → blocksOk n v b len ≡ true → (v + 2 * n ≤ b + 1) × (len ≡ 5 * b)
 blocks-true n v b len e =
-    let q = and-eq-true-iff (leb (v + 2 * n) b && leb b 128) (eqb len (5 * b)) .0 e in
-    (leb-true _ _ (and-eq-true-iff (leb (v + 2 * n) b) (leb b 128) .0 (q .0) .0), eqb-true _ _ (q .1))
+    let q = and-eq-true-iff (leb (v + 2 * n - 1) b && leb b 128) (eqb len (5 * b)) .0 e in
+    (omega (arith, leb-true (v + 2 * n - 1) b (and-eq-true-iff (leb (v + 2 * n - 1) b) (leb b 128) .0 (q .0) .0)), eqb-true _ _ (q .1))
 
 pub blocks-most : (n v b len : ℕ) → blocksOk n v b len ≡ true → b ≤ 128
 blocks-most n v b len e =
-    let q = and-eq-true-iff (leb (v + 2 * n) b && leb b 128) (eqb len (5 * b)) .0 e in
-    leb-true _ _ (and-eq-true-iff (leb (v + 2 * n) b) (leb b 128) .0 (q .0) .1)
+    let q = and-eq-true-iff (leb (v + 2 * n - 1) b && leb b 128) (eqb len (5 * b)) .0 e in
+    leb-true _ _ (and-eq-true-iff (leb (v + 2 * n - 1) b) (leb b 128) .0 (q .0) .1)
 
 -- the k-th test of a list of which all pass
 pub nth : (l : List Bool) → ands l ≡ true → (k : ℕ) → getD l k true ≡ true

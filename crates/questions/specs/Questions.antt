@@ -1,8 +1,8 @@
 -- The questions before anything is done, in document 01's order with its numbers; the first "no" gives its number.
 use mathlib.Core.Bool.{Bool, false, _&&_, _||_, not, cond}
 use mathlib.Core.Option.{Option, none, some}
-use mathlib.Core.List.{List, [], _∷_}
-use Prim.Native.Nat.{ℕ, _+_, _*_}
+use mathlib.Core.List.{List, [], _∷_, _++_}
+use Prim.Native.Nat.{ℕ, _+_, _-_, _*_}
 use lib.Dec.{eqb, leb, ltb}
 use lib.ListN.{getD, length}
 use Rattle.lines.specs.declared.Record.{Record}
@@ -32,7 +32,7 @@ abbrev pub cellsOk : ℕ → Bool
 cellsOk v = within v 1 16
 
 abbrev pub blocksOk : (tasks cells blocks words : ℕ) → Bool
-blocksOk n v b len = (leb (v + 2 * n) b && leb b 128) && eqb len (5 * b)
+blocksOk n v b len = (leb (v + 2 * n - 1) b && leb b 128) && eqb len (5 * b)
 
 unfoldable pub hasNone : List ℕ → Bool
 hasNone vs = anyFrom (λ k. eqb (getD vs k 0) noValue) 0 (length vs)
@@ -144,7 +144,7 @@ fitTests s p = tasksOk (s .tasks) ∷ cellsOk (s .cells) ∷ blocksOk (s .tasks)
 unfoldable pub fit : State → List ℕ → Bool
 fit s p = ands (fitTests s p)
 
--- BEGIN, STEP AND LOOK: 7 to 11, of N tasks and V cells and the task's record
+-- BEGIN, STEP AND LOOK: 7 to 11 and 20, of N tasks and V cells and the task's record
 
 abbrev pub beginQuestions : (tasks cells : ℕ) → Record → (task cell : ℕ) → List Question
 beginQuestions n v r t k = (7, ltb t n) ∷ (8, ltb k v) ∷ (9, isIdle r) ∷ []
@@ -152,8 +152,13 @@ beginQuestions n v r t k = (7, ltb t n) ∷ (8, ltb k v) ∷ (9, isIdle r) ∷ [
 abbrev pub swapQuestions : (tasks cells : ℕ) → Record → (task cell expected new : ℕ) → List Question
 swapQuestions n v r t k e w = (7, ltb t n) ∷ (8, ltb k v) ∷ (9, isIdle r) ∷ (10, not (eqb e noValue) && not (eqb w noValue)) ∷ []
 
+-- of figure 2, which has a new block each time
 abbrev pub stepQuestions : (tasks : ℕ) → Record → (task : ℕ) → List Question
 stepQuestions n r t = (7, ltb t n) ∷ (11, not (isIdle r)) ∷ []
+
+-- of the pool, from which line 4 takes a block: found, where one is unused
+abbrev pub poolStepQuestions : (tasks : ℕ) → Record → (task : ℕ) → (found : Bool) → List Question
+poolStepQuestions n r t found = stepQuestions n r t ++ ((20, not (eqb (r .line) 4) || found) ∷ [])
 
 abbrev pub lookQuestions : (cells cell : ℕ) → List Question
 lookQuestions v k = (8, ltb k v) ∷ []

@@ -7,7 +7,7 @@ ghost use lib.Dec.{eqb, ltb, leb};
 ghost use lib.ListN.{getD};
 ghost use Prim.Native.Nat.{_+_, _≤_};
 ghost use Rattle.lines.specs.Basics.{allFrom};
-ghost use Rattle.questions.specs.Questions.{refusal, tasksOk, cellsOk, blocksOk, hasNone, openQuestions, reads, swaps, lineFit, hasTaken, blocksFit, valuesFit, recordFit, fit, swapQuestions, stepQuestions};
+ghost use Rattle.questions.specs.Questions.{refusal, tasksOk, cellsOk, blocksOk, hasNone, openQuestions, reads, swaps, lineFit, hasTaken, blocksFit, valuesFit, recordFit, fit, swapQuestions, poolStepQuestions};
 
 pub mod counts;
 
@@ -45,7 +45,7 @@ fn blocks_ok(tasks: u32, cells: u32, blocks: u32, words: usize) -> bool
     let n = tasks as usize;
     let v = cells as usize;
     let b = blocks as usize;
-    ((v + 2 * n <= b) & (blocks <= 128)) & (words == 5 * b)
+    ((v + 2 * n <= b + 1) & (blocks <= 128)) & (words == 5 * b)
 }
 
 // OPEN
@@ -254,14 +254,18 @@ pub fn begin_refusal(fits: bool, tasks: u32, cells: u32, r: Record, task: u32, q
     }
 }
 
-pub fn step_refusal(fits: bool, tasks: u32, r: Record, task: u32) -> u32
-    ensures { λ n. ⌜ n ≡ Option·getD (refusal ((6, fits) ∷ stepQuestions tasks r task)) 0 ⌝ }
+// found is whether a block is unused. Only line 4 needs one.
+pub fn step_refusal(fits: bool, tasks: u32, r: Record, task: u32, found: bool) -> u32
+    ensures { λ n. ⌜ n ≡ Option·getD (refusal ((6, fits) ∷ poolStepQuestions tasks r task found)) 0 ⌝ }
 {
     if !fits {
         return 6;
     }
     if task < tasks {
-        if r.line == 0 { 11 } else { 0 }
+        if r.line == 0 {
+            return 11;
+        }
+        if (r.line == 4) & !found { 20 } else { 0 }
     } else {
         7
     }
