@@ -15,14 +15,14 @@ use Rattle.lines.specs.Basics.{ands}
 use Rattle.lines.specs.Record.{recordAt}
 use Rattle.lines.specs.Lines.{accessOf, nextOf}
 use Rattle.pool.specs.Pool.{word}
-use Rattle.questions.specs.Questions.{Question, refusal, fit, openQuestions, beginQuestions, swapQuestions, stepQuestions, lookQuestions, answers}
+use Rattle.questions.specs.Questions.{Question, refusal, fit, openQuestions, beginQuestions, swapQuestions, lookQuestions, answers}
 use Rattle.cells.specs.Open.{After, leaving, unless, Untouched, openState, openPool, opened}
 use Rattle.lines.specs.Record.{firstRead, firstSwap}
 use Rattle.cells.specs.Begin.{started, readBegun, swapBegun}
 use Rattle.blocks.specs.Blocks.{unused}
 use Rattle.pool.specs.Memory.{Touched, performed}
 use Rattle.cells.specs.Turn.{ending}
-use Rattle.cells.specs.Step.{current, ran, stepped}
+use Rattle.cells.specs.Step.{current, ran, stepAsks, stepped}
 use Rattle.cells.specs.Look.{shownValue, shown, looked}
 use Rattle.questions.proofs.Tests.{all-yes}
 
@@ -85,13 +85,13 @@ module _ (s : State) (p : List ℕ) (t : ℕ) where
   unfolding ran
   runs = let m = performed p (current s (recordAt (s .records) t .cell)) (s .last) (unused s) (accessOf t (recordAt (s .records) t)) in follows m (nextOf t (recordAt (s .records) t) (m .value))
 
-  pub step-acts : acts (stepped s p t .outcome) ≡ ands (answers ((6, fit s p) ∷ stepQuestions (s .tasks) (recordAt (s .records) t) t))
+  pub step-acts : acts (stepped s p t .outcome) ≡ ands (answers (stepAsks s p t))
   unfolding stepped
-  step-acts = asked s p (ran s p t (recordAt (s .records) t)) runs ((6, fit s p) ∷ stepQuestions (s .tasks) (recordAt (s .records) t) t)
+  step-acts = asked s p (ran s p t (recordAt (s .records) t)) runs (stepAsks s p t)
 
   pub step-untouched : Untouched s p (stepped s p t)
   unfolding stepped
-  step-untouched = untouched s p (ran s p t (recordAt (s .records) t)) runs (refusal ((6, fit s p) ∷ stepQuestions (s .tasks) (recordAt (s .records) t) t))
+  step-untouched = untouched s p (ran s p t (recordAt (s .records) t)) runs (refusal (stepAsks s p t))
 
 -- a look hands back no state and no pool
 shown-as : (l : List Question) (v : ℕ) → shows (shown (refusal l) v) ≡ ands (answers l)

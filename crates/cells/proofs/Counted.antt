@@ -3,28 +3,28 @@ use mathlib.Core.Path.{_≡_, refl, sym, _∙_}
 use mathlib.Core.Bool.{Bool, true, false, _&&_, not, cond, and-eq-true-iff, false≢true}
 use mathlib.Core.Option.{Option, none, some}
 use mathlib.Core.List.{List, _∷_}
-use Prim.Native.Nat.{ℕ, _+_, _*_, _≤_, _<_}
+use Prim.Native.Nat.{ℕ, _≤_, _<_}
 use native.Mathlib.Omega.{arith}
-use lib.Dec.{eqb, leb}
+use lib.Dec.{eqb}
 use lib.ListN.{getD, length, length-set}
 use lib.Seq.{set-getD}
-use borrow.Author.Tests.{eq-eqb, leb-true, ltb-true}
+use borrow.Author.Tests.{eq-eqb, ltb-true}
 use Rattle.lines.specs.declared.Record.{Record}
 use Rattle.questions.specs.declared.State.{State}
 use Rattle.lines.specs.Basics.{ands}
 use Rattle.lines.specs.Record.{isIdle, recordAt, firstRead, firstSwap}
-use Rattle.questions.specs.Questions.{Question, refusal, answers, recordUses, uses, countsTrue, recordFit, recordsFit, fit, fitTests, beginQuestions, swapQuestions, stepQuestions}
-use Rattle.blocks.specs.Blocks.{unused}
+use Rattle.questions.specs.Questions.{Question, refusal, answers, recordUses, uses, countsTrue, recordFit, recordsFit, fit, fitTests, beginQuestions, swapQuestions, poolStepQuestions}
+use Rattle.blocks.specs.Blocks.{unused, isFound}
 use Rattle.history.specs.History.{read, swap, Action, begin, step}
 use Rattle.cells.specs.Answers.{acts}
 use Rattle.cells.specs.Open.{After, leaving, unless}
 use Rattle.cells.specs.Begin.{withRecord, started, readBegun, swapBegun}
 use Rattle.cells.specs.Counts.{recounted}
 use Rattle.cells.specs.Turn.{turn}
-use Rattle.cells.specs.Step.{current, withBlocks, withCounts, ran, stepped}
+use Rattle.cells.specs.Step.{current, withBlocks, withCounts, ran, stepAsks, stepped}
 use Rattle.cells.specs.Lent.{isRefused, Lent, lent, steppedLent}
 use Rattle.cells.specs.Machine.{does}
-use Rattle.questions.proofs.Tests.{all-yes, all-at, all-from, nth, within-true}
+use Rattle.questions.proofs.Tests.{all-yes, all-at, all-from, nth, within-true, blocks-most}
 use Rattle.questions.proofs.Fits.{busy-test}
 use Rattle.questions.proofs.Uses.{named-used, uses-changed, count-is}
 use Rattle.cells.proofs.Recount.{recounted-at}
@@ -48,8 +48,7 @@ room s p (a, r, c) e =
     let test = nth (fitTests s p) e in
     let v = within-true (s .cells) 1 16 (test 1) in
     let n = within-true (s .tasks) 1 32 (test 0) in
-    let b = and-eq-true-iff (leb (s .cells + 2 * s .tasks) (s .blocks) && leb (s .blocks) 128) (eqb (length p) (5 * s .blocks)) .0 (test 2) .0 in
-    let m : s .blocks ≤ 128 = leb-true _ _ (and-eq-true-iff (leb (s .cells + 2 * s .tasks) (s .blocks)) (leb (s .blocks) 128) .0 b .1) in
+    let m = blocks-most (s .tasks) (s .cells) (s .blocks) (length p) (test 2) in
     record { cell = v .0; cells = omega (arith, v .1); tasks = omega (arith, n .1); blocks = omega (arith, m) }
 
 module _ (s : State) (z : Room s) (e : countsTrue s ≡ true) (t : ℕ) (own : t < s .tasks) where
@@ -128,11 +127,11 @@ module _ (s : State) (p : List ℕ) (a : Arrays s) (e : countsTrue s ≡ true) (
 
   step-keeps : countsTrue (stepped s p t .state) ≡ true
   unfolding stepped ran
-  step-keeps = go (refusal ((6, fit s p) ∷ stepQuestions (s .tasks) r t)) refl
+  step-keeps = go (refusal (stepAsks s p t)) refl
     where
-      go : (o : Option ℕ) → refusal ((6, fit s p) ∷ stepQuestions (s .tasks) r t) ≡ o → countsTrue (unless o s p (ran s p t r) .state) ≡ true
+      go : (o : Option ℕ) → refusal (stepAsks s p t) ≡ o → countsTrue (unless o s p (ran s p t r) .state) ≡ true
       go none g =
-          let yes = yes-at ((6, fit s p) ∷ stepQuestions (s .tasks) r t) g in
+          let yes = yes-at (stepAsks s p t) g in
           let own = ltb-true t (s .tasks) (yes 1) in
           let x = turn p t r (current s (r .cell)) (s .last) (unused s) in
           moved s (room s p a (yes 0)) e t own (r .cell) (own-cell (yes 0) own (yes 2)) (x .record) (x .current) (x .last)
@@ -148,7 +147,7 @@ module _ (s : State) (p : List ℕ) where
   acts-fit : (a : Action) → acts (does s p a .outcome) ≡ true → fit s p ≡ true
   acts-fit (begin t (read k)) h = fits-of (answers (beginQuestions (s .tasks) (s .cells) (recordAt (s .records) t) t k)) (sym (read-acts s p t k) ∙ h)
   acts-fit (begin t (swap k x n)) h = fits-of (answers (swapQuestions (s .tasks) (s .cells) (recordAt (s .records) t) t k x n)) (sym (swap-acts s p t k x n) ∙ h)
-  acts-fit (step t) h = fits-of (answers (stepQuestions (s .tasks) (recordAt (s .records) t) t)) (sym (step-acts s p t) ∙ h)
+  acts-fit (step t) h = fits-of (answers (poolStepQuestions (s .tasks) (recordAt (s .records) t) t (isFound (unused s)))) (sym (step-acts s p t) ∙ h)
 
   fit-counts : fit s p ≡ true → countsTrue s ≡ true
   unfolding fit

@@ -13,14 +13,14 @@ use Rattle.lines.specs.declared.Record.{Record}
 use Rattle.questions.specs.declared.State.{State}
 use Rattle.lines.specs.Basics.{sumFrom}
 use Rattle.lines.specs.Record.{idle, recordAt, firstRead, firstSwap}
-use Rattle.questions.specs.Questions.{refusal, answers, recordUses, uses, countsTrue, openQuestions, fit, beginQuestions, swapQuestions, stepQuestions}
+use Rattle.questions.specs.Questions.{refusal, answers, recordUses, uses, countsTrue, openQuestions, fit, beginQuestions, swapQuestions}
 use Rattle.blocks.specs.Blocks.{unused}
 use Rattle.history.specs.History.{read, swap, Action, begin, step}
 use Rattle.cells.specs.Answers.{Acted, acts}
 use Rattle.cells.specs.Open.{After, leaving, unless, openState, openPool, opened}
 use Rattle.cells.specs.Begin.{started, readBegun, swapBegun}
 use Rattle.cells.specs.Turn.{turn}
-use Rattle.cells.specs.Step.{current, ran, stepped}
+use Rattle.cells.specs.Step.{current, ran, stepAsks, stepped}
 use Rattle.cells.specs.Machine.{does}
 use Rattle.questions.proofs.Tests.{all-yes, all-at, all-from, nth, within-true}
 use Rattle.questions.proofs.Sums.{sum-same, sum-changed, sum-zero}
@@ -123,5 +123,5 @@ module _ (s : State) (p : List ℕ) (z : Arrays s) where
   arrays-stay (step t) =
       let r = recordAt (s .records) t in
       let x = turn p t r (current s (r .cell)) (s .last) (unused s) in
-      either (refusal ((6, fit s p) ∷ stepQuestions (s .tasks) r t)) (ran s p t r)
+      either (refusal (stepAsks s p t)) (ran s p t r)
       (length-set (s .current) (r .cell) (x .current) ∙ z .0, length-set (s .records) t (x .record) ∙ z .1, length-recounted (s .counts) r (x .record) (current s (r .cell)) (x .current) ∙ z .2)

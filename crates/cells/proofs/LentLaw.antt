@@ -1,23 +1,24 @@
 -- The step over a lent record, from the step of the state that holds it.
 use mathlib.Core.Path.{_≡_, refl, sym, ap, _∙_}
 use mathlib.Core.Logic.{_⊎_, inl, inr}
-use mathlib.Core.Bool.{true, false, not, cond, false≢true}
+use mathlib.Core.Bool.{true, false, _||_, not, cond, false≢true}
 use mathlib.Core.List.{List, [], _∷_}
 use Prim.Native.Nat.{ℕ, _≤_, _<_}
 use native.Mathlib.Omega.{arith}
+use lib.Dec.{eqb}
 use lib.ListN.{length}
 use lib.Seq.{set-out, set-getD}
 use Rattle.lines.specs.declared.Record.{Record}
 use Rattle.questions.specs.declared.State.{State}
+use Rattle.blocks.specs.Blocks.{unused, isFound}
 use Rattle.cells.specs.Answers.{Said, Refused, Acted, Ended, acts}
 use Rattle.lines.specs.Record.{idle, isIdle, recordAt}
 use Rattle.cells.specs.Open.{After, leaving, Untouched}
 use Rattle.cells.specs.Begin.{withRecord}
-use Rattle.cells.specs.Step.{stepped}
+use Rattle.cells.specs.Step.{stepAsks, stepped}
 use Rattle.cells.specs.Lent.{isRefused, Lent, lent, steppedLent}
 use Rattle.cells.proofs.Acts.{acts-iff, step-acts, step-untouched}
 use Rattle.cells.proofs.Replies.{asked-below}
-use Rattle.cells.proofs.Stepping.{asked}
 
 -- a record beyond them is put nowhere
 pub placed : (s : State) (t : ℕ) (r : Record) (q : State) → length (s .records) ≡ 32 → (q ≡ withRecord s t r) ⊎ ((32 ≤ t) × (q ≡ s)) → q ≡ withRecord s t r
@@ -35,7 +36,7 @@ module _ (s : State) (p : List ℕ) (t : ℕ) (a : After) (e : a ≡ stepped s p
   pub below-32 : isRefused (a .outcome) ≡ false → t < 32
   below-32 h =
       let q = recordAt (s .records) t in
-      asked-below s p t ((11, not (isIdle q)) ∷ []) (acts-iff (asked s p t) .1 (sym (step-acts s p t) ∙ acted (stepped s p t .outcome) (rw e at h)))
+      asked-below s p t ((11, not (isIdle q)) ∷ (20, not (eqb (q .line) 4) || isFound (unused s)) ∷ []) (acts-iff (stepAsks s p t) .1 (sym (step-acts s p t) ∙ acted (stepped s p t .outcome) (rw e at h)))
 
   pool-kept : isRefused (a .outcome) ≡ true → a .pool ≡ p
   pool-kept h = rw e (go (stepped s p t .outcome) refl (rw e at h))

@@ -4,6 +4,7 @@ pub mod Examples
 pub mod TurnLaw
 pub mod Replies
 pub mod Stepping
+pub mod Spare
 pub mod Filling
 pub mod Acts
 pub mod LentLaw

@@ -1,6 +1,6 @@
--- What a turn names is below n, the number of blocks, if what its record names is: a line keeps the held and the taken block, or gets one from
--- the cell or from the search.
-use mathlib.Core.Path.{_≡_, refl}
+-- What a turn names has what its record's names have (that they are blocks of the pool; that the held one is current): a line keeps the held
+-- and the taken block, or gets one from the cell or from the search. And its cell names the block that it named, unless its call has ended.
+use mathlib.Core.Path.{_≡_, refl, sym, _∙_}
 use mathlib.Core.Bool.{Bool, true, false, _&&_, not, cond, false≢true}
 use mathlib.Core.Option.{Option, none, some}
 use mathlib.Core.List.{List}
@@ -20,25 +20,21 @@ use Rattle.pool.specs.Pool.{word}
 use Rattle.pool.specs.Memory.{Touched, performed}
 use Rattle.cells.specs.Turn.{ending, turn}
 
--- whether an access answers with a block
-abbrev fetches : Access → Bool
-fetches (LoadCell k) = true
-fetches (Load b f) = false
-fetches (Store b f v) = false
-fetches (DecideCas b v) = false
-fetches (InstallCas k b n) = false
-fetches Allocate = true
-fetches Nothing = false
-
 no-such : {A : Type 0} → false ≡ true → A
 no-such e = absurd (false≢true e)
 
-module _ (n : ℕ) where
-  abbrev pub Below : Record → Type 0
-  Below q = (not (isIdle q) && holds q ≡ true → q .held < n) × (not (isIdle q) && hasTaken q ≡ true → q .taken < n)
+same-current : (m : Touched) (o : Next) → ending m o .current ≡ m .current
+same-current m (Go q) = refl
+same-current m (Done x) = refl
 
+-- P of the block that a task holds, Q of the one that it has taken
+abbrev pub Names : (P Q : ℕ → Type 0) → Record → Type 0
+Names P Q q = (not (isIdle q) && holds q ≡ true → P (q .held)) × (not (isIdle q) && hasTaken q ≡ true → Q (q .taken))
+
+-- and K, unless its call has ended
+module _ (P Q : ℕ → Type 0) (K : Type 0) where
   abbrev After : Next → Type 0
-  After (Go q) = (holds q ≡ true → q .held < n) × (hasTaken q ≡ true → q .taken < n)
+  After (Go q) = (holds q ≡ true → P (q .held)) × (hasTaken q ≡ true → Q (q .taken)) × K
   After (Done f) = Prim.Unit
 
   which : (x : Bool) (a b : Next) → After a → After b → After (cond x a b)
@@ -47,9 +43,19 @@ module _ (n : ℕ) where
 
   ruleset named = (which, no-such)
 
+  -- of the value that an access answers, if it is a block; and K, but after a hardware CAS of the cell
+  abbrev Answer : Access → ℕ → Type 0
+  Answer (LoadCell k) v = P v × K
+  Answer (Load b f) v = K
+  Answer (Store b f x) v = K
+  Answer (DecideCas b x) v = K
+  Answer (InstallCas k b n) v = Prim.Unit
+  Answer Allocate v = Q v × K
+  Answer Nothing v = K
+
   -- LINE BY LINE, whatever a line tests: the access was o's, and r is o counted
   module _ (t : ℕ) (o r : Record) (v : ℕ) where
-    after : (ℓ : Line) (a b : Bool) → ofKind ℓ a b ≡ true → (holdsBefore (number ℓ) ≡ true → r .held < n) → (takenBefore (number ℓ) ≡ true → r .taken < n) → (fetches (accessAt ℓ t o) ≡ true → v < n) → After (nextAt ℓ t r v)
+    after : (ℓ : Line) (a b : Bool) → ofKind ℓ a b ≡ true → (holdsBefore (number ℓ) ≡ true → P (r .held)) → (takenBefore (number ℓ) ≡ true → Q (r .taken)) → Answer (accessAt ℓ t o) v → After (nextAt ℓ t r v)
     after (l1 w) a b k h m f = search named
     after (l2 w) a b k h m f = search named
     after (l3 for13) a b k h m f = search named
@@ -79,61 +85,65 @@ module _ (n : ℕ) where
     after nowhere a b k h m f = search named
 
   -- the new record's names
-  ended : (m : Touched) (o : Next) → After o → Below (ending m o .record)
-  ended m (Go q) h = (λ e. h .0 (second (isIdle q) (holds q) e), λ e. h .1 (second (isIdle q) (hasTaken q) e))
+  ended : (m : Touched) (o : Next) → After o → Names P Q (ending m o .record) × (isIdle (ending m o .record) ≡ false → K)
+  ended m (Go q) h = ((λ e. h .0 (second (isIdle q) (holds q) e), λ e. h .1 (second (isIdle q) (hasTaken q) e)), λ e. h .2)
     where
       second : (i x : Bool) → not i && x ≡ true → x ≡ true
       second true x e = absurd (false≢true e)
       second false x e = e
-  ended m (Done x) h = (λ e. absurd (false≢true e), λ e. absurd (false≢true e))
+  ended m (Done x) h = ((λ e. absurd (false≢true e), λ e. absurd (false≢true e)), λ e. absurd (false≢true (sym e)))
 
-  same-current : (m : Touched) (o : Next) → ending m o .current ≡ m .current
-  same-current m (Go q) = refl
-  same-current m (Done x) = refl
+module _ (P Q : ℕ → Type 0) (p : List ℕ) (t : ℕ) (r : Record) (c l : ℕ) (f : Option ℕ) (fit : lineFit r ≡ true) (line : r .line ≡ number (lineOf r)) (held : holds r ≡ true → P (r .held)) (taken : hasTaken r ≡ true → Q (r .taken)) where
+  taken-at : takenBefore (number (lineOf r)) ≡ true → Q (r .taken)
+  taken-at e = taken (rw line e)
 
-  module _ (p : List ℕ) (t : ℕ) (r : Record) (c l : ℕ) (f : Option ℕ) (fit : lineFit r ≡ true) (line : r .line ≡ number (lineOf r)) (held : holds r ≡ true → r .held < n) (taken : hasTaken r ≡ true → r .taken < n)
-      (cell : c < n) (free : number (lineOf r) ≡ 4 → (b : ℕ) × (f ≡ some b) × (b < n)) where
-    held-at : holdsBefore (number (lineOf r)) ≡ true → r .held < n
-    held-at e = held (rw line e)
+  either : (S : ℕ → Type 0) (x : Bool) (a b : Touched) → S (a .current) → S (b .current) → S (cond x a b .current)
+  either S true a b h g = h
+  either S false a b h g = g
 
-    taken-at : takenBefore (number (lineOf r)) ≡ true → r .taken < n
-    taken-at e = taken (rw line e)
+  allocating : (S : ℕ → Type 0) (o : Option ℕ) → S c → S (performed p c l o Allocate .current)
+  allocating S none h = h
+  allocating S (some b) h = h
 
-    -- the block that an access answers with
-    fetched : (a : Access) → Keeps (lineOf r) r a → fetches a ≡ true → performed p c l f a .value < n
-    fetched (LoadCell k) h e = cell
-    fetched (Load b i) h e = absurd (false≢true e)
-    fetched (Store b i v) h e = absurd (false≢true e)
-    fetched (DecideCas b v) h e = absurd (false≢true e)
-    fetched (InstallCas k b m) h e = absurd (false≢true e)
-    fetched Allocate h e = let y = free h in rw (y .1) (y .2)
-    fetched Nothing h e = absurd (false≢true e)
+  module _ (cell : P c) (free : number (lineOf r) ≡ 4 → (b : ℕ) × (f ≡ some b) × Q b) where
+    answers : (a : Access) → Keeps (lineOf r) r a → Answer P Q (performed p c l f a .current ≡ c) a (performed p c l f a .value)
+    answers (LoadCell k) h = (cell, refl)
+    answers (Load b i) h = refl
+    answers (Store b i v) h = refl
+    answers (DecideCas b v) h = either (λ d. d ≡ c) (eqb (word p b D) noValue) _ _ refl refl
+    answers (InstallCas k b m) h = tt
+    answers Allocate h = let y = free h in (rw (y .1) (y .2), allocating (λ d. d ≡ c) f refl)
+    answers Nothing h = refl
 
-    either : (x : Bool) (a b : Touched) → a .current < n → b .current < n → cond x a b .current < n
-    either true a b h g = h
-    either false a b h g = g
+    turns : let m = performed p c l f (accessOf t r) in Names P Q (turn p t r c l f .record) × (isIdle (turn p t r c l f .record) ≡ false → m .current ≡ c)
+    turns =
+        let m = performed p c l f (accessOf t r) in
+        let q = counted r (attempt (accessOf t r) (m .value)) in
+        ended P Q (m .current ≡ c) m (nextOf t r (m .value))
+        (after P Q (m .current ≡ c) t r q (m .value) (lineOf r) (reads r) (swaps r) fit (λ e. held (rw line e)) taken-at (answers (accessOf t r) (keeps t r (lineOf r))))
 
-    taking-cell : (o : Option ℕ) → performed p c l o Allocate .current < n
-    taking-cell none = cell
-    taking-cell (some b) = cell
+    pub names-kept : Names P Q (turn p t r c l f .record)
+    names-kept = turns .0
 
-    -- the block that the cell then names
-    cell-after : (a : Access) → Keeps (lineOf r) r a → performed p c l f a .current < n
+    -- only line 30 makes a cell name another block, and it ends the call
+    pub current-stays : isIdle (turn p t r c l f .record) ≡ false → turn p t r c l f .current ≡ c
+    current-stays e = let m = performed p c l f (accessOf t r) in same-current m (nextOf t r (m .value)) ∙ turns .1 e
+
+  -- the block that the cell then names
+  module _ (cell : Q c) where
+    cell-after : (a : Access) → Keeps (lineOf r) r a → Q (performed p c l f a .current)
     cell-after (LoadCell k) h = cell
     cell-after (Load b i) h = cell
     cell-after (Store b i v) h = cell
-    cell-after (DecideCas b v) h = either (eqb (word p b D) noValue) _ _ cell cell
-    cell-after (InstallCas k b m) h = let d : m < n = rw (h .2) (taken-at (h .3)) in either (eqb c b) _ _ d cell
-    cell-after Allocate h = taking-cell f
+    cell-after (DecideCas b v) h = either Q (eqb (word p b D) noValue) _ _ cell cell
+    cell-after (InstallCas k b m) h = either Q (eqb c b) _ _ (rw (h .2) (taken-at (h .3))) cell
+    cell-after Allocate h = allocating Q f cell
     cell-after Nothing h = cell
 
-    pub names-below : Below (turn p t r c l f .record)
-    names-below =
-        let m = performed p c l f (accessOf t r) in
-        let q = counted r (attempt (accessOf t r) (m .value)) in
-        ended m (nextOf t r (m .value)) (after t r q (m .value) (lineOf r) (reads r) (swaps r) fit held-at taken-at (fetched (accessOf t r) (keeps t r (lineOf r))))
-
-    pub block-below : turn p t r c l f .current < n
-    block-below =
+    pub current-kept : Q (turn p t r c l f .current)
+    current-kept =
         let m = performed p c l f (accessOf t r) in
         rw (same-current m (nextOf t r (m .value))) (cell-after (accessOf t r) (keeps t r (lineOf r)))
+
+abbrev pub Below : (blocks : ℕ) → Record → Type 0
+Below n = Names (λ b. b < n) (λ b. b < n)

@@ -47,7 +47,8 @@ pub opens : (p vs : List ℕ) (n v b : ℕ) → refusal (openQuestions (length p
 unfolding openQuestions
 opens p vs n v b e =
     let yes = yes-at (openQuestions (length p) n v b vs) e in
+    let m = within-true n 1 32 (yes 0) in
     let z = within-true v 1 16 (yes 1) in
     let f = blocks-true n v b (length p) (yes 2) in
     let q = eqb-true (length vs) v (yes 3) in
-    (omega (arith, z .0), omega (arith, z .1), omega (arith, f .0, f .1), z .1)
+    (omega (arith, z .0), omega (arith, z .1), omega (arith, m .0, f .0, f .1), z .1)

@@ -1,36 +1,45 @@
 -- A step that is not refused: what its turn needs, and that a turn given no unused block where it asks for none does the same.
-use mathlib.Core.Path.{_≡_, sym, ap, _∙_}
+use mathlib.Core.Path.{_≡_, refl, sym, ap, _∙_}
 use mathlib.Core.Logic.{_⊎_, inl, inr}
-use mathlib.Core.Bool.{Bool, true, false, _&&_, not, false≢true}
+use mathlib.Core.Bool.{Bool, true, false, _&&_, _||_, not, false≢true}
 use mathlib.Core.Option.{Option, none, some}
-use mathlib.Core.List.{List, _∷_}
+use mathlib.Core.List.{List}
 use Prim.Native.Nat.{ℕ, _≤_, _<_}
 use native.Mathlib.Omega.{arith}
-use lib.Dec.{ltb}
+use lib.Dec.{eqb, ltb}
 use lib.ListN.{getD, length}
 use borrow.Author.Tests.{ltb-true, ne-eqb}
 use Rattle.lines.specs.declared.Record.{Record}
 use Rattle.questions.specs.declared.State.{State}
 use Rattle.lines.specs.Record.{isIdle, recordAt}
 use Rattle.lines.specs.Lines.{lineOf}
-use Rattle.questions.specs.Questions.{Question, refusal, holds, hasTaken, lineFit, recordFit, busyTests, recordsFit, fit, fitTests, stepQuestions, answers}
-use Rattle.blocks.specs.Blocks.{unused}
+use Rattle.questions.specs.Questions.{refusal, holds, hasTaken, lineFit, recordFit, busyTests, recordsFit, fit, fitTests, answers}
+use Rattle.blocks.specs.Blocks.{isCurrent, holdsReplaced, unused, isFound}
 use Rattle.cells.specs.Counts.{Countable}
-use Rattle.cells.specs.Step.{current, putBack, ran, stepped}
+use Rattle.cells.specs.Step.{current, putBack, ran, stepAsks, stepped}
 use Rattle.pool.specs.Memory.{There}
-use Rattle.cells.specs.Turn.{turn, Ready}
+use Rattle.cells.specs.Turn.{Turned, turn, Ready}
 use Rattle.questions.proofs.Tests.{all-yes, all-at, nth}
 use Rattle.questions.proofs.Fits.{sizes, busy-test}
 use Rattle.questions.proofs.Numbers.{number, at-number}
-use Rattle.blocks.proofs.Unused.{unused-below, one-is-unused}
+use Rattle.blocks.proofs.Unused.{named-current, unused-below}
 use Rattle.cells.proofs.Counted.{Arrays}
-use Rattle.cells.proofs.Named.{names-below, block-below}
+use Rattle.cells.proofs.Named.{names-kept, current-stays, current-kept}
 use Rattle.cells.proofs.Countable.{names, cell-block, countable-to}
 use Rattle.cells.proofs.TurnLaw.{ready, turn-free}
 
 -- the block handed to a turn: what the search finds, where the line is one that asks
 abbrev pub Free : State → Record → Option ℕ → Type 0
 Free s r f = (f ≡ unused s) ⊎ ((r .line ≡ 4 → ⊥) × (f ≡ none))
+
+-- question 20, of that block
+pub same-20 : (s : State) (r : Record) (f : Option ℕ) → Free s r f → (not (eqb (r .line) 4) || isFound f) ≡ (not (eqb (r .line) 4) || isFound (unused s))
+same-20 s r f (inl g) = rw g
+same-20 s r f (inr (l, g)) = rw (ne-eqb (r .line) 4 l)
+
+is-some : (o : Option ℕ) → isFound o ≡ true → (b : ℕ) × (o ≡ some b)
+is-some none e = absurd (false≢true e)
+is-some (some b) e = (b, refl)
 
 pub record Acting (s : State) (p : List ℕ) (t : ℕ) (r : Record) : Type 0 where
   pub searches : (s .tasks ≤ 32) × (s .cells ≤ 16) × (s .last < s .blocks)
@@ -47,12 +56,9 @@ module _ (s : State) (p : List ℕ) (t : ℕ) where
   abbrev own : Record
   own = recordAt (s .records) t
 
-  abbrev pub asked : List Question
-  asked = (6, fit s p) ∷ stepQuestions (s .tasks) own t
-
-  module _ (e : refusal asked ≡ none) where
-    is-yes : (k : ℕ) → getD (answers asked) k true ≡ true
-    is-yes = nth (answers asked) (all-yes asked e)
+  module _ (e : refusal (stepAsks s p t) ≡ none) where
+    is-yes : (k : ℕ) → getD (answers (stepAsks s p t)) k true ≡ true
+    is-yes = nth (answers (stepAsks s p t)) (all-yes (stepAsks s p t) e)
 
     busy : own .line ≡ 0 → ⊥
     busy z = false≢true (rw z at (is-yes 2))
@@ -81,7 +87,7 @@ module _ (s : State) (p : List ℕ) (t : ℕ) where
     is-busy x e = rw (ne-eqb (own .line) 0 busy, e)
 
     found-at-4 : (f : Option ℕ) → Free s own f → number (lineOf own) ≡ 4 → (b : ℕ) × (f ≡ some b) × (b < s .blocks)
-    found-at-4 f (inl g) e = let y = one-is-unused s p t (is-yes 0) below (at-number own (test 1) ∙ e) in (y .0, g ∙ y .1, y .3)
+    found-at-4 f (inl g) e = let y = is-some (unused s) (rw (at-number own (test 1) ∙ e) at (is-yes 3)) in (y .0, g ∙ y .1, unused-below s (y .0) (y .1))
     found-at-4 f (inr (l, g)) e = absurd (l (at-number own (test 1) ∙ e))
 
     countable : Arrays s → (f : Option ℕ) → Free s own f → let x = turn p t own (current s (own .cell)) (s .last) f in Countable (s .counts) own (x .record) (current s (own .cell)) (x .current)
@@ -94,8 +100,27 @@ module _ (s : State) (p : List ℕ) (t : ℕ) where
         let first = cell-block s p (is-yes 0) (own .cell) cell-below in
         countable-to s p (is-yes 0) t below (own .cell) cell-below a
         (turn p t own c (s .last) f .record) (turn p t own c (s .last) f .current)
-        (names-below n p t own c (s .last) f (test 1) (at-number own (test 1)) held taken first (found-at-4 f h))
-        (block-below n p t own c (s .last) f (test 1) (at-number own (test 1)) held taken first (found-at-4 f h))
+        (names-kept (λ b. b < n) (λ b. b < n) p t own c (s .last) f (test 1) (at-number own (test 1)) held taken first (found-at-4 f h))
+        (current-kept (λ b. b < n) (λ b. b < n) p t own c (s .last) f (test 1) (at-number own (test 1)) held taken first)
+
+    -- with the block that the search finds
+    abbrev after : Turned
+    after = turn p t own (current s (own .cell)) (s .last) (unused s)
+
+    found : number (lineOf own) ≡ 4 → (b : ℕ) × (unused s ≡ some b) × Prim.Unit {0}
+    found g = let y = found-at-4 (unused s) (inl refl) g in (y .0, y .1, tt)
+
+    -- a task that held no replaced block holds none afterwards
+    pub holds-current : holdsReplaced s own ≡ false → not (isIdle (after .record)) && holds (after .record) ≡ true → isCurrent s (after .record .held) ≡ true
+    holds-current z = names-kept (λ b. isCurrent s b ≡ true) (λ b. Prim.Unit {0}) p t own (current s (own .cell)) (s .last) (unused s) (test 1) (at-number own (test 1))
+        (λ h. is-true (isCurrent s (own .held)) (rw (is-busy (holds own) h) at z)) (λ h. tt) (named-current s (own .cell) cell-below) found .0
+      where
+        is-true : (x : Bool) → not x ≡ false → x ≡ true
+        is-true true h = refl
+        is-true false h = sym h
+
+    pub block-stays : isIdle (after .record) ≡ false → after .current ≡ current s (own .cell)
+    block-stays = current-stays (λ b. Prim.Unit {0}) (λ b. Prim.Unit {0}) p t own (current s (own .cell)) (s .last) (unused s) (test 1) (at-number own (test 1)) (λ h. tt) (λ h. tt) tt found
 
     acts : (f : Option ℕ) → Free s own f → stepped s p t ≡ putBack s t own (turn p t own (current s (own .cell)) (s .last) f)
     unfolding stepped ran

@@ -6,8 +6,8 @@ use Rattle.lines.specs.declared.Record.{Record}
 use Rattle.lines.specs.declared.Access.{Access}
 use Rattle.questions.specs.declared.State.{State}
 use Rattle.lines.specs.Record.{recordAt}
-use Rattle.questions.specs.Questions.{refusal, fit, stepQuestions}
-use Rattle.blocks.specs.Blocks.{unused}
+use Rattle.questions.specs.Questions.{Question, refusal, fit, poolStepQuestions}
+use Rattle.blocks.specs.Blocks.{unused, isFound}
 use Rattle.cells.specs.Open.{After, leaving, unless}
 use Rattle.cells.specs.Begin.{withRecord}
 use Rattle.cells.specs.Counts.{recounted}
@@ -44,5 +44,8 @@ triedAt s p t r = tried t r (answers s p r)
 unfoldable pub ran : State → List ℕ → ℕ → Record → After
 ran s p t r = putBack s t r (turn p t r (current s (r .cell)) (s .last) (unused s))
 
+abbrev pub stepAsks : State → List ℕ → (task : ℕ) → List Question
+stepAsks s p t = (6, fit s p) ∷ poolStepQuestions (s .tasks) (recordAt (s .records) t) t (isFound (unused s))
+
 unfoldable pub stepped : State → List ℕ → (task : ℕ) → After
-stepped s p t = unless (refusal ((6, fit s p) ∷ stepQuestions (s .tasks) (recordAt (s .records) t) t)) s p (ran s p t (recordAt (s .records) t))
+stepped s p t = unless (refusal (stepAsks s p t)) s p (ran s p t (recordAt (s .records) t))

@@ -119,19 +119,19 @@ pub fn step(mut s: State, pool: &mut [u32], task: u32) -> Reply
     } else {
         records::idle()
     };
-    let n = questions::step_refusal(fit, s.tasks, r, task);
-    if n != 0 {
-        return Reply {
-            state: s,
-            outcome: Outcome::Refused(n),
-        };
-    }
     // Only line 4 asks for a block.
     let free = if r.line == 4 {
         blocks::unused_block(&s.counts, s.blocks, s.last)
     } else {
         Found::Nowhere
     };
+    let n = questions::step_refusal(fit, s.tasks, r, task, blocks::is_found(free));
+    if n != 0 {
+        return Reply {
+            state: s,
+            outcome: Outcome::Refused(n),
+        };
+    }
     let k = r.cell as usize;
     let c = s.current[k];
     let a = turn::take_turn(pool, task, r, c, s.last, free);
