@@ -2,16 +2,16 @@
 use mathlib.Core.Path.{_≡_, refl}
 use mathlib.Core.Bool.{Bool, true, false, cond}
 use mathlib.Core.Option.{none}
-use mathlib.Core.List.{List, _∷_}
+use mathlib.Core.List.{List}
 use Prim.Native.Nat.{ℕ}
 use lib.Dec.{eqb}
 use Rattle.lines.specs.declared.Field.the-variants.{D}
 use Rattle.lines.specs.Record.{noValue, recordAt}
 use Rattle.questions.specs.declared.State.{State}
-use Rattle.questions.specs.Questions.{refusal, fit, stepQuestions}
+use Rattle.questions.specs.Questions.{refusal}
 use Rattle.pool.specs.Pool.{word}
 use Rattle.pool.specs.Memory.{Touched}
-use Rattle.cells.specs.Step.{current, answers}
+use Rattle.cells.specs.Step.{current, stepAsks, answers}
 use Rattle.cells.specs.Machine.{triedBy}
 use Rattle.cells.proofs.Stepping.{own-acting}
 use Rattle.history.specs.History.{step}
@@ -24,7 +24,7 @@ value-of true m m′ e f = e
 value-of false m m′ e f = f
 
 -- A step's attempt is won exactly if the memory before it had D none, at line 2, or the held block current, at line 30; neither is guessed.
-pub cell-attempts-judged : (state : State) (words : List ℕ) (task : ℕ) → refusal ((6, fit state words) ∷ stepQuestions (state .tasks) (recordAt (state .records) task) task) ≡ none
+pub cell-attempts-judged : (state : State) (words : List ℕ) (task : ℕ) → refusal (stepAsks state words task) ≡ none
     → triedBy state words (step task) ≡ judged (seesPool (state, words) task)
 cell-attempts-judged s p t g =
     let r = recordAt (s .records) t in

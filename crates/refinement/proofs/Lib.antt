@@ -7,6 +7,7 @@ pub mod Lines
 pub mod Steps
 pub mod Opening
 pub mod Refines
+pub mod Lacking
 pub mod LoneRead
 pub mod Demand3
 pub mod Traces

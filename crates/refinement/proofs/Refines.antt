@@ -4,6 +4,7 @@ use mathlib.Core.Bool.{Bool, true, false, cond}
 use mathlib.Core.Option.{none, some}
 use mathlib.Core.List.{List, [], _∷_}
 use Prim.Native.Nat.{ℕ, _<_}
+use native.Mathlib.Omega.{arith}
 use lib.Dec.{ltb}
 use lib.ListN.{length}
 use borrow.Author.Tests.{ltb-true}
@@ -13,6 +14,7 @@ use Rattle.lines.specs.declared.Field.the-variants.{C, D}
 use Rattle.lines.specs.Record.{recordAt}
 use Rattle.pool.specs.Pool.{word}
 use Rattle.questions.specs.Questions.{refusal, countsTrue, fit, openQuestions}
+use Rattle.blocks.specs.Blocks.{Spare}
 use Rattle.cells.specs.Open.{opened}
 use Rattle.cells.specs.Step.{current}
 use Rattle.cells.specs.Look.{looked, shown, shownValue}
@@ -21,30 +23,40 @@ use Rattle.figure.specs.Figure.{World, figure, opening, wordOf, figureLooked}
 use Rattle.cells.specs.Machine.{Pool, pool}
 use Rattle.cells.proofs.Counted.{Arrays, counts-stay}
 use Rattle.cells.proofs.CountedOpen.{open-counts, open-arrays, arrays-stay}
+use Rattle.cells.proofs.Spare.{spare-stay, open-spare}
 use Rattle.refinement.specs.Terms.{start, named}
 use Rattle.figure.proofs.Records.{WellRecord, well}
 use Rattle.refinement.proofs.Agree.{Links, Agree}
 use Rattle.refinement.proofs.Fits.{fits}
+use Rattle.questions.proofs.Tests.{within-true}
 use Rattle.refinement.proofs.Steps.{Same, steps, begins}
 use Rattle.refinement.proofs.Opening.{Opened, opens}
 
--- agreement, with the figure's records well for as long as it runs on, and the stored counts true
+-- agreement, with the figure's records well for as long as it runs on, the stored counts true, and some task that holds no replaced block
 pub record Together (n v : ℕ) (x : Pool) (w : World) : Type 1 where
   pub R : Links
   pub agree : Agree n v R (x .0) (x .1) w
   pub well : (l : List Action) (t : ℕ) → WellRecord v (run figure w l .records t)
   pub arrays : Arrays (x .0)
   pub counts : countsTrue (x .0) ≡ true
+  pub spare : Spare (x .0)
 
 module _ {n v : ℕ} where
-  acts : {x : Pool} {w : World} → Together n v x w → (a : Action) → Same n v (pool x a) (figure w a)
-  acts g (begin t op) = begins (g .agree) (g .well []) (g .counts) t op
-  acts g (step t) = steps (g .agree) (g .well []) (g .counts) t
+  pub acts : {x : Pool} {w : World} → Together n v x w → (a : Action) → Same n v (pool x a) (figure w a)
+  acts g (begin t op) = begins (g .agree) (g .well []) (g .counts) (g .spare) t op
+  acts g (step t) = steps (g .agree) (g .well []) (g .counts) (g .spare) t
 
   further : {x : Pool} {w : World} → Together n v x w → (a : Action) → Together n v (pool x a .0) (figure w a .0)
   further {x} g a =
       let b = acts g a in
-      record { R = b .R; agree = b .agree; well = λ l. g .well (a ∷ l); arrays = arrays-stay (x .0) (x .1) (g .arrays) a; counts = counts-stay (x .0) (x .1) (g .arrays) (g .counts) a }
+      record {
+        R = b .R;
+        agree = b .agree;
+        well = λ l. g .well (a ∷ l);
+        arrays = arrays-stay (x .0) (x .1) (g .arrays) a;
+        counts = counts-stay (x .0) (x .1) (g .arrays) (g .counts) a;
+        spare = spare-stay (x .0) (x .1) (omega (arith, g .agree .rows, g .agree .sizes .same-tasks)) (g .spare) a;
+      }
 
   all-together : (l : List Action) {x : Pool} {w : World} → Together n v x w → Together n v (run pool x l) (run figure w l)
   all-together [] g = g
@@ -85,6 +97,7 @@ module _ (old : State) (words : List ℕ) (tasks cells blocks : ℕ) (values : L
     well = well tasks cells values;
     arrays = rw allowed (open-arrays words values tasks cells blocks allowed);
     counts = rw allowed (open-counts words values tasks cells blocks allowed);
+    spare = rw allowed (open-spare tasks cells blocks (within-true tasks 1 32 (fresh-opening .sizes .tasks-ok) .0));
   }
 
   module _ (actions : List Action) where

@@ -23,8 +23,8 @@ use Rattle.cells.specs.Begin.{withRecord, started, readBegun, swapBegun}
 use Rattle.pool.specs.Memory.{Touched, performed}
 use Rattle.cells.specs.Turn.{ending}
 use Rattle.cells.specs.Counts.{recounted}
-use Rattle.cells.specs.Step.{current, withBlocks, withCounts, putBack, ran, stepped}
-use Rattle.cells.proofs.Stepping.{asked, own-acting}
+use Rattle.cells.specs.Step.{current, withBlocks, withCounts, putBack, ran, stepAsks, stepped}
+use Rattle.cells.proofs.Stepping.{own-acting}
 use Rattle.history.specs.History.{Op, read, swap, Attempt}
 use Rattle.cells.specs.Machine.{begins}
 use Rattle.figure.specs.Figure.{recordAfter, outcomeOf}
@@ -78,10 +78,10 @@ module _ (s : State) (p : List ℕ) (t : ℕ) where
 
   pub step-cases : Stepped (stepped s p t)
   unfolding stepped ran
-  step-cases = go (refusal (asked s p t)) refl
+  step-cases = go (refusal (stepAsks s p t)) refl
     where
-      go : (o : Option ℕ) → refusal (asked s p t) ≡ o → Stepped (unless o s p (ran s p t r))
-      go none e = subst Stepped (left-is (touchedAt (lineOf r)) (following (lineOf r))) (runs (record { task = ltb-true t (s .tasks) (yes-to (asked s p t) e 7); line = at-number r (own-acting s p t e .line) }))
+      go : (o : Option ℕ) → refusal (stepAsks s p t) ≡ o → Stepped (unless o s p (ran s p t r))
+      go none e = subst Stepped (left-is (touchedAt (lineOf r)) (following (lineOf r))) (runs (record { task = ltb-true t (s .tasks) (yes-to (stepAsks s p t) e 7); line = at-number r (own-acting s p t e .line) }))
       go (some n) e = refuses n
 
   -- the record that a begin stores refers to no taken block

@@ -1,12 +1,12 @@
 -- Each action keeps the agreement, and pool and figure give the same event.
 use mathlib.Core.Path.{_≡_, refl, sym, ap, _∙_, subst}
-use mathlib.Core.Bool.{Bool, true, false, _&&_, cond, not, false≢true}
+use mathlib.Core.Bool.{Bool, true, false, _&&_, _||_, cond, not, false≢true}
 use mathlib.Core.Logic.{inl, inr}
 use mathlib.Core.Option.{Option, none, some}
 use mathlib.Core.List.{List, [], _∷_}
 use Prim.Native.Nat.{ℕ, _<_}
 use lib.Dec.{eqb, ltb, T}
-use borrow.Author.Tests.{ltb-true}
+use borrow.Author.Tests.{eqb-true, ltb-true}
 use Rattle.lines.specs.declared.Record.{Record}
 use Rattle.lines.specs.declared.Field.{Field}
 use Rattle.questions.specs.declared.State.{State}
@@ -19,13 +19,13 @@ use Rattle.questions.specs.Questions.{Question, refusal, reads, swaps, countsTr
 use Rattle.cells.specs.Open.{After, unless}
 use Rattle.lines.specs.Record.{firstRead, firstSwap}
 use Rattle.cells.specs.Begin.{readBegun, swapBegun, started}
-use Rattle.blocks.specs.Blocks.{unused}
+use Rattle.blocks.specs.Blocks.{Spare, unused, isFound}
 use Rattle.pool.specs.Memory.{Touched, performed}
 use Rattle.cells.specs.Turn.{ending}
-use Rattle.cells.specs.Step.{current, withBlocks, putBack, triedAt, ran, stepped}
-use Rattle.questions.proofs.Tests.{nth, all-yes}
+use Rattle.cells.specs.Step.{current, withBlocks, putBack, triedAt, ran, stepAsks, stepped}
+use Rattle.questions.proofs.Tests.{nth, all-yes, implied}
 use Rattle.questions.proofs.Numbers.{number, at-number}
-use Rattle.blocks.proofs.Unused.{one-is-unused}
+use Rattle.blocks.proofs.Unused.{Found, one-is-unused}
 use Rattle.history.specs.History.{Op, read, swap, begin, step, Attempt, untried, Event}
 use Rattle.figure.specs.Figure.{Cell, World, withBoth, worldAfter, recordAfter, outcomeOf, figure, WorldAfter, accessCell, figureBegun, figureRan, figureStepped, unlessRefused, withTask, triedIn}
 use Rattle.cells.specs.Events.{eventOf}
@@ -55,7 +55,7 @@ finishes : {n v : ℕ} {R : Links} (s : State) (m : Touched) (w : World) (r₀ :
 finishes {R = R} s m w r₀ t x c a l (going {r} {q} e) = record { R = R; agree = counts-change (records-change a t r q l e) _; event = refl }
 finishes {R = R} s m w r₀ t x c a l ended = record { R = R; agree = counts-change (records-change a t idle idle l (no-blocks idle tt)) _; event = refl }
 
-module _ {n v : ℕ} {R : Links} {s : State} {p : List ℕ} {w : World} (a : Agree n v R s p w) (well : (t : ℕ) → WellRecord v (w .records t)) (true-counts : countsTrue s ≡ true) (t : ℕ) where
+module _ {n v : ℕ} {R : Links} {s : State} {p : List ℕ} {w : World} (a : Agree n v R s p w) (well : (t : ℕ) → WellRecord v (w .records t)) (true-counts : countsTrue s ≡ true) (spare : Spare s) (t : ℕ) where
   -- THE QUESTIONS
 
   -- the task's records
@@ -97,6 +97,20 @@ module _ {n v : ℕ} {R : Links} {s : State} {p : List ℕ} {w : World} (a : Agr
 
   -- A STEP
 
+  pub found : t < n → r .line ≡ 4 → Found s (unused s)
+  found l e = one-is-unused s p t (fits a well true-counts) spare (rw (a .sizes .same-tasks) l) e
+
+  -- so question 20 is answered yes
+  asks-no-20 : refusal (stepAsks s p t) ≡ answered (λ v i. (11, not i) ∷ [])
+  asks-no-20 = go (fit s p) (ltb t (s .tasks)) (not (isIdle r)) (not (eqb (r .line) 4) || isFound (unused s)) yes-20
+    where
+      go : (x y z u : Bool) → (y ≡ true → u ≡ true) → refusal ((6, x) ∷ (7, y) ∷ (11, z) ∷ (20, u) ∷ []) ≡ refusal ((6, x) ∷ (7, y) ∷ (11, z) ∷ [])
+      go x true z u h = rw (h refl)
+      go x false z u h = refl
+
+      yes-20 : ltb t (s .tasks) ≡ true → (not (eqb (r .line) 4) || isFound (unused s)) ≡ true
+      yes-20 y = implied (eqb (r .line) 4) (isFound (unused s)) (λ e. ap isFound (found (rw (← a .sizes .same-tasks) (ltb-true t (s .tasks) y)) (eqb-true (r .line) 4 e) .1))
+
   module _ (l : t < n) (h k : ℕ) (e : r ≡ named q h k) (y : Busy v q) where
     busy-step : Same n v (gives (eventOf (triedAt s p t (named q h k))) (ran s p t (named q h k))) (figureGives (eventOf (triedIn w t q)) (figureRan w t q))
     unfolding ran figureRan
@@ -106,7 +120,7 @@ module _ {n v : ℕ} {R : Links} {s : State} {p : List ℕ} {w : World} (a : Agr
         let has : Has R s q h k (lineOf q) = record {
           held = subst (λ (n : ℕ). T (holdsAt n) → Whole R (q .cell) (q .held) h) at (task .held);
           taken = subst (λ (n : ℕ). (f : Field) → T (storedBefore n f) → R (q .cell) (q .taken) k f) at (task .taken);
-          found = λ g. one-is-unused s p t (fits a well true-counts) (rw (a .sizes .same-tasks) l) (ap (λ (r : Record). r .line) e ∙ at ∙ g);
+          found = λ g. found l (ap (λ (r : Record). r .line) e ∙ at ∙ g);
         } in
         let accesses = linked R s q h k t (reads q) (swaps q) (lineOf q) (y .line) has in
         let m = performed p (current s (q .cell)) (s .last) (unused s) (accessOf t (named q h k)) in
@@ -130,7 +144,7 @@ module _ {n v : ℕ} {R : Links} {s : State} {p : List ℕ} {w : World} (a : Agr
 
   pub steps : Same n v (pool (s, p) (step t)) (figure w (step t))
   unfolding stepped figureStepped
-  steps = asked (λ v i. (11, not i) ∷ []) (eventOf (triedAt s p t r)) (eventOf (triedIn w t q)) (ran s p t r) (figureRan w t q) (λ _. refl) (λ l g. step-acts l (nth (ltb t n ∷ not (isIdle q) ∷ []) g 1))
+  steps = rw asks-no-20 (asked (λ v i. (11, not i) ∷ []) (eventOf (triedAt s p t r)) (eventOf (triedIn w t q)) (ran s p t r) (figureRan w t q) (λ _. refl) (λ l g. step-acts l (nth (ltb t n ∷ not (isIdle q) ∷ []) g 1)))
 
   -- A BEGIN
 
