@@ -38,7 +38,7 @@ prints :
     ("(open 3 1 7 (5))\n(swap 0 0 5 7)\n(swap 1 0 5 9)\n(again 2 (step 0))\n(again 7 (step 1))\n(again 2 (step 0))\n(step 1)\n(again 2 (step 0))\n(read 2 0)\n(again 3 (step 2))\n", "(at 12 itself 1 swap 0 C3)\n") ∷
     -- a file that is none; a refused open; no call
     ("(open 2 1 5 (5))", "(bad 13)\n") ∷
-    ("(open 2 1 4 (5))\n", "(bad 3)\n") ∷
+    ("(open 2 1 3 (5))\n", "(bad 3)\n") ∷
     ("(open 2 1 5 (5))\n(step 0)\n", "") ∷
     []
     )

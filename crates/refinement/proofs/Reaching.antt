@@ -1,18 +1,23 @@
--- Every state that an opening and actions lead to is fit: a program that starts with an opening need not ask question 6 again.
+-- Every state that an opening and actions lead to is fit, and has a block for line 4: a program that starts with an opening need not ask
+-- questions 6 and 20 again.
 use mathlib.Core.Path.{_≡_, refl, sym, ap, subst, _∙_}
-use mathlib.Core.Bool.{true}
+use mathlib.Core.Bool.{true, _||_, not}
 use mathlib.Core.Option.{none}
 use mathlib.Core.List.{List, [], _∷_, _++_}
-use Prim.Native.Nat.{ℕ}
+use Prim.Native.Nat.{ℕ, _<_}
+use lib.Dec.{eqb}
 use lib.ListN.{length}
 use Rattle.questions.specs.declared.State.{State}
+use Rattle.lines.specs.Record.{recordAt}
 use Rattle.questions.specs.Questions.{refusal, fit, openQuestions}
+use Rattle.blocks.specs.Blocks.{unused, isFound}
 use Rattle.history.specs.History.{Action}
 use Rattle.history.proofs.EveryAction.{run-snoc}
 use Rattle.cells.specs.Machine.{Pool, pool}
 use Rattle.cells.proofs.Counted.{Arrays}
 use Rattle.refinement.specs.Terms.{start}
 use Rattle.refinement.specs.Reached.{Reached}
+use Rattle.refinement.proofs.Steps.{yes-20}
 use Rattle.refinement.proofs.Refines.{together, always-fit}
 
 pub reached-open : (old : State) (words : List ℕ) (tasks cells blocks : ℕ) (values : List ℕ) → refusal (openQuestions (length words) tasks cells blocks values) ≡ none
@@ -33,6 +38,11 @@ module _ {tasks cells : ℕ} {state : State} {pool-words : List ℕ} (r : Reache
 
   pub reached-fit : fit state pool-words ≡ true
   reached-fit = subst (λ (x : Pool). fit (x .0) (x .1) ≡ true) (sym (r .came)) (always-fit (r .old) (r .words) tasks cells (r .blocks) (r .values) (r .allowed) (r .actions))
+
+  pub reached-20 : (task : ℕ) → task < tasks → (not (eqb (recordAt (state .records) task .line) 4) || isFound (unused state)) ≡ true
+  reached-20 t l =
+      let g = together (r .old) (r .words) tasks cells (r .blocks) (r .values) (r .allowed) (r .actions) in
+      subst (λ (x : Pool). (not (eqb (recordAt (x .0 .records) t .line) 4) || isFound (unused (x .0))) ≡ true) (sym (r .came)) (yes-20 (g .agree) (g .well []) (g .counts) (g .spare) t l)
 
   pub reached-arrays : Arrays state
   reached-arrays = subst (λ (x : Pool). Arrays (x .0)) (sym (r .came)) (together (r .old) (r .words) tasks cells (r .blocks) (r .values) (r .allowed) (r .actions) .arrays)

@@ -101,15 +101,15 @@ module _ {n v : ℕ} {R : Links} {s : State} {p : List ℕ} {w : World} (a : Agr
   found l e = one-is-unused s p t (fits a well true-counts) spare (rw (a .sizes .same-tasks) l) e
 
   -- so question 20 is answered yes
+  pub yes-20 : t < n → (not (eqb (r .line) 4) || isFound (unused s)) ≡ true
+  yes-20 l = implied (eqb (r .line) 4) (isFound (unused s)) (λ e. ap isFound (found l (eqb-true (r .line) 4 e) .1))
+
   asks-no-20 : refusal (stepAsks s p t) ≡ answered (λ v i. (11, not i) ∷ [])
-  asks-no-20 = go (fit s p) (ltb t (s .tasks)) (not (isIdle r)) (not (eqb (r .line) 4) || isFound (unused s)) yes-20
+  asks-no-20 = go (fit s p) (ltb t (s .tasks)) (not (isIdle r)) (not (eqb (r .line) 4) || isFound (unused s)) (λ y. yes-20 (rw (← a .sizes .same-tasks) (ltb-true t (s .tasks) y)))
     where
       go : (x y z u : Bool) → (y ≡ true → u ≡ true) → refusal ((6, x) ∷ (7, y) ∷ (11, z) ∷ (20, u) ∷ []) ≡ refusal ((6, x) ∷ (7, y) ∷ (11, z) ∷ [])
       go x true z u h = rw (h refl)
       go x false z u h = refl
-
-      yes-20 : ltb t (s .tasks) ≡ true → (not (eqb (r .line) 4) || isFound (unused s)) ≡ true
-      yes-20 y = implied (eqb (r .line) 4) (isFound (unused s)) (λ e. ap isFound (found (rw (← a .sizes .same-tasks) (ltb-true t (s .tasks) y)) (eqb-true (r .line) 4 e) .1))
 
   module _ (l : t < n) (h k : ℕ) (e : r ≡ named q h k) (y : Busy v q) where
     busy-step : Same n v (gives (eventOf (triedAt s p t (named q h k))) (ran s p t (named q h k))) (figureGives (eventOf (triedIn w t q)) (figureRan w t q))

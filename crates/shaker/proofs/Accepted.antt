@@ -19,7 +19,7 @@ use Rattle.cells.specs.Machine.{Pool, does, triedBy, pool}
 use Rattle.cells.proofs.Acts.{read-acts, swap-acts, step-acts}
 use Rattle.refinement.specs.Reached.{Reached}
 use Rattle.refinement.proofs.Refines.{together}
-use Rattle.refinement.proofs.Reaching.{reached-next, reached-fit}
+use Rattle.refinement.proofs.Reaching.{reached-next, reached-fit, reached-20}
 use Rattle.shaker.specs.Generator.{next, below}
 use Rattle.shaker.specs.Drawn.{Drawn, drawn, drawnBegin, drawnAction, drawnActions, startOf}
 use Rattle.shaker.specs.Shaken.{shakeQuestions, shakenActions}
@@ -51,7 +51,7 @@ module _ {n v : ℕ} {s : State} {p : List ℕ} (r : Reached n v s p) (t : ℕ) 
         swap-acts s p t k x y ∙ rw (reached-fit r, in-tasks, in-cells k g, idle, ne-eqb x noValue (λ z. omega (arith, z)), ne-eqb y noValue (λ z. omega (arith, z)))
 
   step-accepted : isIdle (recordAt (s .records) t) ≡ false → acts (does s p (step t) .outcome) ≡ true
-  step-accepted busy = step-acts s p t ∙ rw (reached-fit r, in-tasks, busy)
+  step-accepted busy = step-acts s p t ∙ rw (reached-fit r, in-tasks, busy, reached-20 r t h)
 
 -- AN ACTION THAT IS DRAWN
 

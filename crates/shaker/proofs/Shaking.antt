@@ -1,12 +1,12 @@
 -- The questions, and the whole buffer.
 use mathlib.Core.Path.{_≡_, refl, sym, ap, _∙_}
-use mathlib.Core.Bool.{Bool, true, false, cond, not, _&&_, and-eq-true-iff}
+use mathlib.Core.Bool.{Bool, true, false, cond, not}
 use mathlib.Core.Option.{Option, none, some, Option·getD}
 use mathlib.Core.List.{List, [], _∷_, _++_}
 use Prim.Native.Nat.{ℕ, _+_, _*_, _≤_, _<_}
 use native.Mathlib.Omega.{arith}
-use borrow.Author.Tests.{le-leb, lt-leb, leb-true, ne-eqb}
-use lib.Dec.{eqb, leb}
+use borrow.Author.Tests.{le-leb, lt-leb, ne-eqb}
+use lib.Dec.{eqb}
 use lib.ListN.{length, drop}
 use Rattle.io.specs.Counts.{Counts}
 use Rattle.text.specs.Lines.{badLine}
@@ -14,7 +14,7 @@ use Rattle.text.specs.Append.{Appended}
 use Rattle.text.proofs.Appending.{nothing, entire}
 use Rattle.lines.specs.Basics.{within}
 use Rattle.questions.specs.Questions.{Question, refusal, tasksOk, cellsOk, blocksOk, hasNone, openQuestions}
-use Rattle.questions.proofs.Tests.{within-true}
+use Rattle.questions.proofs.Tests.{within-true, blocks-most}
 use Rattle.shaker.specs.Shaken.{shakeQuestions, sessionText, shaken, shakenWithin}
 
 -- THE QUESTIONS, of an opening without values and of the shaker
@@ -112,5 +112,4 @@ sizes n v b k e z =
     let y = yeses (tasksOk n) (cellsOk v) (blocksOk n v b (5 * b)) (within k 1 3000) (sym e ∙ z) in
     let ys = within-true n 1 32 (y .0) in
     let vs = within-true v 1 16 (y .1) in
-    let ls = and-eq-true-iff (leb (v + 2 * n) b) (leb b 128) .0 (and-eq-true-iff (leb (v + 2 * n) b && leb b 128) (eqb (5 * b) (5 * b)) .0 (y .2) .0) in
-    (ys .0, ys .1, vs .0, vs .1, leb-true b 128 (ls .1), within-true k 1 3000 (y .3) .1)
+    (ys .0, ys .1, vs .0, vs .1, blocks-most n v b (5 * b) (y .2), within-true k 1 3000 (y .3) .1)
