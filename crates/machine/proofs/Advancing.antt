@@ -1,9 +1,10 @@
 -- One action in place is the action: begins and steps of a fit state whose parts are lent one by one.
 use mathlib.Core.Path.{_≡_, refl, sym, ap, subst, _∙_}
-use mathlib.Core.Bool.{true, false}
+use mathlib.Core.Bool.{Bool, true, false, _&&_, _||_, not}
 use mathlib.Core.Option.{Option, Option·getD}
 use mathlib.Core.List.{List, _∷_}
 use Prim.Native.Nat.{ℕ, _≤_, _<_}
+use lib.Dec.{eqb}
 use lib.ListN.{length, getD, set}
 use borrow.Author.Tests.{lt-ltb, le-ltb, ne-eqb}
 use Rattle.lines.specs.declared.Record.{Record}
@@ -12,15 +13,17 @@ use Rattle.pool.specs.Memory.{There}
 use Rattle.pool.specs.Words.{recordsOf}
 use Rattle.questions.specs.declared.State.{State}
 use Rattle.questions.specs.Questions.{Question, refusal, fit, swapQuestions}
+use Rattle.questions.proofs.Tests.{implied-not}
 use Rattle.questions.proofs.Fits.{sizes}
 use Rattle.questions.proofs.Refusals.{is-refused, is-allowed}
+use Rattle.blocks.specs.Blocks.{unused, isFound}
 use Rattle.cells.specs.Answers.{Refused, Acted}
 use Rattle.cells.specs.Open.{leaving, unless}
 use Rattle.cells.specs.Begin.{started, begun}
 use Rattle.cells.specs.Counts.{recounted, Countable}
 use Rattle.cells.specs.Step.{putBack, stepped}
 use Rattle.cells.specs.Turn.{Turned, turn, Ready}
-use Rattle.cells.proofs.Stepping.{Free, Acting, own-acting}
+use Rattle.cells.proofs.Stepping.{Free, Acting, same-20, own-acting}
 use Rattle.machine.specs.Places.{stateOf, renames}
 use Rattle.machine.proofs.Placing.{records-length}
 use Rattle.machine.proofs.Quiet.{quiet}
@@ -68,30 +71,44 @@ module _ (n v b l : ℕ) (c w k p : List ℕ) (fits : fit (stateOf n v b l c w k
       unfolding stepped
       idle-at z = rw (fits, lt-ltb t n own, z)
 
-      acting : (at .line ≡ 0 → ⊥) → Acting s p t at
-      acting busy = own-acting s p t (rw (fits, lt-ltb t n own, ne-eqb (at .line) 0 busy))
+      -- question 20 of a record: the search gave f, and y is whether a block was found; z is what the code asks
+      asked-20 : (x : Record) (f : Option ℕ) (z : Bool) → Free s x f → (y : Bool) → y ≡ isFound f → eqb (x .line) 4 && not y ≡ z → (not (eqb (x .line) 4) || isFound (unused s)) ≡ not z
+      asked-20 x f z free y e g = sym (same-20 s x f free) ∙ rw (← e) (implied-not (eqb (x .line) 4) y ∙ ap not g)
+
+      abbrev Lacks : Record → Type 0
+      Lacks x = (x .line ≡ 0 → ⊥) → (f : Option ℕ) → Free s x f → (y : Bool) → y ≡ isFound f → eqb (x .line) 4 && not y ≡ true → leaving s p (Refused 20) ≡ stepped s p t
+
+      lacks-at : Lacks at
+      unfolding stepped
+      lacks-at busy f free y e g = rw (fits, lt-ltb t n own, ne-eqb (at .line) 0 busy, asked-20 at f true free y e g)
+
+      acting : (at .line ≡ 0 → ⊥) → (not (eqb (at .line) 4) || isFound (unused s)) ≡ true → Acting s p t at
+      acting busy y = own-acting s p t (rw (fits, lt-ltb t n own, ne-eqb (at .line) 0 busy, y))
 
       -- what the turn of a record needs, and what its counts need
       abbrev Needs : Record → Type 0
-      Needs x = (x .line ≡ 0 → ⊥) → (x .cell < 16) × ((f : Option ℕ) → Free s x f → (Ready (length p) x × There (length p) f)
+      Needs x = (x .line ≡ 0 → ⊥) → (f : Option ℕ) → Free s x f → (y : Bool) → y ≡ isFound f → eqb (x .line) 4 && not y ≡ false → (x .cell < 16) × ((Ready (length p) x × There (length p) f)
           × (length c ≡ 16 → length k ≡ 128 → (u : Turned) → u ≡ turn p t x (getD c (x .cell) 0) l f → Countable k x (u .record) (getD c (x .cell) 0) (u .current)
           × (renames (x .line) (u .record .line) ≡ false → k ≡ recounted k x (u .record) (getD c (x .cell) 0) (u .current))))
 
       needs-at : Needs at
-      needs-at busy = let a = acting busy in (a .cell, λ f free. ((a .ready, a .there f free), λ ec ek u eu. let n = a .countable (ec, records-length 32 w, ek) f free in rw eu (n, λ z. quiet p t at (getD c (at .cell) 0) l f (a .line) k z n)))
+      needs-at busy f free y e g = let a = acting busy (asked-20 at f false free y e g) in (a .cell, ((a .ready, a .there f free), λ ec ek u eu. let n = a .countable (ec, records-length 32 w, ek) f free in rw eu (n, λ z. quiet p t at (getD c (at .cell) 0) l f (a .line) k z n)))
 
       abbrev Done : Record → Type 0
-      Done x = (x .line ≡ 0 → ⊥) → (f : Option ℕ) → Free s x f → (u : Turned) (w′ k′ : List ℕ) → u ≡ turn p t x (getD c (x .cell) 0) l f
+      Done x = (x .line ≡ 0 → ⊥) → (f : Option ℕ) → Free s x f → (y : Bool) → y ≡ isFound f → eqb (x .line) 4 && not y ≡ false → (u : Turned) (w′ k′ : List ℕ) → u ≡ turn p t x (getD c (x .cell) 0) l f
           → k′ ≡ recounted k x (u .record) (getD c (x .cell) 0) (u .current) → recordsOf 32 w′ ≡ set (recordsOf 32 w) t (u .record)
           → leaving (stateOf n v b (u .last) (set c (x .cell) (u .current)) w′ k′) (u .pool) (u .outcome) ≡ stepped s p t
 
       done-at : Done at
-      done-at busy f free u w′ k′ eu ek ew = rw (ew, ek) (ap (putBack s t at) eu ∙ sym (acting busy .acts f free))
+      done-at busy f free y e g u w′ k′ eu ek ew = rw (ew, ek) (ap (putBack s t at) eu ∙ sym (acting busy (asked-20 at f false free y e g) .acts f free))
 
       -- of the record that the code has read
       module _ (r : Record) (er : r ≡ at) where
         pub step-idle : r .line ≡ 0 → leaving s p (Refused 11) ≡ stepped s p t
         step-idle z = idle-at (ap (λ (x : Record). x .line) (sym er) ∙ z)
+
+        pub step-lacking : Lacks r
+        step-lacking = subst Lacks (sym er) lacks-at
 
         pub step-needs : Needs r
         step-needs = subst Needs (sym er) needs-at

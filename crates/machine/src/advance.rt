@@ -2,6 +2,7 @@
 // session runner, and for the tools that run the same actions. Of a fit state, so question 6 is not asked: what an opening left stays fit.
 use crate::actions::Action;
 use blocks::Found;
+use blocks::is_found;
 use blocks::unused_block;
 use cells::Outcome;
 use cells::counts::recount;
@@ -65,14 +66,17 @@ pub fn advance(
             if r.line == 0 {
                 return refuse(last, 11);
             }
-            let k = r.cell as usize;
-            let c = current[k];
             // Only line 4 asks for a block.
             let free = if r.line == 4 {
                 unused_block(counts, blocks, last)
             } else {
                 Found::Nowhere
             };
+            if (r.line == 4) & !is_found(free) {
+                return refuse(last, 20);
+            }
+            let k = r.cell as usize;
+            let c = current[k];
             let n = make_move(pool, &mut records[from..to], task, c, last, free);
             current[k] = n.current;
             let q = record_of(&records[from..to]);

@@ -12,11 +12,11 @@ use Rattle.lines.specs.Record.{recordAt, firstRead, firstSwap}
 use Rattle.lines.specs.Lines.{Line, lineOf, accessAt, accessOf, nextOf, attempt, counted, hardware}
 use Rattle.figure.proofs.Tries.{tries}
 use Rattle.questions.specs.declared.State.{State}
-use Rattle.questions.specs.Questions.{refusal, lineFit, fit, beginQuestions, swapQuestions, stepQuestions}
+use Rattle.questions.specs.Questions.{refusal, lineFit, fit, beginQuestions, swapQuestions}
 use Rattle.blocks.specs.Blocks.{unused}
 use Rattle.cells.specs.Open.{After, unless}
 use Rattle.cells.specs.Begin.{started, readBegun, swapBegun}
-use Rattle.cells.specs.Step.{current, ran, stepped}
+use Rattle.cells.specs.Step.{current, ran, stepAsks, stepped}
 use Rattle.pool.specs.Memory.{Touched, performed}
 use Rattle.cells.specs.Turn.{ending, turn}
 use Rattle.cells.proofs.Stepping.{Acting, own-acting}
@@ -52,7 +52,7 @@ module _ (t : ℕ) where
   unfolding stepped ran
   steps s p =
       let r = recordAt (s .records) t in
-      asked (refusal ((6, fit s p) ∷ stepQuestions (s .tasks) r t)) s p (ran s p t r) (λ g.
+      asked (refusal (stepAsks s p t)) s p (ran s p t r) (λ g.
       let a : Acting s p t r = own-acting s p t g in
       turns p r (current s (r .cell)) (s .last) (unused s) (a .line) (omega (arith, a .task)) (omega (arith, a .cell)) (a .ready .steps) (a .ready .hard))
 

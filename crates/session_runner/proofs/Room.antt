@@ -13,12 +13,12 @@ use Rattle.lines.specs.Answers.{Next, Go, Done}
 use Rattle.lines.specs.Record.{idle, recordAt, firstRead, firstSwap}
 use Rattle.lines.specs.Lines.{accessOf, nextOf}
 use Rattle.questions.specs.declared.State.{State}
-use Rattle.questions.specs.Questions.{Question, refusal, fit, beginQuestions, swapQuestions, stepQuestions}
+use Rattle.questions.specs.Questions.{Question, refusal, fit, beginQuestions, swapQuestions}
 use Rattle.blocks.specs.Blocks.{unused}
 use Rattle.cells.specs.Answers.{Said}
 use Rattle.cells.specs.Open.{After, unless}
 use Rattle.cells.specs.Begin.{started, readBegun, swapBegun}
-use Rattle.cells.specs.Step.{current, ran, stepped}
+use Rattle.cells.specs.Step.{current, ran, stepAsks, stepped}
 use Rattle.pool.specs.Memory.{Touched, performed}
 use Rattle.cells.specs.Turn.{ending, turn}
 use Rattle.cells.specs.Events.{eventOf}
@@ -114,7 +114,7 @@ module _ (i t : ℕ) (h : i < 100000) where
   unfolding stepped ran
   steps s p k =
       let r = recordAt (s .records) k in
-      asked ((6, fit s p) ∷ stepQuestions (s .tasks) r k) s p (ran s p k r) refl (λ g.
+      asked (stepAsks s p k) s p (ran s p k r) refl (λ g.
       let a : Acting s p k r = own-acting s p k g in
       let u = turn p k r (current s (r .cell)) (s .last) (unused s) in
       let busy : r .line ≡ 0 → ⊥ = λ e. let z : _≡_ {A = Bool} false true = rw e at (a .line) in let y : _≡_ {A = ℕ} 0 1 = cc in omega arith in
