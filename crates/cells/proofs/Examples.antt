@@ -1,15 +1,19 @@
--- Three runs of the pool in which readings to keep out would answer otherwise, computed. (P1 to P10: `prints` in session_text.)
+-- Three runs of the pool in which readings to keep out would answer otherwise, and one that a block more would let go on, computed. (P1 to
+-- P10: `prints` in session_text.)
 use mathlib.Core.Path.{_≡_, refl}
+use mathlib.Core.Bool.{true}
+use mathlib.Core.Option.{none}
 use mathlib.Core.List.{List, [], _∷_, _++_}
 use Prim.Native.Nat.{ℕ}
 use lib.ListN.{replicate}
 use Rattle.questions.specs.Questions.{hasNone, openQuestions, recordFit, cellsFit, recordsFit, uses, countsTrue, fit}
-use Rattle.blocks.specs.Blocks.{found}
-use Rattle.lines.specs.Record.{idle}
-use Rattle.history.specs.History.{read, swap, Action, begin, step, Kind, aRead, aSwap, Response, Value, Yes, No, Report, Event, refused, accepted, answered, history}
-use Rattle.cells.specs.Open.{opened}
+use Rattle.blocks.specs.Blocks.{found, unused}
+use Rattle.lines.specs.declared.Record.{Record}
+use Rattle.lines.specs.Record.{idle, recordAt, firstRead, firstSwap}
+use Rattle.history.specs.History.{Op, read, swap, Action, begin, step, Kind, aRead, aSwap, Response, Value, Yes, No, Report, Event, refused, accepted, answered, history}
+use Rattle.cells.specs.Open.{openState, openPool, opened}
 use Rattle.cells.specs.Counts.{recounted}
-use Rattle.cells.specs.Begin.{readBegun, swapBegun}
+use Rattle.cells.specs.Begin.{started, readBegun, swapBegun}
 use Rattle.cells.specs.Step.{ran, stepped}
 use Rattle.cells.specs.Machine.{Pool, pool}
 
@@ -63,3 +67,32 @@ examples :
     )
 unfolding opened readBegun swapBegun stepped ran fit recordFit cellsFit recordsFit uses countsTrue hasNone openQuestions found recounted
 examples = (refl, (refl, (refl, tt)))
+
+-- ONE BLOCK FEWER STILL
+
+abbrev firstOf : Op → Record
+firstOf (read k) = firstRead k
+firstOf (swap k e n) = firstSwap k e n
+
+-- what an action does, and no question is asked
+abbrev unasked : Pool → Action → Pool
+unasked (s, p) (begin t op) = let r = started s p t (firstOf op) in (r .state, r .pool)
+unasked (s, p) (step t) = let r = ran s p t (recordAt (s .records) t) in (r .state, r .pool)
+
+abbrev runs : Pool → List Action → Pool
+runs x [] = x
+runs x (a ∷ l) = runs (unasked x a) l
+
+-- Two tasks, two cells that hold 5, and V + 2N - 2 = 4 blocks, which open refuses: this is what it would leave. On cell 1 they collide, and
+-- its block is decided. On cell 0 they collide: task 0 is to replace its block, and task 1 does it first. Then task 1 takes a block for cell 1.
+-- So at line 4 task 0 finds none: it holds block 0, the cells name 2 and 1, and 3 is taken. The counts are true.
+abbrev lacking : Pool
+lacking =
+    runs (openState 2 2 4, openPool (replicate 20 9) (5 ∷ 5 ∷ []))
+    (begin 0 (swap 1 5 7) ∷ begin 1 (swap 1 5 9) ∷ steps 2 0 ++ steps 7 1 ++ steps 2 0 ++ steps 5 1 ++ steps 3 0
+    ++ begin 0 (swap 0 5 7) ∷ begin 1 (swap 0 5 9) ∷ steps 2 0 ++ steps 7 1 ++ steps 5 0 ++ steps 14 1
+    ++ begin 1 (swap 1 9 4) ∷ steps 8 1)
+
+one-fewer-lacks : (recordAt (lacking .0 .records) 0 .line ≡ 4) × (unused (lacking .0) ≡ none) × (countsTrue (lacking .0) ≡ true)
+unfolding ran uses countsTrue found recounted
+one-fewer-lacks = (refl, refl, refl)

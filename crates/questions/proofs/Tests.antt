@@ -47,13 +47,14 @@ one-fewer a b = go (leb (a - 1) b) refl
 
 pub blocks-true : (n v b len : ℕ) → blocksOk n v b len ≡ true → (v + 2 * n ≤ b + 1) × (len ≡ 5 * b)
 blocks-true n v b len e =
-    let q = and-eq-true-iff (leb (v + 2 * n - 1) b && leb b 128) (eqb len (5 * b)) .0 e in
-    (omega (arith, leb-true (v + 2 * n - 1) b (and-eq-true-iff (leb (v + 2 * n - 1) b) (leb b 128) .0 (q .0) .0)), eqb-true _ _ (q .1))
+    let q = and-eq-true-iff _ (eqb len (5 * b)) .0 e in
+    let few = leb-true _ b (and-eq-true-iff _ (leb b 128) .0 (q .0) .0) in
+    (omega (arith, few), eqb-true _ _ (q .1))
 
 pub blocks-most : (n v b len : ℕ) → blocksOk n v b len ≡ true → b ≤ 128
 blocks-most n v b len e =
-    let q = and-eq-true-iff (leb (v + 2 * n - 1) b && leb b 128) (eqb len (5 * b)) .0 e in
-    leb-true _ _ (and-eq-true-iff (leb (v + 2 * n - 1) b) (leb b 128) .0 (q .0) .1)
+    let q = and-eq-true-iff (leb _ b && leb b 128) (eqb len (5 * b)) .0 e in
+    leb-true b 128 (and-eq-true-iff (leb _ b) (leb b 128) .0 (q .0) .1)
 
 -- the k-th test of a list of which all pass
 pub nth : (l : List Bool) → ands l ≡ true → (k : ℕ) → getD l k true ≡ true
