@@ -126,6 +126,8 @@ class Search:
         model = model_of(key)
         record = model.tasks[task]
         result = model.step(task)
+        # "the step never lacks a block" (change request 10)
+        assert not isinstance(result, cells.Refused), (key, task)
         won = result.won if result else record.won
         if line in cells.HARD_LINES:
             attempts += "w" if won else "l"

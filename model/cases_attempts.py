@@ -7,9 +7,9 @@ from script import Script, contend
 
 # N, V, B, the task whose call makes the pattern, two others, the cell.
 PLACES = [
-    (3, 1, 7, 0, 1, 2, 0),
+    (3, 1, 6, 0, 1, 2, 0),
     (3, 2, 8, 2, 1, 0, 1),
-    (32, 16, 80, 31, 30, 0, 15),
+    (32, 16, 79, 31, 30, 0, 15),
 ]
 
 
@@ -235,7 +235,7 @@ def orders(n):
 
 def crowd_cases(cases):
     """Every task stands at the same hardware swap; the first wins it."""
-    for n, v, b in ((3, 1, 7), (4, 2, 10), (8, 1, 17), (32, 16, 80)):
+    for n, v, b in ((3, 1, 6), (4, 2, 10), (8, 1, 16), (32, 16, 79)):
         for name, order in orders(n).items():
             assert sorted(order) == list(range(n))
             s = opened(n, v, b, v - 1)
@@ -350,7 +350,7 @@ def drawn_cases(cases):
         style = draw.Style(length=600, values=2 + seed % 2, burst=(3, 6)[
             seed % 2], right_guess=80, reads=15, equal=10,
             halts=seed % 2, runs_out=(0, 20)[seed % 3 == 0])
-        lines = draw.draw_session(draw.Draw(5000 + seed), n, 1, 2 * n + 1,
+        lines = draw.draw_session(draw.Draw(5000 + seed), n, 1, 2 * n,
                                   style)
         trace = cases.add("attempts_drawn_n_%d_s%d" % (n, seed), lines)
         for (_, finished, done), found in zip(trace.calls, trace.attempts):

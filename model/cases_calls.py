@@ -111,11 +111,11 @@ def path_scripts():
 
 # N, V, B, the task that takes the path, the other task, the cell.
 PLACES = [
-    (2, 1, 5, 0, 1, 0),
+    (2, 1, 4, 0, 1, 0),
     (2, 1, 5, 1, 0, 0),
-    (3, 2, 8, 2, 0, 1),
+    (3, 2, 7, 2, 0, 1),
     (5, 4, 15, 3, 4, 2),
-    (32, 16, 80, 31, 30, 15),
+    (32, 16, 79, 31, 30, 15),
     (32, 16, 128, 17, 31, 0),
 ]
 
@@ -155,8 +155,8 @@ def shop_cases(cases):
     cases.accepted("shop_p1", P1)
     cases.accepted("shop_p2_n_32", ["(open 32 1 65 (5))"])
     cases.refused("shop_p2_n_33", ["(open 33 1 67 (5))"], 1)
-    cases.accepted("shop_p3_b_5", ["(open 2 1 5 (5))"])
-    cases.refused("shop_p3_b_4", ["(open 2 1 4 (5))"], 3)
+    cases.accepted("shop_p3_b_4", ["(open 2 1 4 (5))"])
+    cases.refused("shop_p3_b_3", ["(open 2 1 3 (5))"], 3)
     cases.accepted("shop_p4_most", ["(open 2 1 5 (4294967294))"])
     cases.refused("shop_p4_none", ["(open 2 1 5 (4294967295))"], 5)
     cases.accepted("shop_p5", ["(open 2 1 5 (5))", "(swap 0 0 5 5)",
@@ -242,7 +242,7 @@ def go_on_alone(s, task, times):
 
 def halt_cases(cases):
     def opened(name, next_line, script):
-        s = Script(4, 1, 9, [5])
+        s = Script(4, 1, 8, [5])
         script(s)
         assert s.next_line(0) == next_line, name
         return s
@@ -270,7 +270,7 @@ def halt_cases(cases):
         cases.accepted("late_at_%s_one_between" % name, s.lines)
 
     # Every task but two halts, each at its own line.
-    s = Script(32, 1, 65, [5])
+    s = Script(32, 1, 64, [5])
     for task in range(30):
         value = s.value(0)
         if task % 3 == 0:
@@ -294,9 +294,9 @@ def pool_cases(cases):
         s.step(task, 3).step(q, 2).until(task, 30).out(q)
         assert s.next_line(task) == (30, 0)
 
-    for n, v, b in ((3, 1, 7), (3, 1, 8), (3, 1, 128), (4, 2, 10), (8, 1, 17),
-                    (8, 1, 18), (8, 4, 20), (16, 1, 33), (32, 1, 65),
-                    (32, 1, 66), (32, 16, 80)):
+    for n, v, b in ((3, 1, 6), (3, 1, 7), (3, 1, 128), (4, 2, 9), (8, 1, 16),
+                    (8, 1, 17), (8, 4, 19), (16, 1, 32), (32, 1, 64),
+                    (32, 1, 65), (32, 16, 79)):
         s = Script(n, v, b, [5] * v)
         for task in range(n - 2):
             halt_at_30(s, task, n - 2, task % v)
@@ -309,7 +309,7 @@ def pool_cases(cases):
         turn_blocks(s, 0, n - 1, 5)
         cases.accepted("pool_late_at_30_%s" % name, s.lines)
 
-    for n, v, b in ((2, 1, 5), (2, 2, 6), (3, 3, 9), (2, 1, 6), (2, 1, 128)):
+    for n, v, b in ((2, 1, 4), (2, 2, 5), (3, 3, 8), (2, 1, 5), (2, 1, 128)):
         s = Script(n, v, b, [5] * v)
         for turn in range(b + 3):
             turn_blocks(s, turn % 2, 1 - turn % 2, 1, turn % v)
@@ -317,7 +317,7 @@ def pool_cases(cases):
 
     # A halted read and a halted swap hold a block that is replaced.
     for steps in range(1, 4):
-        s = Script(4, 1, 9, [5])
+        s = Script(4, 1, 8, [5])
         contend(s, 2, 3, 0)
         s.read(0, 0).step(0, steps).swap(1, 0, 9, 50).step(1, steps)
         turn_blocks(s, 2, 3, 10)
@@ -325,21 +325,53 @@ def pool_cases(cases):
         cases.accepted("pool_replaced_while_held_%d" % steps, s.lines)
     # A taken block, not yet installed, stays its task's while the others go
     # round the pool on another cell.
-    for n, v, b in ((4, 2, 10), (4, 2, 11), (5, 3, 13), (32, 16, 80)):
+    for n, v, b, p in ((4, 2, 9, 0), (4, 2, 10, 0), (5, 3, 12, 1),
+                       (32, 16, 79, 0), (32, 16, 79, 28)):
+        q, r, t = p + 1, p + 2, p + 3
         s = Script(n, v, b, [5] * v)
-        s.swap(0, 0, 5, 77).swap(1, 0, 5, 9).step(0, 3).step(1, 2)
-        s.until(0, 30)
-        turn_blocks(s, 2, 3, b // 2 + 2, v - 1)
-        s.out(0)
-        turn_blocks(s, 2, 3, 1, v - 1)
-        s.read(2, 0).out(2).read(3, v - 1).out(3).out(1)
-        s.swap(2, 0, 77, 78).out(2).swap(3, v - 1, 5, 6).out(3)
-        cases.accepted("pool_taken_n_%d_v_%d_b_%d" % (n, v, b), s.lines)
+        s.swap(p, 0, 5, 77).swap(q, 0, 5, 9).step(p, 3).step(q, 2)
+        s.until(p, 30)
+        turn_blocks(s, r, t, b // 2 + 2, v - 1)
+        s.out(p)
+        turn_blocks(s, r, t, 1, v - 1)
+        s.read(r, 0).out(r).read(t, v - 1).out(t).out(q)
+        s.swap(r, 0, 77, 78).out(r).swap(t, v - 1, 5, 6).out(t)
+        cases.accepted("pool_taken_n_%d_v_%d_b_%d_t%d" % (n, v, b, p), s.lines)
+    last_block_cases(cases, halt_at_30)
     # One task alone: its block is released with its call.
-    s = Script(1, 1, 3, [5])
+    s = Script(1, 1, 2, [5])
     for i in range(6):
         s.swap(0, 0, s.value(0), i).out(0)
     cases.accepted("pool_one_task", s.lines)
+
+
+def last_block_cases(cases, halt_at_30):
+    """Line 4 where one block alone is unused (change request 10): p holds a
+    replaced block, every other but r has its own and has taken one; r, who
+    replaced the last one, has taken one for the other cell."""
+    for n, v, more in ((2, 2, 0), (3, 2, 0), (4, 3, 0), (8, 2, 0), (8, 2, 1),
+                       (16, 16, 0), (32, 2, 0), (32, 16, 0)):
+        b = cells.least_blocks(n, v) + more
+        p, r = n - 1, n - 2
+        s = Script(n, v, b, [5] * v)
+        contend(s, p, r, 1)
+        for task in range(n - 2):
+            halt_at_30(s, task, r)
+        value = s.value(0)
+        s.swap(p, 0, value, 7).swap(r, 0, value, 8).step(p, 3).step(r, 2)
+        s.until(p, 4).out(r).swap(r, 1, 9, 6).until(r, 30)
+        unused = [block for block in range(b) if not s.model.is_used(block)]
+        assert s.next_line(p) == (4, 0) and len(unused) == 1 + more
+        name = "pool_last_block_n_%d_v_%d_b_%d" % (n, v, b)
+        s.step(p)
+        assert s.model.tasks[p].installing in unused
+        cases.accepted(name, s.lines)
+        s.out(r).out(p)
+        for task in range(n - 2):
+            s.out(task)
+        turn_blocks(s, 0, n - 1, 3)
+        s.read(0, 0).out(0).read(0, 1).out(0)
+        cases.accepted(name + "_all_end", s.lines)
 
 
 # ------------------------------------------- single meetings, rates, contention
@@ -379,11 +411,11 @@ def meeting_cases(cases):
     # Step for step together.
     for n in (2, 3, 5, 8, 32):
         cases.add("meet_in_step_%d" % n, [
-            draw.opening_line(n, 1, 1 + 2 * n, [5]),
+            draw.opening_line(n, 1, 2 * n, [5]),
             *("(swap %d 0 5 %d)" % (t, 6 + t) for t in range(n)),
             "(again 21 %s)" % " ".join("(step %d)" % t for t in range(n))])
         cases.add("meet_in_step_same_new_%d" % n, [
-            draw.opening_line(n, 1, 1 + 2 * n, [5]),
+            draw.opening_line(n, 1, 2 * n, [5]),
             *("(swap %d 0 5 6)" % t for t in range(n)),
             "(again 15 %s)" % " ".join("(step %d)" % t for t in range(n))])
     # The same meeting on two cells at once does not mix.

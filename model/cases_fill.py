@@ -57,8 +57,8 @@ def go_round_until_met(s, met, cell):
 
 
 def met_cases(cases):
-    for n, v, b in ((4, 2, 10), (4, 2, 11), (5, 3, 13), (32, 16, 80),
-                    (4, 1, 9), (4, 1, 10)):
+    for n, v, b in ((4, 2, 9), (4, 2, 10), (5, 3, 12), (32, 16, 79),
+                    (4, 1, 8), (4, 1, 9)):
         for line in TAKEN_STANDS:
             def opened():
                 s = Script(n, v, b, [5] * v)
@@ -129,7 +129,7 @@ def halt_cases(cases):
             name = "fill_by_%d_after_%d" % (way, done_before(line))
             path = "end_at_30_by_%d" % way
 
-            s = Script(4, 1, 9, [5])
+            s = Script(4, 1, 8, [5])
             script(s)()
             s.read(2, 0).out(2)
             turn_blocks(s, 2, 3, 6)
@@ -138,7 +138,7 @@ def halt_cases(cases):
             assert trace.next_lines[0] == (line, 0) and not trace.refusals
 
             # others read before and after it, and fail to swap
-            s = Script(4, 1, 9, [5])
+            s = Script(4, 1, 8, [5])
             replace = script(s)
             s.read(2, 0).out(2).swap(3, 0, 4, 6).out(3).out(0)
             s.read(2, 0).out(2)
@@ -147,7 +147,7 @@ def halt_cases(cases):
             s.out(1).swap(3, 0, 77, 78).out(3).read(2, 0).out(2)
             ends_as(cases.add(name + "_yes", s.lines), path, True)
 
-            s = Script(4, 1, 9, [5])
+            s = Script(4, 1, 8, [5])
             replace = script(s)
             replace()
             turn_blocks(s, 2, 3, 2)
@@ -201,7 +201,7 @@ def overlap_cases(cases):
               "mixed": (3, 0, 5, 1, 4, 2)}
     for name, order in orders.items():
         for turns in (0, 4, 9, 17):
-            s = Script(8, 1, 17, [5])
+            s = Script(8, 1, 16, [5])
             stand_at(s, dict(enumerate(FILL_STANDS)))
             turn_blocks(s, 6, 7, turns)
             if turns == 4:
@@ -217,8 +217,8 @@ def overlap_cases(cases):
                            s.lines)
 
     # All but two tasks halt in the fill, each with its own replaced block held.
-    for n, v, b in ((3, 1, 7), (8, 1, 17), (8, 1, 18), (8, 4, 20),
-                    (16, 1, 33), (32, 1, 65), (32, 16, 80)):
+    for n, v, b in ((3, 1, 6), (8, 1, 16), (8, 1, 17), (8, 4, 19),
+                    (16, 1, 32), (32, 1, 64), (32, 16, 79)):
         for shift in range(0, 6, {8: 1, 32: 6}.get(n, 3)):
             s = Script(n, v, b, [5] * v)
             for task in range(n - 2):

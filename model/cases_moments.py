@@ -20,10 +20,10 @@ def opened(n, v, b, k, value=5):
 
 # N, V, B, three tasks and the cell.
 THREES = [
-    (3, 1, 7, 0, 1, 2, 0),
+    (3, 1, 6, 0, 1, 2, 0),
     (3, 1, 7, 2, 1, 0, 0),
-    (4, 2, 10, 1, 3, 0, 1),
-    (32, 16, 80, 31, 0, 17, 15),
+    (4, 2, 9, 1, 3, 0, 1),
+    (32, 16, 79, 31, 0, 17, 15),
 ]
 
 
@@ -33,8 +33,8 @@ def shop_cases(cases):
     cases.accepted("shop_p1", P1)
     cases.accepted("shop_p2_n_32", ["(open 32 1 65 (5))"])
     cases.refused("shop_p2_n_33", ["(open 33 1 67 (5))"], 1)
-    cases.accepted("shop_p3_b_5", ["(open 2 1 5 (5))"])
-    cases.refused("shop_p3_b_4", ["(open 2 1 4 (5))"], 3)
+    cases.accepted("shop_p3_b_4", ["(open 2 1 4 (5))"])
+    cases.refused("shop_p3_b_3", ["(open 2 1 3 (5))"], 3)
     cases.accepted("shop_p4_most", ["(open 2 1 5 (4294967294))"])
     cases.refused("shop_p4_none", ["(open 2 1 5 (4294967295))"], 5)
     cases.accepted("shop_p5", ["(open 2 1 5 (5))", "(swap 0 0 5 5)",
@@ -171,7 +171,7 @@ def halt_cases(cases):
     out after them."""
     for name, next_line, script in REACH:
         for late in (False, True):
-            s = Script(4, 1, 9, [5])
+            s = Script(4, 1, 8, [5])
             script(s)
             assert s.next_line(0) == next_line, name
             s.read(3, 0).out(3)
@@ -320,7 +320,7 @@ def in_turn(tasks, how):
 
 
 def shared_cases(cases):
-    for n, v, b in ((6, 1, 13), (12, 2, 26), (32, 16, 80)):
+    for n, v, b in ((6, 1, 12), (12, 2, 25), (32, 16, 79)):
         k = v - 1
         for how in ("up", "down", "middle"):
             name = "n_%d_%s" % (n, how)
@@ -394,8 +394,8 @@ def replace(s, p, k, i):
 
 
 def lives_cases(cases):
-    for n, v, b in ((2, 1, 5), (2, 1, 6), (2, 2, 6), (3, 1, 7), (5, 3, 13),
-                    (32, 16, 80)):
+    for n, v, b in ((2, 1, 4), (2, 1, 5), (2, 2, 5), (3, 1, 6), (5, 3, 12),
+                    (32, 16, 79)):
         name = "n_%d_v_%d_b_%d" % (n, v, b)
         s = Script(n, v, b, [5] * v)
         for i in range(min(b, 10) + 2):
@@ -413,7 +413,7 @@ def lives_cases(cases):
             s.swap(q, k, s.value(k) + 1, 3).out(q)
         cases.accepted("lives_turned_%s" % name, s.lines)
 
-    for n, v, b in ((2, 1, 5), (2, 2, 6), (3, 1, 7)):
+    for n, v, b in ((2, 1, 4), (2, 2, 5), (3, 1, 6)):
         name = "n_%d_v_%d_b_%d" % (n, v, b)
         # an unfinished store at the end, in a block that has lived before
         s = Script(n, v, b, [5] * v)
@@ -440,7 +440,7 @@ def lives_cases(cases):
 
     # a read holds its block while the others' go round, then ends
     for steps in (1, 2, 3, 4):
-        s = Script(3, 1, 7, [5])
+        s = Script(3, 1, 6, [5])
         contend(s, 1, 2, 0)
         s.read(0, 0).step(0, steps)
         turn_blocks(s, 1, 2, 9)
@@ -583,7 +583,7 @@ def again_cases(cases):
                                     agains])
     for n in (2, 3, 8, 32):
         steps = " ".join("(step %d)" % t for t in range(n))
-        first = draw.opening_line(n, 1, 1 + 2 * n, [5])
+        first = draw.opening_line(n, 1, 2 * n, [5])
         swaps = ["(swap %d 0 5 %d)" % (t, 6 + t) for t in range(n)]
         for times in (9, 12, 21):
             cases.add("again_in_step_%d_by_%d" % (n, times), [

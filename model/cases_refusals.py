@@ -31,9 +31,10 @@ def open_refusals(cases):
     refused(2, "v_257", 1, 257, 3, [5])
     refused(2, "v_most", 1, MOST, 128, [5])
     refused(3, "b_0", 1, 1, 0, [5])
-    refused(3, "b_one_few", 1, 1, 2, [5])
-    refused(3, "b_one_few_n_32_v_16", 32, 16, 79, range(16))
-    refused(3, "b_one_few_n_5_v_4", 5, 4, 13, range(4))
+    refused(3, "b_one_few", 1, 1, 1, [5])
+    refused(3, "b_one_few_n_32_v_16", 32, 16, 78, range(16))
+    refused(3, "b_one_few_n_5_v_4", 5, 4, 12, range(4))
+    refused(3, "b_one_few_n_2_v_2", 2, 2, 4, range(2))
     refused(3, "b_129", 1, 1, 129, [5])
     refused(3, "b_256", 1, 1, 256, [5])
     refused(3, "b_wraps_times_5", 1, 1, 3435973837, [5])
@@ -62,9 +63,9 @@ def open_refusals(cases):
     refused(2, "before_04", 1, 17, 128, [5] * 16)
     refused(2, "before_05", 1, 17, 128, [NONE] * 17)
     refused(2, "before_all", 32, 0, 0, [NONE])
-    refused(3, "before_04", 1, 1, 2, [5, 6])
+    refused(3, "before_04", 1, 1, 1, [5, 6])
     refused(3, "before_04_many_b", 1, 1, 129, [])
-    refused(3, "before_05", 1, 1, 2, [NONE])
+    refused(3, "before_05", 1, 1, 1, [NONE])
     refused(3, "before_05_many_b", 32, 16, 129, [NONE] * 16)
     refused(4, "before_05", 1, 1, 3, [NONE, NONE])
     refused(4, "before_05_few", 1, 2, 4, [NONE])
@@ -73,11 +74,11 @@ def open_refusals(cases):
 
 def open_edges(cases):
     """N, V and B at and next to their limits, all accepted."""
-    for n, v, b in ((1, 1, 3), (1, 1, 4), (1, 1, 128), (1, 2, 4), (2, 1, 5),
-                    (31, 1, 63), (32, 1, 65), (32, 1, 128), (1, 15, 17),
-                    (1, 16, 18), (1, 16, 128), (31, 15, 77), (32, 15, 79),
-                    (31, 16, 78), (32, 16, 80), (32, 16, 81), (32, 16, 127),
-                    (32, 16, 128)):
+    for n, v, b in ((1, 1, 2), (1, 1, 3), (1, 1, 128), (1, 2, 3), (2, 1, 4),
+                    (2, 1, 5), (31, 1, 62), (32, 1, 64), (32, 1, 128),
+                    (1, 15, 16), (1, 16, 17), (1, 16, 128), (31, 15, 76),
+                    (32, 15, 78), (31, 16, 77), (32, 16, 79), (32, 16, 80),
+                    (32, 16, 127), (32, 16, 128)):
         s = Script(n, v, b, [10 * i for i in range(v)])
         s.swap(n - 1, v - 1, 10 * (v - 1), 7).out(n - 1)
         s.read(0, v - 1).out(0).read(0, 0).out(0)
@@ -255,7 +256,7 @@ def file_refusals(cases):
     cases.refused("refuse_15_before_01", [
         "(open 0 1 3 (5))", "(again 65536 (step 0))"], 15)
     cases.refused("refuse_15_before_03", [
-        "(open 1 1 2 (5))", "(again 65536 (step 0))"], 15)
+        "(open 1 1 1 (5))", "(again 65536 (step 0))"], 15)
     cases.refused("refuse_15_before_11", [
         "(open 1 1 3 (5))", "(step 0)", "(again 65535 (step 0))"], 15)
 

@@ -1,7 +1,7 @@
 """The library of cells: pool, blocks, task records, the lines of figure 2.
 
 Written from document 01 ("Shared cells for the milling unit's tasks"), change
-requests 2, 5 and 7 of document 02 and source document 003, figure 2, alone.
+requests 2, 5, 7 and 10 of document 02 and source document 003, figure 2, alone.
 Their sentences are quoted in the comments where they decide something.
 """
 
@@ -19,14 +19,15 @@ X, Y, C, V, D = range(5)
 WORDS = 5
 
 # "Tasks N: 1 to 32 ... Cells V: 1 to 16 ... Blocks B: at least V + 2 x N, at
-# most 128."
+# most 128."  "V + 2 x N - 1 blocks.  That number suffices from any fresh opening
+# [..] Question 3 takes the new lower limit" (change request 10).
 MOST_TASKS = 32
 MOST_CELLS = 16
 MOST_BLOCKS = 128
 
 
 def least_blocks(n, v):
-    return v + 2 * n
+    return v + 2 * n - 1
 
 
 # "The longest swap is 21 steps, and the fit question allows 20 so far" (change
@@ -223,19 +224,21 @@ class Cells:
         a block reads only the counts" (change request 7)."""
         return self.counts[block] != 0
 
+    def has_unused_block(self):
+        return not all(map(self.is_used, range(self.b)))
+
     def take_unused_block(self):
         """"The unused block taken is the first met going upward from the
-        block after the last one taken, going round after B - 1."  None where
-        every block is used."""
+        block after the last one taken, going round after B - 1."  Question 20
+        was asked: there is one."""
         for onward in range(1, self.b + 1):
             block = (self.last_taken + onward) % self.b
             if not self.is_used(block):
                 self.last_taken = block
                 return block
-        # "By counting, one is always unused": no fit state comes here.
-        return None
+        raise AssertionError("every block is used")
 
-    # ------------------------------------------------- questions 6 to 11
+    # ------------------------------------------- questions 6 to 11, and 20
 
     def is_fit(self):
         """Question 6; a session cannot break it."""
@@ -302,6 +305,11 @@ class Cells:
             return 10
         if step and not self.tasks[task].busy:
             return 11
+        # "Refused: 20, line 4 finds every block used, asked after 11" (change
+        # request 10)
+        if (step and self.tasks[task].line == 4
+                and not self.has_unused_block()):
+            return 20
         return 0
 
     # ------------------------------------------------------- the entries
@@ -467,11 +475,8 @@ class Cells:
         # value".
         elif line == 4:
             block = self.take_unused_block()
-            if block is None:
-                record.installing = NONE
-            else:
-                record.installing = block
-                pool[WORDS * block + X] = NO_TASK
+            record.installing = block
+            pool[WORDS * block + X] = NO_TASK
             record.line = 5
         elif line == 5:
             pool[nb + Y] = 0

@@ -90,7 +90,7 @@ def few_steps_apart(d):
     """Two or three swaps on one cell that come to each of the table's paths:
     each task takes some steps at a time, chosen around the splitter."""
     n = d.pick((2, 3, 3, 4))
-    lines = [draw.opening_line(n, 1, 2 * n + 1 + d.below(2), [5])]
+    lines = [draw.opening_line(n, 1, 2 * n + d.below(2), [5])]
     for _ in range(d.between(1, 4)):
         for t in range(n):
             lines.append(d.pick((

@@ -46,6 +46,8 @@ class Cases:
         trace = self.program.Trace()
         self.files[name] = data
         self.prints[name] = self.program.run(data, trace)
+        # "it can arise only in a state no opening leads to" (change request 10)
+        assert 20 not in trace.refusals, name
         return trace
 
     def refused(self, name, data, *numbers):

@@ -26,6 +26,9 @@ class Figure(cells.Cells):
     """The figure: "We assume that every newly allocated block has never been
     allocated before" (source, section 5)."""
 
+    def has_unused_block(self):
+        return True
+
     def take_unused_block(self):
         self.pool.extend([0] * cells.WORDS)
         return len(self.pool) // cells.WORDS - 1

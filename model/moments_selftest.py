@@ -68,7 +68,7 @@ def cases_from_the_shop():
                   ["(open 2 1 5 (5))", "(read 2 1)", "(swap 2 1 5 7)"],
                   ["(open 32 1 65 (5))"]):
         check("P2, P7, P8", printed(lines), [])
-    for number, first in ((1, "(open 33 1 67 (5))"), (3, "(open 2 1 4 (5))"),
+    for number, first in ((1, "(open 33 1 67 (5))"), (3, "(open 2 1 3 (5))"),
                           (5, "(open 2 1 5 (4294967295))")):
         check("P2, P3, P4", printed([first]), ["(bad %d)" % number])
     # both begin at 0 and 1; task 0 steps at 2 and 3, task 1 at 4 to 10.  P9:

@@ -334,7 +334,11 @@ MISREADINGS = [
     ("V up to 17", "cells", "MOST_CELLS = 16", "MOST_CELLS = 17"),
     ("B up to 129", "cells", "MOST_BLOCKS = 128", "MOST_BLOCKS = 129"),
     ("B up to 127", "cells", "MOST_BLOCKS = 128", "MOST_BLOCKS = 127"),
-    ("one block fewer", "cells", "return v + 2 * n", "return v + 2 * n - 1"),
+    ("one block fewer still", "cells", "return v + 2 * n - 1",
+     "return v + 2 * n - 2"),
+    ("V + 2 x N blocks as before", "cells", "return v + 2 * n - 1",
+     "return v + 2 * n"),
+    ("V + N blocks", "cells", "return v + 2 * n - 1", "return v + n"),
     ("2 before 1", "cells", "    if not 1 <= n <= MOST_TASKS:\n        return 1\n"
      "    if not 1 <= v <= MOST_CELLS:\n        return 2\n",
      "    if not 1 <= v <= MOST_CELLS:\n        return 2\n"
@@ -481,8 +485,8 @@ WIDE_MISREADINGS = [
      "thousands, f = h * 1000, f % 2 ** 16 or 1"),
 ]
 
-# The same of question 6, which no session breaks: each must print something
-# else for a line of crates/cells_cases/stdin.
+# The same of questions 6 and 20, which no session breaks: each must print
+# something else for a line of crates/cells_cases/stdin.
 FIT = "open_refusal(self.n, self.v, self.b, self.pool, None)"
 UNFIT_LINE = "elif record.line not in lines:"
 HELD = "if record.holds_a_block and record.held >= self.b:"
@@ -493,6 +497,10 @@ SUM = "record.won + record.lost <= MOST_HARD_SO_FAR)"
 ALL_FIT = "if not all(self.is_record_fit(record) for record in self.tasks):"
 COUNTS_FIT = "return self.counts[:self.b] == self.fresh_counts()[:self.b]"
 IDLE_IS_FIT = "if not record.busy:\n            return True"
+ASK_FIT = "if self.ask_fit and not self.is_fit():"
+AT_4 = "if (step and self.tasks[task].line == 4"
+ASKS_20 = AT_4 + "\n                and not self.has_unused_block()):"
+UNUSED = "return not all(map(self.is_used, range(self.b)))"
 FIT_MISREADINGS = [
     ("6 leaves out N", FIT, FIT + " not in (0, 1)"),
     ("6 leaves out V", FIT, FIT + " not in (0, 2)"),
@@ -754,6 +762,58 @@ FIT_MISREADINGS = [
      "task is not None and cell is not None and not cell < self.v"),
     ("a refused begin clears the record", "            return 9\n",
      "            self.tasks[task].clear()\n            return 9\n"),
+    # change request 10
+    ("question 3 alone takes the new limit", "        if open_refusal(self.n,"
+     " self.v, self.b, self.pool, None):\n", "        if self.b < self.v + 2 *"
+     " self.n or open_refusal(self.n, self.v, self.b, self.pool, None):\n"),
+    ("fit alone takes the new limit", "    number = open_refusal(n, v, b, pool,"
+     " values)\n", "    number = open_refusal(n, v, b if b != v + 2 * n - 1 else"
+     " 0, pool, values)\n"),
+    ("20 is not asked", ASKS_20, "if False:"),
+    ("every block used is not fit", "return 20\n", "return 6\n"),
+    ("every block used gives 11", "return 20\n", "return 11\n"),
+    ("20 before 6", ASK_FIT, "if step and self.tasks and self.tasks[0].line =="
+     " 4 and not self.has_unused_block():\n            return 20\n        "
+     + ASK_FIT),
+    ("20 before 7", "        if task is not None and not task < self.n:\n",
+     "        if step and self.tasks[0].line == 4 and not"
+     " self.has_unused_block():\n            return 20\n"
+     "        if task is not None and not task < self.n:\n"),
+    ("a begin asks 20", "        if begin and self.tasks[task].busy:\n",
+     "        if begin and not self.has_unused_block():\n"
+     "            return 20\n        if begin and self.tasks[task].busy:\n"),
+    ("look asks 20", "            return 8\n", "            return 8\n"
+     "        if task is None and not self.has_unused_block():\n"
+     "            return 20\n"),
+    ("20 is asked at every line", AT_4, "if (step"),
+    ("20 is asked from 4 to 8", AT_4, AT_4.replace("== 4", "in FILL_LINES")),
+    *(("20 is asked at %d" % line, AT_4, AT_4.replace("== 4", "in (4, %d)"
+                                                      % line))
+      for line in (3, 5, 6, 7, 8, 27, 30)),
+    ("20 where one block is unused", UNUSED, "return sum(not self.is_used(block)"
+     " for block in range(self.b)) > 1"),
+    ("20 where the block after the last taken is used", UNUSED, "return not"
+     " self.is_used((self.last_taken + 1) % self.b)"),
+    ("20 where the blocks after the last taken are used", UNUSED, "return not"
+     " all(map(self.is_used, range(self.last_taken + 1, self.b)))"),
+    ("20 where the blocks below the last taken are used", UNUSED, "return not"
+     " all(map(self.is_used, range(self.last_taken)))"),
+    ("the last block is always used", UNUSED, UNUSED.replace("self.b)",
+                                                             "self.b - 1)")),
+    ("128 blocks are asked", UNUSED, UNUSED.replace("self.b", "MOST_BLOCKS")),
+    ("a block used once is unused", UNUSED, "return not all(count > 1 for count"
+     " in self.counts[:self.b])"),
+    ("only the cells' blocks are asked", UNUSED, "return not all(block in"
+     " self.current for block in range(self.b))"),
+    ("a block is lacking by counting", UNUSED, "return sum(self.counts[:self.b])"
+     " < self.b"),
+    ("a refused 20 counts a step", "            return 20\n",
+     "            self.tasks[task].steps += 1\n            return 20\n"),
+    ("a refused 20 ends the call", "            return 20\n",
+     "            self.tasks[task].clear()\n            return 20\n"),
+    ("a refused 20 moves the last taken", "            return 20\n",
+     "            self.last_taken = (self.last_taken + 1) % self.b\n"
+     "            return 20\n"),
 ]
 
 # The same of the fill's order and the search's, which no session and no line of
@@ -784,7 +844,7 @@ FILL_MISREADINGS = [
     ("V is stored first, at 5", FILL_5_TO_8,
      lines_5_to_8(TO_V, TO_Y, TO_C, TO_D)),
     ("V is stored at 4 already", SETS_X, SETS_X + "\n"
-     "                pool[WORDS * block + V] = record.new"),
+     "            pool[WORDS * block + V] = record.new"),
     ("V is stored before D, as the words lie", FILL_5_TO_8,
      lines_5_to_8(TO_Y, TO_C, TO_V, TO_D)),
     ("C is stored before Y", FILL_5_TO_8,

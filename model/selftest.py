@@ -51,9 +51,9 @@ def cases_from_the_shop():
           ["(cell 0 5)", "(end 0 0 0 0)"])
     check("P2, N 33", printed("(open 33 1 67 (5))"), ["(no 0 1)"])
 
-    check("P3, B 5", printed("(open 2 1 5 (5))"),
+    check("P3, B 4", printed("(open 2 1 4 (5))"),
           ["(cell 0 5)", "(end 0 0 0 0)"])
-    check("P3, B 4", printed("(open 2 1 4 (5))"), ["(no 0 3)"])
+    check("P3, B 3", printed("(open 2 1 3 (5))"), ["(no 0 3)"])
 
     check("P4, 4294967294", printed("(open 2 1 5 (4294967294))"),
           ["(cell 0 4294967294)", "(end 0 0 0 0)"])
@@ -349,47 +349,83 @@ def fills_by_the_papers():
                          line + 1 if line < 8 else 30, taken, steps + 1)
 
 
+def full_state(n, v, left, b=None):
+    """Task 0 is about to take a block, every other has taken one; all that the
+    cells name, the tasks hold and have taken are different blocks, and all but
+    these are used.  Without blocks left this is the fullest fit state; where
+    some are, cells and tasks share theirs."""
+    b = cells.least_blocks(n, v) if b is None else b
+    model = cells.open_cells(n, v, b, [7] * (5 * b), [5] * v)
+    blocks = [block for block in range(b) if block not in left]
+    spare = blocks[0]
+
+    def take():
+        return blocks.pop() if blocks else spare
+
+    model.current = [take() for _ in range(v)]
+    for task, record in enumerate(model.tasks):
+        record.kind, record.expected, record.new = cells.SWAP, 5, 6
+        record.held = take()
+        record.line = (5, 6, 7, 8, 30)[task % 5] if task else 4
+        if task:
+            record.installing = take()
+    model.counts = model.fresh_counts()
+    check("all but these are used", (blocks, model.is_fit()), ([], True))
+    return model
+
+
 def every_block_is_used():
-    """"By counting, one is always unused": in the fullest fit states the one
-    that is left is found, wherever it is.  Where none is, which no fit state
-    has, line 4 stores nothing and the taken block is none."""
-    for n, v in ((1, 1), (2, 1), (3, 2), (32, 16)):
+    """Question 20 (change request 10): "line 4 finds every block used, asked
+    after 11".  Where one block is left it is found, wherever it is; where none
+    is, the step at 4 is refused and changes nothing, and no other step is."""
+    for n, v in ((1, 1), (1, 5), (2, 1), (3, 2), (32, 16)):
         b = cells.least_blocks(n, v)
         for left in {0, 1, v, b // 2, b - 1}:
-            model = cells.open_cells(n, v, b, [7] * (5 * b), [5] * v)
-            blocks = [block for block in range(b) if block != left]
-            model.current = [blocks.pop() for _ in range(v)]
-            for task, record in enumerate(model.tasks):
-                record.kind, record.expected, record.new = cells.SWAP, 5, 6
-                record.held = blocks.pop()
-                record.line = (5, 6, 7, 8, 30)[task % 5] if task else 4
-                if task:
-                    record.installing = blocks.pop()
-            model.counts = model.fresh_counts()
-            check("all but one are used", (blocks, model.is_fit()), ([], True))
-            check("one is left", (model.step(0), model.tasks[0].installing,
-                                  model.last_taken, model.is_fit()),
-                  (None, left, left, True))
-    for n, v, b in ((1, 1, 1), (2, 1, 4)):
-        model = cells.open_cells(2, 1, 5, [7] * 25, [5])
-        model.n, model.b, model.ask_fit = n, b, False
-        del model.tasks[n:], model.pool[5 * b:]
-        for task, record in enumerate(model.tasks):
-            record.kind, record.expected, record.new = cells.SWAP, 5, 6
-            record.held, record.installing = 2 * task, 3
-            record.line = 5 if task else 4
-        if b > 1:
-            model.tasks[0].held = 1
-        model.counts = model.fresh_counts()
-        before = list(model.pool), model.last_taken
-        check("fit", model.is_fit(), False)
-        check("none is unused", (model.step(0), model.pool, model.last_taken,
-                                 model.tasks[0].line,
-                                 model.tasks[0].installing,
-                                 model.tasks[0].steps),
-              (None, *before, 5, NONE, 1))
+            for last in (0, left, b - 1):
+                model = full_state(n, v, {left})
+                model.last_taken = last
+                check("one is left", (
+                    model.step(0), model.tasks[0].installing,
+                    model.last_taken, model.is_fit()),
+                    (None, left, left, True))
+        model = full_state(n, v, ())
+        before = everything(model)
+        for ask_fit in (True, False):
+            model.ask_fit = ask_fit
+            check("none is left", (model.step(0), everything(model)),
+                  (cells.Refused(20), before))
+        # 6, 7 and 11 come first; the other entries do not ask 20
         model.ask_fit = True
-        check("refused", model.step(0), cells.Refused(6))
+        check("no task", model.step(n), cells.Refused(7))
+        check("a begin", (model.begin_read(0, 0),
+                          model.begin_swap(0, 0, 5, 6)),
+              (cells.Refused(9),) * 2)
+        check("a look", isinstance(model.look(0), cells.Refused), False)
+        for task in range(1, n):
+            check("not at 4", isinstance(model.step(task), cells.Refused),
+                  False)
+        model = full_state(n, v, ())
+        model.counts[b - 1] += 1
+        check("unfit", model.step(0), cells.Refused(6))
+        if n == 1:
+            continue
+        # another at 4 is refused too, and at a line that is not 4 none is
+        for line in cells.SWAP_LINES | cells.DECIDING_LINES:
+            model = full_state(n, v, ())
+            record = model.tasks[0]
+            record.line = line
+            record.wanted_by = 28 if line in cells.DECIDING_LINES else 0
+            record.installing = b - 1
+            model.counts = model.fresh_counts()
+            used = model.counts[:b].count(0) == 0
+            result = model.step(0)
+            check("line %d" % line, result == cells.Refused(20),
+                  line == 4 and used)
+    # an idle task's step is refused by 11
+    model = full_state(2, 1, ())
+    model.tasks[0].clear()
+    model.counts = model.fresh_counts()
+    check("idle", model.step(0), cells.Refused(11))
 
 
 # -------------------------------------------------------- won and lost
@@ -558,6 +594,9 @@ def counts_are_kept():
 class NewBlockEachTime(cells.Cells):
     """The figure itself: "with a new block each time"."""
 
+    def has_unused_block(self):
+        return True
+
     def take_unused_block(self):
         # what a new block holds is seen by nobody
         self.pool.extend([77] * cells.WORDS)
@@ -694,7 +733,8 @@ def drawn_lists(count):
         seen.paths.update(trace.paths)
         seen.refusals.update(trace.refusals)
         halted.update(line for line, _ in trace.next_lines)
-        check(name + "question 6", trace.refusals[6], 0)
+        check(name + "questions 6 and 20",
+              (trace.refusals[6], trace.refusals[20]), (0, 0))
 
         model = cells.open_cells(n, v, b, [9] * (5 * b), values)
         attempts_told_by_memory(model, actions)

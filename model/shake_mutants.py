@@ -156,7 +156,7 @@ MISREADINGS = [
     ("one value alone", OPENING, OPENING.replace("* v", "* 1")),
     ("a value for each task", OPENING, OPENING.replace("* v", "* n")),
     ("the least blocks are opened", OPENING,
-     OPENING.replace("n, v, b,", "n, v, v + 2 * n,")),
+     OPENING.replace("n, v, b,", "n, v, v + 2 * n - 1,")),
     ("V before N", OPENING, OPENING.replace("n, v, b,", "v, n, b,")),
     ("no open", ACTIONS, ACTIONS.replace("opening", "''")),
     ("no last line end", ACTIONS, ACTIONS.replace(".encode",
@@ -190,6 +190,8 @@ MISREADINGS = [
     *(("%s has %d bits" % (letter.upper(), bits), ASK_3,
        "    %s %%= 2 ** %d\n" % (letter, bits) + ASK_3)
       for letter in "nvb" for bits in (8, 16)),
+    ("the least blocks are V + 2 x N, as before", ASK_3,
+     "    if b == v + 2 * n - 1:\n        return 3\n" + ASK_3),
     ("the least blocks are one fewer", ASK_3,
      ASK_3.replace("n, v, b, range(cells.WORDS * b)",
                    "n, v, min(b + 1, 129), range(5 * min(b + 1, 129))")),

@@ -117,8 +117,8 @@ def drawn_sets(count):
 def drawn_sessions(count):
     seen = session.Trace()
     longest = [(seed, n, v, b, 3000) for seed, n, v, b in (
-        (0, 32, 16, 80), (MOST, 32, 16, 128), (3, 1, 1, 3), (4, 32, 1, 65),
-        (5, 1, 16, 18), (6, 2, 1, 5))]
+        (0, 32, 16, 79), (MOST, 32, 16, 128), (3, 1, 1, 2), (4, 32, 1, 64),
+        (5, 1, 16, 17), (6, 2, 1, 4))]
     for seed, n, v, b, length in [*drawn_sets(count), *longest]:
         lines, trace = told_from_text((seed, n, v, b, length))
         seen.paths += trace.paths
@@ -145,7 +145,7 @@ def refusals_in_order():
     for n, v, b in itertools.product(sizes, repeat=3):
         for length in (0, 1, 3000, 3001, MOST):
             no = {1: n < 1 or n > 32, 2: v < 1 or v > 16,
-                  3: b < v + 2 * n or b > 128, 17: length in (0, 3001, MOST)}
+                  3: b < v + 2 * n - 1 or b > 128, 17: length in (0, 3001, MOST)}
             wanted = min((number for number in no if no[number]), default=0)
             check("refusal of %d %d %d %d" % (n, v, b, length),
                   shaker.refusal(n, v, b, length), wanted)
