@@ -98,7 +98,7 @@ impl State {
     fn fit(&self, pool: &[u32]) -> bool {
         (1..=32).contains(&self.tasks)
             && (1..=16).contains(&self.cells)
-            && self.cells + 2 * self.tasks <= self.blocks
+            && self.cells + 2 * self.tasks <= self.blocks + 1
             && self.blocks <= 128
             && pool.len() == 5 * self.blocks as usize
             && self.last < self.blocks
@@ -168,6 +168,10 @@ impl State {
         if r.line == 0 {
             return Outcome::Refused(11);
         }
+        let free = if r.line == 4 { self.unused() } else { NONE };
+        if r.line == 4 && free == NONE {
+            return Outcome::Refused(20);
+        }
         r.steps += 1;
         let at = 5 * r.held as usize;
         let to = 5 * r.taken as usize;
@@ -199,11 +203,10 @@ impl State {
                 }
             }
             4 => {
-                let b = self.unused();
-                pool[5 * b as usize + X] = 255;
-                self.last = b;
-                self.counts[b as usize] += 1;
-                (r.taken, r.line) = (b, 5);
+                pool[5 * free as usize + X] = 255;
+                self.last = free;
+                self.counts[free as usize] += 1;
+                (r.taken, r.line) = (free, 5);
             }
             5 => (pool[to + Y], r.line) = (0, 6),
             6 => (pool[to + C], r.line) = (0, 7),

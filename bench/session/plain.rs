@@ -385,7 +385,7 @@ impl Cells {
     fn ask_sizes(&self) -> Result<(), u32> {
         ask((1..=32).contains(&self.tasks), 1)?;
         ask((1..=16).contains(&self.cells), 2)?;
-        let enough = self.cells + 2 * self.tasks <= self.blocks;
+        let enough = self.cells + 2 * self.tasks <= self.blocks + 1;
         ask(enough && self.blocks <= MOST_BLOCKS && self.pool.len() == self.blocks as usize, 3)
     }
 
@@ -427,13 +427,16 @@ impl Cells {
         Ok(())
     }
 
-    // The first unused block after the last one taken; by counting there is one.
-    fn unused_block(&self) -> u32 {
+    // The first unused block after the last one taken, for line 4: question 20.
+    fn unused_block(&self, line: u32) -> Result<u32, u32> {
+        if line != 4 {
+            return Ok(NONE);
+        }
         let mut onward = (self.last + 1..self.blocks).chain(0..=self.last);
-        onward.find(|&block| self.counts[block as usize] == 0).unwrap()
+        onward.find(|&block| self.counts[block as usize] == 0).ok_or(20)
     }
 
-    fn do_line(&mut self, task: u32) -> Option<Answer> {
+    fn do_line(&mut self, task: u32, free: u32) -> Option<Answer> {
         let record = &mut self.records[task as usize];
         let current = &mut self.current[record.cell as usize];
         record.steps += 1;
@@ -443,10 +446,9 @@ impl Cells {
                 self.counts[record.held as usize] += 1;
             }
             4 => {
-                self.last = self.unused_block();
+                self.last = free;
                 self.pool[self.last as usize].x = NO_TASK;
                 self.counts[self.last as usize] += 1;
-                let record = &mut self.records[task as usize];
                 (record.taken, record.line) = (self.last, 5);
             }
             5..=8 => record.fill_line(&mut self.pool[record.taken as usize]),
@@ -469,8 +471,10 @@ impl Cells {
     fn step(&mut self, task: u32) -> Result<Option<Finished>, u32> {
         ask(LEAN || self.fits(), 6)?;
         ask(task < self.tasks, 7)?;
-        ask(self.records[task as usize].line != 0, 11)?;
-        Ok(self.do_line(task).map(|answer| {
+        let line = self.records[task as usize].line;
+        ask(line != 0, 11)?;
+        let free = self.unused_block(line)?;
+        Ok(self.do_line(task, free).map(|answer| {
             let Record { kind, cell, held, steps, won, lost, .. } = std::mem::take(&mut self.records[task as usize]);
             self.counts[held as usize] -= 1;
             Finished { task, kind, cell, answer, steps, won, lost }

@@ -1,20 +1,23 @@
--- Three runs of the pool in which readings to keep out would answer otherwise, and one that a block more would let go on, computed. (P1 to
--- P10: `prints` in session_text.)
+-- Three runs of the pool in which readings to keep out would answer otherwise, a fit state whose step is refused with 20, and a run that one
+-- block more would let go on, computed. (P1 to P10: `prints` in session_text.)
 use mathlib.Core.Path.{_≡_, refl}
 use mathlib.Core.Bool.{true}
 use mathlib.Core.Option.{none}
 use mathlib.Core.List.{List, [], _∷_, _++_}
 use Prim.Native.Nat.{ℕ}
-use lib.ListN.{replicate}
+use lib.ListN.{replicate, set}
 use Rattle.questions.specs.Questions.{hasNone, openQuestions, recordFit, cellsFit, recordsFit, uses, countsTrue, fit}
 use Rattle.blocks.specs.Blocks.{found, unused}
 use Rattle.lines.specs.declared.Record.{Record}
+use Rattle.questions.specs.declared.State.{State}
 use Rattle.lines.specs.Record.{idle, recordAt, firstRead, firstSwap}
 use Rattle.history.specs.History.{Op, read, swap, Action, begin, step, Kind, aRead, aSwap, Response, Value, Yes, No, Report, Event, refused, accepted, answered, history}
-use Rattle.cells.specs.Open.{openState, openPool, opened}
+use Rattle.cells.specs.Answers.{Refused}
+use Rattle.cells.specs.Open.{leaving, openState, openPool, opened}
 use Rattle.cells.specs.Counts.{recounted}
 use Rattle.cells.specs.Begin.{started, readBegun, swapBegun}
 use Rattle.cells.specs.Step.{ran, stepped}
+use Rattle.cells.specs.Lent.{lent, steppedLent}
 use Rattle.cells.specs.Machine.{Pool, pool}
 
 abbrev reports : List (Action × Event) → List Report
@@ -67,6 +70,23 @@ examples :
     )
 unfolding opened readBegun swapBegun stepped ran fit recordFit cellsFit recordsFit uses countsTrue hasNone openQuestions found recounted
 examples = (refl, (refl, (refl, tt)))
+
+-- QUESTION 20
+
+-- one task, two cells and three blocks: the task is at line 4 and holds the block that no cell names. No opening leads to this.
+abbrev asking : Record
+asking = record { line = 4; wanted = 28; kind = 2; cell = 0; expected = 5; new = 7; held = 2; taken = 0; loaded = 5; steps = 7; won = 1; lost = 0 }
+
+abbrev full : State
+full = record { tasks = 1; cells = 2; blocks = 3; last = 1; current = 0 ∷ replicate 15 1; records = set (replicate 32 idle) 0 asking; counts = replicate 3 1 ++ replicate 125 0 }
+
+abbrev words : List ℕ
+words = replicate 15 0
+
+-- the state is fit, its counts included; step and lent step are refused, and leave all as it was
+finds-none : (fit full words ≡ true) × (stepped full words 0 ≡ leaving full words (Refused 20)) × (steppedLent full words 0 asking ≡ lent (leaving full words (Refused 20)) asking)
+unfolding stepped steppedLent ran fit recordFit cellsFit recordsFit uses countsTrue found recounted
+finds-none = (refl, refl, refl)
 
 -- ONE BLOCK FEWER STILL
 

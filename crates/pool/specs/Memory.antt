@@ -21,8 +21,8 @@ pub record Touched : Type 0 where
 abbrev pub touched : List ℕ → (current last value : ℕ) → Touched
 touched p c l v = record { pool = p; current = c; last = l; value = v }
 
--- line 4 takes the unused block and stores its X; where every block is in use nothing is stored, and no block is handed back: no fit state
--- with a task at line 4 has this
+-- line 4 takes the unused block and stores its X; where every block is in use nothing is stored, and no block is handed back (question 20
+-- refuses such a step)
 abbrev pub taking : Option ℕ → List ℕ → (current last : ℕ) → Touched
 taking none p c l = touched p c l noValue
 taking (some b) p c l = touched (setWord p b X noTask) c b b
