@@ -2,7 +2,7 @@
 -- task the next: its call has ended, so it holds none. When it holds one again, it is current, until the next line 30 succeeds.
 use mathlib.Core.Path.{_≡_, refl, sym, ap, subst, _∙_}
 use mathlib.Core.Logic.{_⊎_, inl, inr}
-use mathlib.Core.Bool.{Bool, true, false, _&&_, not, cond, false≢true}
+use mathlib.Core.Bool.{Bool, true, false, _&&_, not, false≢true}
 use mathlib.Core.Option.{Option, none, some}
 use mathlib.Core.List.{List, _∷_}
 use Prim.Native.Nat.{ℕ, _≤_, _<_}
@@ -14,7 +14,7 @@ use borrow.Author.Tests.{ltb-true}
 use Rattle.lines.specs.declared.Record.{Record}
 use Rattle.questions.specs.declared.State.{State}
 use Rattle.lines.specs.Record.{idle, isIdle, recordAt, firstRead, firstSwap}
-use Rattle.questions.specs.Questions.{refusal, fit, holdsBefore, holds, beginQuestions, swapQuestions}
+use Rattle.questions.specs.Questions.{refusal, fit, holds, beginQuestions, swapQuestions}
 use Rattle.questions.proofs.Tests.{yes-to}
 use Rattle.blocks.specs.Blocks.{isCurrent, holdsReplaced, Spare, unused}
 use Rattle.history.specs.History.{read, swap, Action, begin, step}
@@ -76,15 +76,18 @@ module _ (s : State) (t : ℕ) (long : s .tasks ≤ length (s .records)) where
     begin-spare none q h = still (withRecord s t q) q refl refl refl refl (λ z e. absurd (false≢true (sym h ∙ e))) g
     begin-spare (some n) q h = g
 
-    first-swap : (c : Bool) → not (eqb (cond c 10 15) 0) && holdsBefore (cond c 10 15) ≡ false
-    first-swap true = refl
-    first-swap false = refl
+    first-swap : (k e n : ℕ) → not (isIdle (firstSwap k e n)) && holds (firstSwap k e n) ≡ false
+    first-swap k e n = go (eqb e n) refl
+      where
+        go : (x : Bool) → eqb e n ≡ x → not (isIdle (firstSwap k e n)) && holds (firstSwap k e n) ≡ false
+        go true h = rw h
+        go false h = rw h
 
 -- Some task holds no replaced block before an action, whichever it is: so after it.
 pub spare-stay : (s : State) (p : List ℕ) → s .tasks ≤ length (s .records) → Spare s → (a : Action) → Spare (does s p a .state)
 unfolding readBegun swapBegun
 spare-stay s p long g (begin t (read k)) = begin-spare s t long p g (refusal ((6, fit s p) ∷ beginQuestions (s .tasks) (s .cells) (recordAt (s .records) t) t k)) (firstRead k) refl
-spare-stay s p long g (begin t (swap k e n)) = begin-spare s t long p g (refusal ((6, fit s p) ∷ swapQuestions (s .tasks) (s .cells) (recordAt (s .records) t) t k e n)) (firstSwap k e n) (first-swap s t long p g (eqb e n))
+spare-stay s p long g (begin t (swap k e n)) = begin-spare s t long p g (refusal ((6, fit s p) ∷ swapQuestions (s .tasks) (s .cells) (recordAt (s .records) t) t k e n)) (firstSwap k e n) (first-swap s t long p g k e n)
 spare-stay s p long g (step t) = step-spare s t long p g
 
 pub open-spare : (n v b : ℕ) → 1 ≤ n → Spare (openState n v b)
