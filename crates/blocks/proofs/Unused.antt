@@ -16,7 +16,7 @@ use Rattle.questions.specs.declared.State.{State}
 use Rattle.lines.specs.Basics.{sumFrom, anyFrom}
 use Rattle.lines.specs.Record.{isIdle, recordAt}
 use Rattle.questions.specs.Questions.{holds, hasTaken, blocksOk, recordUses, namesOf, uses, countsTrue, fit, fitTests}
-use Rattle.blocks.specs.Blocks.{isCurrent, usedByTask, used, usesBlock, holdsReplaced, Spare, blockAfter, unusedFrom, found, unused, readFrom}
+use Rattle.blocks.specs.Blocks.{isCurrent, usedByTask, used, usesBlock, Spare, blockAfter, unusedFrom, found, unused, readFrom}
 use Rattle.questions.proofs.Tests.{nth, none-of, blocks-true, blocks-most}
 use Rattle.questions.proofs.Sums.{once}
 use Rattle.questions.proofs.Uses.{count-is}

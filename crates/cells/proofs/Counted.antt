@@ -1,6 +1,6 @@
 -- THE STORED COUNTS ARE TRUE AFTER EVERY ENTRY: a begin, a step, a finishing step and a step over a lent record, from every state in which it acts.
 use mathlib.Core.Path.{_≡_, refl, sym, _∙_}
-use mathlib.Core.Bool.{Bool, true, false, _&&_, not, cond, and-eq-true-iff, false≢true}
+use mathlib.Core.Bool.{Bool, true, false, not, cond, and-eq-true-iff, false≢true}
 use mathlib.Core.Option.{Option, none, some}
 use mathlib.Core.List.{List, _∷_}
 use Prim.Native.Nat.{ℕ, _≤_, _<_}

@@ -112,6 +112,40 @@ fn ten_steps(s: State, pool: &mut [u32], r: Record) -> Kept {
     k
 }
 
+// A FIT STATE THAT NO OPENING LEADS TO, in which every block is used
+
+// Two cells name a block each, and the one task is lent a record that holds the third.
+fn full() -> State {
+    let mut s = unopened();
+    s.tasks = 1;
+    s.cells = 2;
+    s.blocks = 3;
+    s.last = 1;
+    s.current[1] = 1;
+    s.counts[0] = 1;
+    s.counts[1] = 1;
+    s.counts[2] = 1;
+    s
+}
+
+fn at_line_4() -> Record {
+    let mut r = records::first_swap(0, 5, 7);
+    r.line = 4;
+    r.held = 2;
+    r.steps = 7;
+    r.won = 1;
+    r
+}
+
+fn lack_a_block() {
+    let mut pool: [u32; 15] = [0; 15];
+    let r = at_line_4();
+    let k = step_and_print(full(), &mut pool, 0, r);
+    if same(k.record, r) {
+        io::write_all(1, b"the record is as before\n");
+    }
+}
+
 fn main() {
     let mut pool: [u32; 25] = [0; 25];
     let values: [u32; 1] = [5];
@@ -129,4 +163,5 @@ fn main() {
     if same(beyond.record, first) {
         io::write_all(1, b"the record is as before\n");
     }
+    lack_a_block();
 }
