@@ -15,13 +15,13 @@ use Rattle.lines.specs.Answers.{Result, Next, Go, Done}
 use Rattle.lines.specs.Record.{noValue, idle, isIdle, recordAt, firstRead, firstSwap}
 use Rattle.lines.specs.Lines.{Line, lineOf, accessOf, attempt, counted, nextOf}
 use Rattle.questions.specs.declared.State.{State}
-use Rattle.questions.specs.Questions.{Question, refusal, answers, fit, beginQuestions, swapQuestions, stepQuestions}
-use Rattle.questions.proofs.Tests.{all-yes, nth}
+use Rattle.questions.specs.Questions.{Question, refusal, answers, fit, beginQuestions, swapQuestions}
+use Rattle.questions.proofs.Tests.{all-yes, nth, yes-to}
 use Rattle.blocks.specs.Blocks.{unused}
 use Rattle.cells.specs.Answers.{Said, Refused, Acted, Ended}
 use Rattle.cells.specs.Open.{After, leaving, unless}
 use Rattle.cells.specs.Begin.{started, readBegun, swapBegun}
-use Rattle.cells.specs.Step.{current, putBack, ran, stepped}
+use Rattle.cells.specs.Step.{current, putBack, ran, stepAsks, stepped}
 use Rattle.pool.specs.Memory.{Touched, performed}
 use Rattle.cells.specs.Turn.{ending, turn}
 use Rattle.cells.specs.Events.{eventOf}
@@ -67,15 +67,15 @@ module _ (s : State) (p : List ℕ) (t : ℕ) where
 
   unless-stepped : Did s p (step t) (stepped s p t)
   unfolding stepped ran
-  unless-stepped = go (refusal ((6, fit s p) ∷ stepQuestions (s .tasks) r t)) refl
+  unless-stepped = go (refusal (stepAsks s p t)) refl
     where
-      go : (o : Option ℕ) → refusal ((6, fit s p) ∷ stepQuestions (s .tasks) r t) ≡ o → Did s p (step t) (unless o s p (putBack s t r (turn p t r (current s (r .cell)) (s .last) (unused s))))
+      go : (o : Option ℕ) → refusal (stepAsks s p t) ≡ o → Did s p (step t) (unless o s p (putBack s t r (turn p t r (current s (r .cell)) (s .last) (unused s))))
       go none e =
           let a : Acting s p t r = own-acting s p t e in
           let m = performed p (current s (r .cell)) (s .last) (unused s) (accessOf t r) in
           let q = counted r (attempt (accessOf t r) (m .value)) in
           line-done m (lineOf r) q (nextOf t r (m .value)) refl (leads (lineOf r) t q (m .value) refl (a .line))
-          (record { below = below ((11, not (isIdle r)) ∷ []) e; acting = a; busy = not-idle r (a .line) })
+          (record { below = ltb-true t (s .tasks) (yes-to (stepAsks s p t) e 7); acting = a; busy = not-idle r (a .line) })
       go (some n) e = refuses n
 
 pub did : (s : State) (p : List ℕ) (a : Action) → Did s p a (does s p a)
