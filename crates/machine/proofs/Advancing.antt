@@ -6,15 +6,16 @@ use mathlib.Core.List.{List, _∷_}
 use Prim.Native.Nat.{ℕ, _≤_, _<_}
 use lib.Dec.{eqb}
 use lib.ListN.{length, getD, set}
-use borrow.Author.Tests.{lt-ltb, le-ltb, ne-eqb}
+use native.Mathlib.Omega.{arith}
+use borrow.Author.Tests.{lt-ltb, le-ltb, ltb-true, ne-eqb}
 use Rattle.lines.specs.declared.Record.{Record}
 use Rattle.lines.specs.Record.{recordAt}
 use Rattle.pool.specs.Memory.{There}
 use Rattle.pool.specs.Words.{recordsOf}
 use Rattle.questions.specs.declared.State.{State}
-use Rattle.questions.specs.Questions.{Question, refusal, fit, swapQuestions}
-use Rattle.questions.proofs.Tests.{implied-not}
-use Rattle.questions.proofs.Fits.{sizes}
+use Rattle.questions.specs.Questions.{Question, refusal, recordFit, recordsFit, fit, fitTests, swapQuestions}
+use Rattle.questions.proofs.Tests.{all-at, implied-not, nth}
+use Rattle.questions.proofs.Fits.{busy-test, sizes}
 use Rattle.questions.proofs.Refusals.{is-refused, is-allowed}
 use Rattle.blocks.specs.Blocks.{unused, isFound}
 use Rattle.cells.specs.Answers.{Refused, Acted}
@@ -75,6 +76,15 @@ module _ (n v b l : ℕ) (c w k p : List ℕ) (fits : fit (stateOf n v b l c w k
       asked-20 : (x : Record) (f : Option ℕ) (z : Bool) → Free s x f → (y : Bool) → y ≡ isFound f → eqb (x .line) 4 && not y ≡ z → (not (eqb (x .line) 4) || isFound (unused s)) ≡ not z
       asked-20 x f z free y e g = sym (same-20 s x f free) ∙ rw (← e) (implied-not (eqb (x .line) 4) y ∙ ap not g)
 
+      abbrev Cell : Record → Type 0
+      Cell x = (x .line ≡ 0 → ⊥) → x .cell < 16
+
+      cell-at : Cell at
+      unfolding fit recordsFit
+      cell-at busy =
+          let fit-at = all-at (λ t. recordFit (recordAt (s .records) t) v b) 0 n (nth (fitTests s p) fits 5) t (omega arith) (omega arith) in
+          omega (arith, ltb-true (at .cell) v (busy-test at v b fit-at busy 0), sizes s p fits .cells)
+
       abbrev Lacks : Record → Type 0
       Lacks x = (x .line ≡ 0 → ⊥) → (f : Option ℕ) → Free s x f → (y : Bool) → y ≡ isFound f → eqb (x .line) 4 && not y ≡ true → leaving s p (Refused 20) ≡ stepped s p t
 
@@ -87,12 +97,12 @@ module _ (n v b l : ℕ) (c w k p : List ℕ) (fits : fit (stateOf n v b l c w k
 
       -- what the turn of a record needs, and what its counts need
       abbrev Needs : Record → Type 0
-      Needs x = (x .line ≡ 0 → ⊥) → (f : Option ℕ) → Free s x f → (y : Bool) → y ≡ isFound f → eqb (x .line) 4 && not y ≡ false → (x .cell < 16) × ((Ready (length p) x × There (length p) f)
+      Needs x = (x .line ≡ 0 → ⊥) → (f : Option ℕ) → Free s x f → (y : Bool) → y ≡ isFound f → eqb (x .line) 4 && not y ≡ false → (Ready (length p) x × There (length p) f)
           × (length c ≡ 16 → length k ≡ 128 → (u : Turned) → u ≡ turn p t x (getD c (x .cell) 0) l f → Countable k x (u .record) (getD c (x .cell) 0) (u .current)
-          × (renames (x .line) (u .record .line) ≡ false → k ≡ recounted k x (u .record) (getD c (x .cell) 0) (u .current))))
+          × (renames (x .line) (u .record .line) ≡ false → k ≡ recounted k x (u .record) (getD c (x .cell) 0) (u .current)))
 
       needs-at : Needs at
-      needs-at busy f free y e g = let a = acting busy (asked-20 at f false free y e g) in (a .cell, ((a .ready, a .there f free), λ ec ek u eu. let n = a .countable (ec, records-length 32 w, ek) f free in rw eu (n, λ z. quiet p t at (getD c (at .cell) 0) l f (a .line) k z n)))
+      needs-at busy f free y e g = let a = acting busy (asked-20 at f false free y e g) in ((a .ready, a .there f free), λ ec ek u eu. let n = a .countable (ec, records-length 32 w, ek) f free in rw eu (n, λ z. quiet p t at (getD c (at .cell) 0) l f (a .line) k z n))
 
       abbrev Done : Record → Type 0
       Done x = (x .line ≡ 0 → ⊥) → (f : Option ℕ) → Free s x f → (y : Bool) → y ≡ isFound f → eqb (x .line) 4 && not y ≡ false → (u : Turned) (w′ k′ : List ℕ) → u ≡ turn p t x (getD c (x .cell) 0) l f
@@ -106,6 +116,9 @@ module _ (n v b l : ℕ) (c w k p : List ℕ) (fits : fit (stateOf n v b l c w k
       module _ (r : Record) (er : r ≡ at) where
         pub step-idle : r .line ≡ 0 → leaving s p (Refused 11) ≡ stepped s p t
         step-idle z = idle-at (ap (λ (x : Record). x .line) (sym er) ∙ z)
+
+        pub step-cell : Cell r
+        step-cell = subst Cell (sym er) cell-at
 
         pub step-lacking : Lacks r
         step-lacking = subst Lacks (sym er) lacks-at

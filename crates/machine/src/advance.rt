@@ -66,6 +66,8 @@ pub fn advance(
             if r.line == 0 {
                 return refuse(last, 11);
             }
+            let k = r.cell as usize;
+            let c = current[k];
             // Only line 4 asks for a block.
             let free = if r.line == 4 {
                 unused_block(counts, blocks, last)
@@ -75,8 +77,6 @@ pub fn advance(
             if (r.line == 4) & !is_found(free) {
                 return refuse(last, 20);
             }
-            let k = r.cell as usize;
-            let c = current[k];
             let n = make_move(pool, &mut records[from..to], task, c, last, free);
             current[k] = n.current;
             let q = record_of(&records[from..to]);
