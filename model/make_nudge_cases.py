@@ -221,7 +221,7 @@ def last_cases(cases):
         for kind in ("read", "yes", "no"):
             # r is about to load C, q to set it, p to store
             def opened():
-                s = Script(n, 1, 1 + 2 * n, [5])
+                s = Script(n, 1, 2 * n, [5])
                 s.swap(q, 0, 5, 7).step(q, 2).swap(p, 0, 5, 9).step(p, 7)
                 s.step(q, 1)
                 begin_call(s, r, kind)
@@ -426,7 +426,7 @@ def draw_begin(drawn, s, task):
 def close_session(drawn):
     """A few calls that meet on one cell; nobody moves once they have ended."""
     n = drawn.pick((2, 2, 3))
-    s = Script(n, 1, 1 + 2 * n, [5])
+    s = Script(n, 1, 2 * n, [5])
     if drawn.percent(30):
         contend(s, 0, 1, 0)
     left = [drawn.pick((1, 1, 2)) for _ in range(n)]
