@@ -47,7 +47,7 @@ prints :
     -- 19 before 18, the open's before 19, and 13 before the open's
     ((1, 0), ("(open 2 1 5 (5))\n(again 2001 (step 0))\n", "(bad 19)\n")) ∷
     ((1, 0), ("(open 2 1 3 (5))\n(again 2001 (step 0))\n", "(bad 3)\n")) ∷
-    ((1, 0), ("(open 2 1 4 (5))", "(bad 13)\n")) ∷
+    ((1, 0), ("(open 2 1 3 (5))", "(bad 13)\n")) ∷
     []
     )
 unfolding digits word digitsAfter number fit recordFit cellsFit recordsFit hasNone openQuestions uses countsTrue found recounted opened readBegun swapBegun ran stepped fits deeper shapedAfter reader.numbers reader.manyWithin reader.values reader.opening reader.keyword reader.head reader.body reader.form reader.line reader.count reader.times reader.actions reader.asked14 reader.formed reader.verdict numbers upd earliest nudge toolAfterOpen toolPrinted reader.asked15
