@@ -1,0 +1,93 @@
+-- The terms of the theorem on bus times: the accesses that a call did, a choice of their times, and two numbers that bound the total of every
+-- choice and are met by some.
+use mathlib.Core.Path.{_≡_}
+use mathlib.Core.List.{List, [], _∷_, _++_}
+use Prim.Native.Nat.{ℕ, _+_, _≤_, _<_}
+use Rattle.lines.specs.declared.Access.{Access}
+use Rattle.lines.specs.declared.Access.the-variants.{LoadCell, Load, Store, DecideCas, InstallCas, Allocate, Nothing}
+use Rattle.lines.specs.Record.{idle}
+use Rattle.lines.specs.Lines.{Line, accessAt, loads, stores, hardware}
+use Rattle.figure.specs.Paths.{count, Traced}
+use Rattle.bus_text.specs.Bus.{PerKind, perKind, Times, Timed}
+
+-- ACCESSES
+
+-- those of the lines that a call did; of which kind they are does not depend on task and record
+abbrev pub accesses : List Line → List Access
+accesses [] = []
+accesses (l ∷ ls) = accessAt l 0 idle ∷ accesses ls
+
+-- how many of each kind
+abbrev pub did : List Line → PerKind
+did p = perKind (count loads p) (count stores p) (count hardware p)
+
+-- those of several calls
+abbrev pub allAccesses : List Traced → List Access
+allAccesses [] = []
+allAccesses (x ∷ l) = accesses (x .lines) ++ allAccesses l
+
+-- CHOICES OF TIMES
+
+-- the number of an access's kind
+abbrev pub ofKind : PerKind → Access → ℕ
+ofKind c (LoadCell k) = c .load
+ofKind c (Load b f) = c .load
+ofKind c (Store b f v) = c .store
+ofKind c (DecideCas b v) = c .hardware
+ofKind c (InstallCas k b n) = c .hardware
+ofKind c Allocate = c .store
+ofKind c Nothing = 0
+
+abbrev pub sum : List ℕ → ℕ
+sum [] = 0
+sum (t ∷ l) = t + sum l
+
+-- one time for each access, within the range of its kind
+abbrev pub EachWithin : Times → List Access → List ℕ → Type 0
+EachWithin w [] [] = Unit {0}
+EachWithin w [] (t ∷ ts) = ⊥
+EachWithin w (a ∷ l) [] = ⊥
+EachWithin w (a ∷ l) (t ∷ ts) = ((ofKind (w .low) a ≤ t) × (t ≤ ofKind (w .high) a)) × EachWithin w l ts
+
+-- one time for each kind, within its range
+pub record KindsWithin (w : Times) (c : PerKind) : Type 0 where
+  pub load : (w .low .load ≤ c .load) × (c .load ≤ w .high .load)
+  pub store : (w .low .store ≤ c .store) × (c .store ≤ w .high .store)
+  pub hardware : (w .low .hardware ≤ c .hardware) × (c .hardware ≤ w .high .hardware)
+
+-- then each access takes the time of its kind
+abbrev pub byKind : PerKind → List Access → List ℕ
+byKind c [] = []
+byKind c (a ∷ l) = ofKind c a ∷ byKind c l
+
+-- THE TWO ENDS
+
+-- every choice gives these accesses a total from the least to the greatest, and some choices give just these two
+pub record Between (w : Times) (l : List Access) (least greatest : ℕ) : Type 0 where
+  pub each : (ts : List ℕ) → EachWithin w l ts → (least ≤ sum ts) × (sum ts ≤ greatest)
+  pub each-least : (ts : List ℕ) × EachWithin w l ts × (sum ts ≡ least)
+  pub each-greatest : (ts : List ℕ) × EachWithin w l ts × (sum ts ≡ greatest)
+  pub kinds : (c : PerKind) → KindsWithin w c → (least ≤ sum (byKind c l)) × (sum (byKind c l) ≤ greatest)
+  pub kinds-least : (c : PerKind) × KindsWithin w c × (sum (byKind c l) ≡ least)
+  pub kinds-greatest : (c : PerKind) × KindsWithin w c × (sum (byKind c l) ≡ greatest)
+
+-- call by call
+abbrev pub AllBetween : Times → List Traced → List Timed → Type 0
+AllBetween w [] [] = Unit {0}
+AllBetween w [] (c ∷ cs) = ⊥
+AllBetween w (x ∷ xs) [] = ⊥
+AllBetween w (x ∷ xs) (c ∷ cs) = Between w (accesses (x .lines)) (c .least) (c .greatest) × AllBetween w xs cs
+
+-- THE LONGEST CALL
+
+abbrev pub Every : {A : Type 0} → (A → Type 0) → List A → Type 0
+Every P [] = Unit {0}
+Every P (a ∷ l) = P a × Every P l
+
+-- all that finished before it are shorter, and none that finished after it is longer
+pub record FirstLongest (d : Timed) (calls : List Timed) : Type 0 where
+  pub before : List Timed
+  pub after : List Timed
+  pub parts : calls ≡ before ++ (d ∷ after)
+  pub shorter : Every (λ c. c .greatest < d .greatest) before
+  pub no-longer : Every (λ c. c .greatest ≤ d .greatest) after
