@@ -1,0 +1,4 @@
+pub mod Totals
+pub mod Calls
+pub mod Longest
+pub mod Between

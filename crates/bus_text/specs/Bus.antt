@@ -121,6 +121,14 @@ abbrev pub addCalls : Sums → List Timed → Sums
 addCalls z [] = z
 addCalls z (c ∷ l) = addCalls (addCall z c) l
 
+-- OF A SESSION
+
+abbrev pub busCalls : Times → Pool → List Action → List Timed
+busCalls w x l = timedFrom w [] (finishedCalls (history pool x l))
+
+abbrev pub sumsOf : List Timed → Sums
+sumsOf = addCalls noSums
+
 -- WHAT IS PRINTED
 
 abbrev pub callLine : Timed → List ℕ
@@ -135,11 +143,11 @@ allLine z none = bytes "(all 0 0 none)\n"
 allLine z (some c) = line (bytes "(all") (down (z .least) ∷ up (z .greatest) ∷ c .task ∷ c .earlier ∷ [])
 
 abbrev pub callsText : List Timed → List ℕ
-callsText l = let z = addCalls noSums l in callLines l ++ allLine z (z .longest)
+callsText l = let z = sumsOf l in callLines l ++ allLine z (z .longest)
 
 -- before 21 and 22 what every tool asks: 12 to 15, and the questions of open
 unfoldable pub busText : Times → (tasks : ℕ) → Pool → List Action → List ℕ
-busText w n x l = elim (refusal (busQuestions w)) [ none ↦ callsText (timedFrom w [] (finishedCalls (history pool x l))) | some q ↦ badLine q ]
+busText w n x l = elim (refusal (busQuestions w)) [ none ↦ callsText (busCalls w x l) | some q ↦ badLine q ]
 
 abbrev pub busPrinted : Times → List ℕ → List ℕ
 busPrinted w = toolPrinted (busText w)

@@ -1,16 +1,24 @@
 -- The terms of the theorem on bus times: the accesses that a call did, a choice of their times, and two numbers that bound the total of every
 -- choice and are met by some.
 use mathlib.Core.Path.{_≡_}
-use mathlib.Core.List.{List, [], _∷_, _++_}
+use mathlib.Core.Option.{Option, none, some}
+use mathlib.Core.List.{List, [], _∷_, _++_, reverse}
 use Prim.Native.Nat.{ℕ, _+_, _≤_, _<_}
 use Rattle.lines.specs.declared.Access.{Access}
 use Rattle.lines.specs.declared.Access.the-variants.{LoadCell, Load, Store, DecideCas, InstallCas, Allocate, Nothing}
 use Rattle.lines.specs.Record.{idle}
 use Rattle.lines.specs.Lines.{Line, accessAt, loads, stores, hardware}
 use Rattle.figure.specs.Paths.{count, Traced}
+use Rattle.history.specs.History.{Action, Report, FinishedCall}
+use Rattle.cells.specs.Machine.{Pool}
+use Rattle.refinement.specs.Traces.{trace}
 use Rattle.bus_text.specs.Bus.{PerKind, perKind, Times, Timed}
 
 -- ACCESSES
+
+-- the finished calls of a session with the lines that each did, in order of finishing; the trace has the last one first
+abbrev pub tracedCalls : Pool → List Action → List Traced
+tracedCalls x l = reverse (trace x l .done)
 
 -- those of the lines that a call did; of which kind they are does not depend on task and record
 abbrev pub accesses : List Line → List Access
@@ -78,6 +86,10 @@ AllBetween w [] (c ∷ cs) = ⊥
 AllBetween w (x ∷ xs) [] = ⊥
 AllBetween w (x ∷ xs) (c ∷ cs) = Between w (accesses (x .lines)) (c .least) (c .greatest) × AllBetween w xs cs
 
+-- a finished call of a history as bus has it
+abbrev pub taskAndReport : FinishedCall → ℕ × Report
+taskAndReport f = (f .call .start .task, f .report)
+
 -- THE LONGEST CALL
 
 abbrev pub Every : {A : Type 0} → (A → Type 0) → List A → Type 0
@@ -91,3 +103,8 @@ pub record FirstLongest (d : Timed) (calls : List Timed) : Type 0 where
   pub parts : calls ≡ before ++ (d ∷ after)
   pub shorter : Every (λ c. c .greatest < d .greatest) before
   pub no-longer : Every (λ c. c .greatest ≤ d .greatest) after
+
+-- what the search for it found: nothing where there is no call
+abbrev pub LongestOf : Option Timed → List Timed → Type 0
+LongestOf none l = l ≡ []
+LongestOf (some d) l = FirstLongest d l
