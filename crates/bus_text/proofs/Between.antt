@@ -66,10 +66,9 @@ module _ (w : Times) where
   sums-are (x ∷ xs) [] before z h = absurd h
   sums-are (x ∷ xs) (f ∷ fs) before z h =
       let r = sums-are xs fs (f ∷ before) (addCall z (timed w before f)) (h .1) in
-      let a = accesses (x .lines) in
-      (
+      let a = accesses (x .lines) in (
         omega (arith, r .0, time-of (w .low) (x .lines) (f .1) (h .0), sum-append (w .low) a (allAccesses xs)),
-        omega (arith, r .1, time-of (w .high) (x .lines) (f .1) (h .0), sum-append (w .high) a (allAccesses xs))
+        omega (arith, r .1, time-of (w .high) (x .lines) (f .1) (h .0), sum-append (w .high) a (allAccesses xs)),
       )
 
 -- IN EVERY SESSION

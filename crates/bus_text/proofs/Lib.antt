@@ -2,3 +2,5 @@ pub mod Totals
 pub mod Calls
 pub mod Longest
 pub mod Between
+pub mod Fits
+pub mod Printed

@@ -5,9 +5,8 @@ use mathlib.Core.Option.{Option, none, some}
 use mathlib.Core.List.{List, [], _∷_, _++_, append-assoc, append-nil}
 use Prim.Native.Nat.{ℕ, _≤_, _<_}
 use native.Mathlib.Omega.{arith}
-use lib.Dec.{ltb}
 use borrow.Author.Tests.{ltb-true, ltb-false}
-use Rattle.bus_text.specs.Bus.{Timed, Sums, noSums, longer, addCall, addCalls}
+use Rattle.bus_text.specs.Bus.{Timed, Sums, noSums, exceeds, longer, addCall, addCalls}
 use Rattle.bus_text.specs.Choices.{Every, FirstLongest, LongestOf}
 
 module _ {A : Type 0} where
@@ -28,11 +27,11 @@ AtMost n c = c .greatest ≤ n
 -- one call more
 next : (o : Option Timed) (l : List Timed) (c : Timed) → LongestOf o l → LongestOf (some (longer o c)) (l ++ (c ∷ []))
 next none l c h = record { before = []; after = []; parts = ap (λ l. l ++ (c ∷ [])) h; shorter = tt; no-longer = tt }
-next (some d) l c h = go (ltb (d .greatest) (c .greatest)) refl
+next (some d) l c h = go (exceeds c d) refl
   where
-    go : (x : Bool) → ltb (d .greatest) (c .greatest) ≡ x → FirstLongest (cond x c d) (l ++ (c ∷ []))
+    go : (x : Bool) → exceeds c d ≡ x → FirstLongest (cond x c d) (l ++ (c ∷ []))
     go true e =
-        let less = ltb-true (d .greatest) (c .greatest) e in
+        let less = ltb-true _ _ e in
         record {
           before = l;
           after = [];
@@ -48,7 +47,7 @@ next (some d) l c h = go (ltb (d .greatest) (c .greatest)) refl
       after = h .after ++ (c ∷ []);
       parts = ap (λ l. l ++ (c ∷ [])) (h .parts) ∙ append-assoc (h .before) (d ∷ h .after) (c ∷ []);
       shorter = h .shorter;
-      no-longer = every-append (AtMost (d .greatest)) (h .after) (c ∷ []) (h .no-longer) (ltb-false (d .greatest) (c .greatest) e, tt);
+      no-longer = every-append (AtMost (d .greatest)) (h .after) (c ∷ []) (h .no-longer) (ltb-false _ _ e, tt);
     }
 
 from : (calls : List Timed) (z : Sums) (l : List Timed) → LongestOf (z .longest) l → LongestOf (addCalls z calls .longest) (l ++ calls)

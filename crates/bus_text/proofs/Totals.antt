@@ -7,12 +7,14 @@ use native.Mathlib.Nat.{mul-zero, mul-one, mul-add, div-add-mod, mod-lt}
 use native.Mathlib.Omega.{arith}
 use lib.Dec.{leb}
 use borrow.Author.Tests.{leb-true}
+use Rattle.lines.specs.declared.Record.{Record}
 use Rattle.lines.specs.declared.Access.{Access}
 use Rattle.lines.specs.declared.Access.the-variants.{LoadCell, Load, Store, DecideCas, InstallCas, Allocate, Nothing}
 use Rattle.lines.specs.Basics.{ands}
 use Rattle.lines.specs.Record.{idle}
 use Rattle.lines.specs.Lines.{Line, accessAt, loads, stores, hardware}
 use Rattle.questions.proofs.Tests.{nth}
+use Rattle.figure.proofs.LineLaws.{loads-alike, stores-alike, hardware-alike}
 use Rattle.bus_text.specs.Bus.{PerKind, perKind, Times, ordered, down, up, total}
 use Rattle.bus_text.specs.Choices.{accesses, did, ofKind, sum, EachWithin, KindsWithin, byKind, Between}
 
@@ -32,6 +34,10 @@ one-access c (DecideCas b v) = omega (arith, mul-zero (c .load), mul-zero (c .st
 one-access c (InstallCas k b n) = omega (arith, mul-zero (c .load), mul-zero (c .store), mul-one (c .hardware))
 one-access c Allocate = omega (arith, mul-zero (c .load), mul-one (c .store), mul-zero (c .hardware))
 one-access c Nothing = omega (arith, mul-zero (c .load), mul-zero (c .store), mul-zero (c .hardware))
+
+-- which kind of access a line is does not depend on task and record
+pub kind-of-line : (c : PerKind) (l : Line) (t : ℕ) (r : Record) → ofKind c (accessAt l t r) ≡ ofKind c (accessAt l 0 idle)
+kind-of-line c l t r = one-access c (accessAt l t r) ∙ (rw (loads-alike l t r, stores-alike l t r, hardware-alike l t r) (sym (one-access c (accessAt l 0 idle))))
 
 added : (c : PerKind) (l l' s s' h h' : ℕ) → total c (perKind (l + l') (s + s') (h + h')) ≡ total c (perKind l s h) + total c (perKind l' s' h')
 added c l l' s s' h h' = omega (arith, mul-add (c .load) l l', mul-add (c .store) s s', mul-add (c .hardware) h h')

@@ -109,10 +109,13 @@ pub record Sums : Type 0 where
 abbrev pub noSums : Sums
 noSums = record { least = 0; greatest = 0; longest = none }
 
+abbrev pub exceeds : Timed → Timed → Bool
+exceeds c d = ltb (d .greatest) (c .greatest)
+
 -- of equals the first to finish
 abbrev pub longer : Option Timed → Timed → Timed
 longer none c = c
-longer (some d) c = cond (ltb (d .greatest) (c .greatest)) c d
+longer (some d) c = cond (exceeds c d) c d
 
 abbrev pub addCall : Sums → Timed → Sums
 addCall z c = record { least = z .least + c .least; greatest = z .greatest + c .greatest; longest = some (longer (z .longest) c) }

@@ -20,7 +20,7 @@ use Rattle.bus_text.specs.Bus.{PerKind, perKind, Times, Timed}
 abbrev pub tracedCalls : Pool → List Action → List Traced
 tracedCalls x l = reverse (trace x l .done)
 
--- those of the lines that a call did; of which kind they are does not depend on task and record
+-- those of the lines that a call did; of which kind they are does not depend on task and record (`kind-of-line`, proofs/Totals.antt)
 abbrev pub accesses : List Line → List Access
 accesses [] = []
 accesses (l ∷ ls) = accessAt l 0 idle ∷ accesses ls

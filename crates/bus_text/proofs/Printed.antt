@@ -1,0 +1,54 @@
+-- What bus prints of a session file, and what its numbers bound.
+use mathlib.Core.Path.{_≡_, sym, ap, _∙_}
+use mathlib.Core.Bool.{Bool, true, false}
+use mathlib.Core.Option.{none}
+use mathlib.Core.List.{List}
+use Prim.Native.Nat.{ℕ}
+use lib.ListN.{length, replicate}
+use Rattle.questions.specs.Questions.{refusal, openQuestions}
+use Rattle.questions.proofs.Tests.{yes-to}
+use Rattle.cells.specs.Machine.{Pool}
+use Rattle.cells.specs.Answers.{Acted, acts}
+use Rattle.cells.proofs.Acts.{acts-iff, open-acts}
+use Rattle.history.specs.History.{Action}
+use Rattle.session_file.specs.Session.{Opening, session, verdict}
+use Rattle.session_text.specs.Printed.{blank, poolWords, openedBy}
+use Rattle.session_text.specs.Tools.{leftBy, toolAfterOpen, toolText, toolPrinted}
+use Rattle.bus_text.specs.Bus.{Times, ordered, busQuestions, Timed, busCalls, sumsOf, callsText, busText, busPrinted}
+use Rattle.bus_text.specs.Choices.{tracedCalls, allAccesses, Between, AllBetween, LongestOf}
+use Rattle.bus_text.proofs.Between.{calls-between, sums-between}
+use Rattle.bus_text.proofs.Longest.{longest-is-first}
+
+-- where 21 and 22 are answered yes
+pub text-accepted : (w : Times) → refusal (busQuestions w) ≡ none → (tasks : ℕ) (x : Pool) (l : List Action) → busText w tasks x l ≡ callsText (busCalls w x l)
+unfolding busText
+text-accepted w asked n x l = rw (asked, busText)
+
+module _ (w : Times) (asked : refusal (busQuestions w) ≡ none) (file : List ℕ) (o : Opening) (actions : List Action) (is-session : verdict file ≡ session o actions) (opens : openedBy o .outcome ≡ Acted) where
+  text-is : busPrinted w file ≡ callsText (busCalls w (leftBy o) actions)
+  unfolding toolPrinted toolAfterOpen
+  text-is = ap (toolText (busText w)) is-session ∙ rw opens (text-accepted w asked (o .tasks) (leftBy o) actions)
+
+  allowed : refusal (openQuestions (length (replicate {A = ℕ} (poolWords (o .blocks)) 0)) (o .tasks) (o .cells) (o .blocks) (o .values)) ≡ none
+  allowed =
+      let p = replicate {A = ℕ} (poolWords (o .blocks)) 0 in
+      acts-iff (openQuestions (length p) (o .tasks) (o .cells) (o .blocks) (o .values)) .1 (sym (open-acts blank p (o .tasks) (o .cells) (o .blocks) (o .values)) ∙ ap acts opens)
+
+  in-order : ordered w ≡ true
+  in-order = yes-to (busQuestions w) asked 21
+
+  -- What is printed, where nothing is refused, is the lines of the finished calls with the accesses of each between its two totals, then the
+  -- line of the sums with all accesses between these, and of the call with the greatest total, the first to finish of equals.
+  pub printed-bounds : (calls : List Timed) × (busPrinted w file ≡ callsText calls)
+      × AllBetween w (tracedCalls (leftBy o) actions) calls
+      × Between w (allAccesses (tracedCalls (leftBy o) actions)) (sumsOf calls .least) (sumsOf calls .greatest)
+      × LongestOf (sumsOf calls .longest) calls
+  printed-bounds =
+      let p = replicate {A = ℕ} (poolWords (o .blocks)) 0 in
+      let calls = busCalls w (leftBy o) actions in (
+        calls,
+        text-is,
+        calls-between blank p (o .tasks) (o .cells) (o .blocks) (o .values) allowed actions w in-order,
+        sums-between blank p (o .tasks) (o .cells) (o .blocks) (o .values) allowed actions w in-order,
+        longest-is-first calls,
+      )
