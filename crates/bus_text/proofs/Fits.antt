@@ -13,7 +13,7 @@ use Rattle.lines.specs.Paths.{table, entry, rowBelow, rowOf}
 use Rattle.history.specs.History.{Action, Report, Event, refused, accepted, answered, history}
 use Rattle.history.proofs.Basics.{clash, some-inj}
 use Rattle.cells.specs.Machine.{Pool, pool}
-use Rattle.bus_text.specs.Bus.{PerKind, perKind, Times, atMost, short, inRow, countsOf, total, finishedCalls, Timed, timed, timedFrom, Sums, noSums, addCall, addCalls, busCalls, sumsOf}
+use Rattle.bus_text.specs.Bus.{PerKind, perKind, Times, atMost, short, inRow, countsOf, total, finishedCalls, finishedBy, Timed, timed, timedFrom, Sums, noSums, addCall, addCalls, busCalls, sumsOf}
 use Rattle.bus_text.proofs.Totals.{three-le}
 
 -- FEW ACCESSES
@@ -81,19 +81,19 @@ calls-few x (a ∷ l) = go (pool x a .1) (calls-few (pool x a .0) l)
     go (answered y r) h = omega (arith, h)
 
 module _ (w : Times) (is-short : short w ≡ true) where
-  pub call-fits : (before : List (ℕ × Report)) (f : ℕ × Report) → (timed w before f .least ≤ 21000000) × (timed w before f .greatest ≤ 21000000)
-  call-fits before (t, r) =
+  pub call-fits : (n : ℕ) (f : ℕ × Report) → (timed w n f .least ≤ 21000000) × (timed w n f .greatest ≤ 21000000)
+  call-fits n (t, r) =
       let both = and-eq-true-iff (atMost 1000000 (w .low)) (atMost 1000000 (w .high) && true) .0 is-short in
       (total-fits (w .low) (countsOf r) (both .0) (few-accesses r), total-fits (w .high) (countsOf r) (and-eq-true-iff (atMost 1000000 (w .high)) true .0 (both .1) .0) (few-accesses r))
 
   -- THE SUMS, call by call: after n calls
 
-  pub sums-after : (n : ℕ) (z : Sums) (before : List (ℕ × Report)) (f : ℕ × Report) → Within n z → Within (n + 1) (addCall z (timed w before f))
-  sums-after n z before f h = let c = call-fits before f in (omega (arith, h .0, c .0), omega (arith, h .1, c .1))
+  pub sums-after : (n : ℕ) (z : Sums) (earlier : ℕ) (f : ℕ × Report) → Within n z → Within (n + 1) (addCall z (timed w earlier f))
+  sums-after n z k f h = let c = call-fits k f in (omega (arith, h .0, c .0), omega (arith, h .1, c .1))
 
   sums-within : (l before : List (ℕ × Report)) (n : ℕ) (z : Sums) → Within n z → Within (n + length l) (addCalls z (timedFrom w before l))
   sums-within [] before n z h = (omega (arith, h .0), omega (arith, h .1))
-  sums-within (f ∷ l) before n z h = let r = sums-within l (f ∷ before) (n + 1) (addCall z (timed w before f)) (sums-after n z before f h) in (omega (arith, r .0), omega (arith, r .1))
+  sums-within (f ∷ l) before n z h = let r = sums-within l (f ∷ before) (n + 1) (addCall z (timed w (finishedBy (f .0) before) f)) (sums-after n z (finishedBy (f .0) before) f h) in (omega (arith, r .0), omega (arith, r .1))
 
   -- of a whole session
   pub sums-fit : (x : Pool) (actions : List Action) → length actions ≤ 65535 → let z = sumsOf (busCalls w x actions) in (z .least ≤ 1376235000000) × (z .greatest ≤ 1376235000000)

@@ -90,13 +90,13 @@ pub record Timed : Type 0 where
   pub greatest : ℕ
 
 module _ (w : Times) where
-  abbrev pub timed : (before : List (ℕ × Report)) → ℕ × Report → Timed
-  timed before (t, r) = record { task = t; earlier = finishedBy t before; least = total (w .low) (countsOf r); greatest = total (w .high) (countsOf r) }
+  abbrev pub timed : (earlier : ℕ) → ℕ × Report → Timed
+  timed n (t, r) = record { task = t; earlier = n; least = total (w .low) (countsOf r); greatest = total (w .high) (countsOf r) }
 
   -- the calls of the list, after those before
   abbrev pub timedFrom : (before : List (ℕ × Report)) → List (ℕ × Report) → List Timed
   timedFrom before [] = []
-  timedFrom before (f ∷ l) = timed before f ∷ timedFrom (f ∷ before) l
+  timedFrom before (f ∷ l) = timed (finishedBy (f .0) before) f ∷ timedFrom (f ∷ before) l
 
 -- ALL FINISHED CALLS
 
