@@ -1,14 +1,20 @@
 -- What the code's answers say of questions 21 and 22, of the row that it found, and of the longest call.
-use mathlib.Core.Path.{_≡_, refl, sym, ap, _∙_}
-use mathlib.Core.Bool.{Bool, true, false, not, _&&_, cond}
+use mathlib.Core.Path.{_≡_, refl, sym, ap, subst, _∙_}
+use mathlib.Core.Bool.{Bool, true, false, not, _&&_, _||_, cond, false≢true}
 use mathlib.Core.Option.{Option, none, some, Option·getD}
-use Prim.Native.Nat.{ℕ, _+_, _*_, _≤_}
+use Prim.Native.Nat.{ℕ, _+_, _*_, _≤_, _<_}
 use native.Mathlib.Nat.{mul-le-mul}
-use borrow.Author.Tests.{not-true, not-false}
+use native.Mathlib.Omega.{arith}
+use lib.Dec.{ltb}
+use borrow.Author.Tests.{not-true, not-false, ltb-true, ltb-false}
+use Rattle.lines.specs.Paths.{rowOf}
+use Rattle.text.specs.Append.{Appended}
+use mathlib.Core.List.{List}
+use Rattle.questions.proofs.Tests.{or-left, or-right}
 use Rattle.questions.specs.Questions.{refusal}
 use Rattle.history.specs.History.{Report}
-use Rattle.bus_text.specs.Bus.{PerKind, Times, ordered, atMost, short, busQuestions, countsOf}
-use Rattle.bus_text.proofs.Fits.{few-accesses}
+use Rattle.bus_text.specs.Bus.{PerKind, perKind, Times, ordered, atMost, short, busQuestions, inRow, countsOf, Timed, timed, callLine}
+use Rattle.bus_text.proofs.Fits.{row-found, few-accesses, call-fits}
 
 module _ (w : Times) {x : Bool} (in-order : x ≡ ordered w) where
   pub asks-21 : not x ≡ true → 21 ≡ Option·getD (refusal (busQuestions w)) 0
@@ -32,6 +38,30 @@ module _ (w : Times) {x : Bool} (in-order : x ≡ ordered w) where
 pub product-fits : (t n : ℕ) → t ≤ 4294967295 → n ≤ 21 → t * n ≤ 90194313195
 product-fits t n h k = mul-le-mul h k
 
+-- no row has more hardware CAS attempts than accesses
+module _ (r : Report) where
+  pub too-many : (ltb 21 (r .won) || ltb 21 (r .lost)) ≡ true → perKind 0 0 0 ≡ countsOf r
+  too-many e = go (rowOf (r .steps) (r .won + r .lost)) refl
+    where
+      more : (x y : Bool) → ltb 21 (r .won) ≡ x → ltb 21 (r .lost) ≡ y → (x || y) ≡ true → 21 < r .won + r .lost
+      more true y p q e = omega (arith, ltb-true 21 (r .won) p)
+      more false true p q e = omega (arith, ltb-true 21 (r .lost) q)
+      more false false p q e = absurd (false≢true e)
+
+      go : (o : Option (ℕ × ℕ)) → rowOf (r .steps) (r .won + r .lost) ≡ o → perKind 0 0 0 ≡ inRow (r .won + r .lost) o
+      go none q = refl
+      go (some (l, s)) q = absurd (omega (arith, row-found (r .steps) (r .won + r .lost) l s q, more (ltb 21 (r .won)) (ltb 21 (r .lost)) refl refl e))
+
+  pub not-many : (ltb 21 (r .won) || ltb 21 (r .lost)) ≡ false → r .won + r .lost ≤ 42
+  not-many e = omega (arith, ltb-false 21 (r .won) (or-left (ltb 21 (r .won)) (ltb 21 (r .lost)) e), ltb-false 21 (r .lost) (or-right (ltb 21 (r .won)) (ltb 21 (r .lost)) e))
+
 -- a call that has the counts of a report does few accesses
 pub few-of : (c : PerKind) (r : Report) → c ≡ countsOf r → c .load + c .store + c .hardware ≤ 21
 few-of c r e = rw e (few-accesses r)
+
+-- a call with short times
+pub call-known : (w : Times) → short w ≡ true → (n : ℕ) (f : ℕ × Report) {c : Timed} → c ≡ timed w n f → (c .least ≤ 21000000) × (c .greatest ≤ 21000000)
+call-known w h n f e = rw e (call-fits w h n f)
+
+pub line-as : {o n : List ℕ} {at r : ℕ} {c d : Timed} → c ≡ d → Appended o n at r (callLine c) → Appended o n at r (callLine d)
+line-as {o = o} {n = n} {at = at} {r = r} e h = subst (λ (x : Timed). Appended o n at r (callLine x)) e h

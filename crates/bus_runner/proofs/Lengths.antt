@@ -34,5 +34,5 @@ call-short t n l g a b c d =
       decimal-short 1 t a,
       decimal-short 4 n b,
       decimal-short 6 l c,
-      decimal-short 6 g d
+      decimal-short 6 g d,
     )

@@ -3,7 +3,7 @@ ghost use mathlib.Core.Path.{_≡_};
 ghost use Prim.Native.Nat.{_+_, _≤_};
 ghost use Rattle.lines.specs.Answers.{result};
 ghost use Rattle.cells.specs.Events.{reportOf};
-ghost use Rattle.bus_text.specs.Bus.{countsOf, timed as «timedOf», longer as «longerOf», addCall};
+ghost use Rattle.bus_text.specs.Bus.{perKind, countsOf, timed as «timedOf», noSums, longer as «longerOf», addCall};
 ghost use Rattle.bus_runner.specs.Structs.{kindsOf, timesOf, callOf, longestOf, sumsIn};
 use crate::times::Kinds;
 use crate::times::Ranges;
@@ -33,11 +33,24 @@ pub struct Totals {
     pub longest: Longest,
 }
 
+fn no_access() -> Kinds
+    ensures { λ c. ⌜ kindsOf c ≡ perKind 0 0 0 ⌝ }
+{
+    Kinds {
+        load: 0,
+        store: 0,
+        hardware: 0,
+    }
+}
+
+// No row has more than 21 accesses.
 fn counts_of(f: Finished) -> Kinds
-    requires { ⌜ f .won + f .lost ≤ 4294967295 ⌝ }
     ensures { λ c. ⌜ kindsOf c ≡ countsOf (reportOf (result f)) ⌝ }
     ensures { λ c. ⌜ c .load + c .store + c .hardware ≤ 21 ⌝ }
 {
+    if (21 < f.won) | (21 < f.lost) {
+        return no_access();
+    }
     let hardware = f.won + f.lost;
     match row_of(f.steps, hardware) {
         Row::Counts(load, store) => Kinds {
@@ -45,16 +58,11 @@ fn counts_of(f: Finished) -> Kinds
             store,
             hardware,
         },
-        Row::NoRow => Kinds {
-            load: 0,
-            store: 0,
-            hardware: 0,
-        },
+        Row::NoRow => no_access(),
     }
 }
 
 pub fn timed(w: Ranges, task: u32, earlier: u32, f: Finished) -> CallTime
-    requires { ⌜ f .won + f .lost ≤ 4294967295 ⌝ }
     ensures { λ c. ⌜ callOf c ≡ «timedOf» (timesOf w) earlier (task, reportOf (result f)) ⌝ }
 {
     let counts = counts_of(f);
@@ -77,6 +85,16 @@ fn longer(best: Longest, c: CallTime) -> CallTime
             }
             d
         }
+    }
+}
+
+pub fn no_calls() -> Totals
+    ensures { λ z. ⌜ sumsIn z ≡ noSums ⌝ }
+{
+    Totals {
+        least: 0,
+        greatest: 0,
+        longest: Longest::NoCall,
     }
 }
 

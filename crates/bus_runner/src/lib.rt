@@ -1,4 +1,5 @@
-// Prints the bus times of a session file. The loop over the actions is to come.
+// Prints the bus times of a session file.
 mod calls;
+mod play;
 mod printing;
 mod times;

@@ -47,13 +47,16 @@ row-few (suc i) s h l st e = go (eqb (entry i 0) s && eqb (entry i 3) h) refl e 
         omega (arith, entry-few i, ap (λ (p : ℕ × ℕ). p .0) same, ap (λ (p : ℕ × ℕ). p .1) same, hard)
     go false q e rec = rec e
 
-pub few-accesses : (r : Report) → let c = countsOf r in c .load + c .store + c .hardware ≤ 21
+pub row-found : (s h l st : ℕ) → rowOf s h ≡ some (l, st) → l + st + h ≤ 21
 unfolding rowOf
+row-found = row-few 13
+
+pub few-accesses : (r : Report) → let c = countsOf r in c .load + c .store + c .hardware ≤ 21
 few-accesses r = go (rowOf (r .steps) (r .won + r .lost)) refl
   where
     go : (o : Option (ℕ × ℕ)) → rowOf (r .steps) (r .won + r .lost) ≡ o → let c = inRow (r .won + r .lost) o in c .load + c .store + c .hardware ≤ 21
     go none e = omega arith
-    go (some (l, s)) e = row-few 13 (r .steps) (r .won + r .lost) l s e
+    go (some (l, s)) e = row-found (r .steps) (r .won + r .lost) l s e
 
 -- A CALL'S TOTAL
 

@@ -156,4 +156,4 @@ abbrev pub busPrinted : Times → List ℕ → List ℕ
 busPrinted w = toolPrinted (busText w)
 
 abbrev pub busWithin : Times → (room : ℕ) → List ℕ → List ℕ
-busWithin w = toolWithin (busText w)
+busWithin w = toolWithin 2400000 (busText w)

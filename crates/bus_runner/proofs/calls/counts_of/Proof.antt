@@ -1,19 +1,29 @@
-use mathlib.Core.Path.{ap}
+use mathlib.Core.Path.{ap, _∙_}
 use Prim.Native.Nat.{_+_}
 use Rattle.lines.specs.Answers.{result}
 use Rattle.cells.specs.Events.{reportOf}
 use Rattle.bus_text.specs.Bus.{inRow}
-use Rattle.bus_runner.proofs.Laws.{few-of}
+use Rattle.bus_runner.proofs.Laws.{too-many, not-many, few-of}
 use borrow.Author.Needs.{needs}
 use native.Mathlib.Omega.{arith}
 use Rattle.bus_runner.proofs.calls.counts_of.Statement.{statement}
 use Rattle.bus_runner.proofs.calls.counts_of.Tie as tie
 use Rattle.bus_runner.proofs.calls.counts_of.Reads as reads
 use Rattle.bus_runner.proofs.calls.counts_of.Lts as lts
+use Rattle.bus_runner.proofs.calls.no_access.Reads as no-access-reads
 use Rattle.lines.proofs.paths.row_of.Reads as row-of-reads
 
+no-access-requires : tie.Need-no-access-requires
+no-access-requires c κs = search needs
+
+returns : tie.Need-returns
+returns c =
+    let f = c .before .before .before .before .args .f in
+    let counts = c .no-access .ensures ∙ too-many (reportOf (result f)) (c .before .if1 .taken) in
+    (counts, few-of _ (reportOf (result f)) counts)
+
 add-hardware : tie.Need-add-hardware
-add-hardware c = search needs
+add-hardware c = record { fits = omega (arith, not-many (reportOf (result (c .before .before .before .before .args .f))) (c .before .if1 .left)) }
 
 row-of-requires : tie.Need-row-of-requires
 row-of-requires c κs = search needs
@@ -24,20 +34,33 @@ enum-known-load c = search needs
 enum-told : tie.Need-enum-told
 enum-told c = search needs
 
-returns : tie.Need-returns
-returns c =
-    let f = c .before .before .before .before .before .args .f in
+no-access-requires-2 : tie.Need-no-access-requires-2
+no-access-requires-2 c κs = search needs
+
+returns-2 : tie.Need-returns-2
+returns-2 c =
+    let f = c .before .before .before .before .before .before .before .before .args .f in
     let found = rw (c .before .load .given .1) at (c .before .before .before .row-of .ensures) in
     let counts = ap (inRow (f .won + f .lost)) found in
     (counts, few-of _ (reportOf (result f)) counts)
 
-returns-2 : tie.Need-returns-2
-returns-2 c =
-    let f = c .before .before .before .before .args .f in
-    let found = rw (c .enum-told .given .1) at (c .before .before .row-of .ensures) in
-    let counts = ap (inRow (f .won + f .lost)) found in
+returns-3 : tie.Need-returns-3
+returns-3 c =
+    let f = c .before .before .before .before .before .before .before .before .args .f in
+    let found = rw (c .before .enum-told .given .1) at (c .before .before .before .row-of .ensures) in
+    let counts = c .no-access2 .ensures ∙ ap (inRow (f .won + f .lost)) found in
     (counts, few-of _ (reportOf (result f)) counts)
 
 pub counts-of-spec : {M : Type 1} → statement M
 counts-of-spec =
-    tie.close (tie.spec add-hardware row-of-requires enum-known-load enum-told returns returns-2)
+    tie.close
+    (tie.spec
+    no-access-requires
+    returns
+    add-hardware
+    row-of-requires
+    enum-known-load
+    enum-told
+    no-access-requires-2
+    returns-2
+    returns-3)

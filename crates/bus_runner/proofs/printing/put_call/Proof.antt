@@ -44,10 +44,9 @@ returns c =
     let w2 = c .before .before .before .before .before .before .wide2 in
     let u = c .before .before .before .before .up in
     let a = c .before .before .before .before .before .before .before .before .before .before .before .args in
-    let p = c .before .before .put-line .ensures in
-    (
+    let p = c .before .before .put-line .ensures in (
       rw (← (w .ensures .0), ← (w2 .ensures .0), ← (u .ensures)) p,
-      λ z. omega (arith, p .stored .next, call-short (w .result) (w2 .result) (a .c .least / 10) (u .result) (omega (arith, z .0, w .ensures .0)) (omega (arith, z .1, w2 .ensures .0)) (omega (arith, z .2)) (omega (arith, z .3, u .ensures)))
+      λ z. omega (arith, p .stored .next, call-short (w .result) (w2 .result) (a .c .least / 10) (u .result) (omega (arith, z .0, w .ensures .0)) (omega (arith, z .1, w2 .ensures .0)) (omega (arith, z .2)) (omega (arith, z .3, u .ensures))),
     )
 
 pub put-call-spec : {M : Type 1} → statement M
