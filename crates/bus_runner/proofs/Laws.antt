@@ -9,12 +9,15 @@ use lib.Dec.{ltb}
 use borrow.Author.Tests.{not-true, not-false, ltb-true, ltb-false}
 use Rattle.lines.specs.Paths.{rowOf}
 use Rattle.text.specs.Append.{Appended}
+use Rattle.text.specs.Lines.{badLine}
 use mathlib.Core.List.{List}
-use Rattle.questions.proofs.Tests.{or-left, or-right}
+use Rattle.questions.proofs.Tests.{or-left, or-right, yes-to}
 use Rattle.questions.specs.Questions.{refusal}
-use Rattle.history.specs.History.{Report}
-use Rattle.bus_text.specs.Bus.{PerKind, perKind, Times, ordered, atMost, short, busQuestions, inRow, countsOf, Timed, timed, callLine}
+use Rattle.cells.specs.Machine.{Pool}
+use Rattle.history.specs.History.{Action, Report}
+use Rattle.bus_text.specs.Bus.{PerKind, perKind, Times, ordered, atMost, short, busQuestions, inRow, countsOf, Timed, timed, busCalls, callsText, busText}
 use Rattle.bus_text.proofs.Fits.{row-found, few-accesses, call-fits}
+use Rattle.bus_text.proofs.Printed.{text-accepted}
 
 module _ (w : Times) {x : Bool} (in-order : x ≡ ordered w) where
   pub asks-21 : not x ≡ true → 21 ≡ Option·getD (refusal (busQuestions w)) 0
@@ -63,5 +66,30 @@ few-of c r e = rw e (few-accesses r)
 pub call-known : (w : Times) → short w ≡ true → (n : ℕ) (f : ℕ × Report) {c : Timed} → c ≡ timed w n f → (c .least ≤ 21000000) × (c .greatest ≤ 21000000)
 call-known w h n f e = rw e (call-fits w h n f)
 
-pub line-as : {o n : List ℕ} {at r : ℕ} {c d : Timed} → c ≡ d → Appended o n at r (callLine c) → Appended o n at r (callLine d)
-line-as {o = o} {n = n} {at = at} {r = r} e h = subst (λ (x : Timed). Appended o n at r (callLine x)) e h
+pub text-as : {o n : List ℕ} {at r : ℕ} {t u : List ℕ} → t ≡ u → Appended o n at r t → Appended o n at r u
+text-as {o = o} {n = n} {at = at} {r = r} e h = subst (Appended o n at r) e h
+
+-- 21 AND 22, as the code has them
+
+module _ (w : Times) {n : ℕ} (asked : n ≡ Option·getD (refusal (busQuestions w)) 0) where
+  none-refused : n ≡ 0 → refusal (busQuestions w) ≡ none
+  none-refused z = go (ordered w) (short w) refl refl
+    where
+      go : (x y : Bool) → ordered w ≡ x → short w ≡ y → refusal (busQuestions w) ≡ none
+      go true true p q = rw (p, q)
+      go true false p q = let e : n ≡ 22 = rw (p, q) at asked in absurd (omega (arith, e, z))
+      go false y p q = let e : n ≡ 21 = rw p at asked in absurd (omega (arith, e, z))
+
+  pub are-short : n ≡ 0 → short w ≡ true
+  are-short z = yes-to (busQuestions w) (none-refused z) 22
+
+  pub text-of-calls : n ≡ 0 → (tasks : ℕ) (x : Pool) (l : List Action) → callsText (busCalls w x l) ≡ busText w tasks x l
+  text-of-calls z tasks x l = sym (text-accepted w (none-refused z) tasks x l)
+
+  pub text-of-refusal : (n ≡ 0 → ⊥) → (tasks : ℕ) (x : Pool) (l : List Action) → badLine n ≡ busText w tasks x l
+  unfolding busText
+  text-of-refusal z tasks x l = go (refusal (busQuestions w)) refl
+    where
+      go : (o : Option ℕ) → refusal (busQuestions w) ≡ o → badLine n ≡ busText w tasks x l
+      go none e = absurd (z (asked ∙ rw e))
+      go (some q) e = let m : n ≡ q = asked ∙ rw e in rw (e, busText) (ap badLine m)

@@ -1,10 +1,10 @@
 use mathlib.Core.Path.{ap, _∙_}
-use Rattle.bus_text.specs.Bus.{Timed, addCall}
+use Rattle.bus_text.specs.Bus.{Timed, addCall, callLine}
 use lib.ListN.{getD}
 use Rattle.lines.specs.Answers.{result}
 use Rattle.cells.specs.Events.{reportOf}
 use Rattle.bus_runner.specs.Structs.{timesOf, sumsIn}
-use Rattle.bus_runner.proofs.Laws.{call-known, line-as}
+use Rattle.bus_runner.proofs.Laws.{call-known, text-as}
 use borrow.Author.Needs.{needs}
 use native.Mathlib.Omega.{arith}
 use Rattle.bus_runner.proofs.play.end_call.Statement.{statement}
@@ -66,7 +66,7 @@ returns c =
     let ends = c .before .before .before .before .before .before .before .before .before .before .pre .1 .2 in
     let e5 = ap (λ (x : Timed). x .task) e in
     let e6 = ap (λ (x : Timed). x .earlier) e in
-    (line-as e (p .0), (c .add-call .ensures ∙ ap (addCall (sumsIn (a .z))) e, (search needs, p .1 (omega (arith, e5, ends .0), omega (arith, e6, ends .1), k .0, k .1))))
+    (text-as (ap callLine e) (p .0), (c .add-call .ensures ∙ ap (addCall (sumsIn (a .z))) e, (search needs, p .1 (omega (arith, e5, ends .0), omega (arith, e6, ends .1), k .0, k .1))))
 
 pub end-call-spec : {M : Type 1} → statement M
 end-call-spec =
