@@ -15,26 +15,13 @@ fn main() {
         return;
     }
     let mut file = file_space();
-    let read = report::read_all(
-        STDIN_FILENO,
-        &mut file,
-        b"bus: cannot read standard input",
-    );
+    let read = report::read_all(STDIN_FILENO, &mut file, b"bus: cannot read standard input");
     if !read.whole {
         return;
     }
     let count = read.count;
     let mut out = bus_space();
-    let end = bus_runner::run_bus(
-        n[0],
-        n[1],
-        n[2],
-        n[3],
-        n[4],
-        n[5],
-        &file[..count],
-        &mut out,
-    );
+    let end = bus_runner::run_bus(n[0], n[1], n[2], n[3], n[4], n[5], &file[..count], &mut out);
     report::write_all(
         STDOUT_FILENO,
         &out[..end],

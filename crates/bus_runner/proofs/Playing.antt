@@ -1,9 +1,9 @@
 -- The loop over the actions.
-use mathlib.Core.Path.{_≡_, refl, sym, ap, subst, _∙_}
+use mathlib.Core.Path.{_≡_, refl, sym, ap, _∙_}
 use mathlib.Core.Logic.{_⊎_, inl, inr}
 use mathlib.Core.Bool.{Bool, true, false, cond}
 use mathlib.Core.List.{List, [], _∷_, _++_, map, append-assoc}
-use Prim.Native.Nat.{ℕ, _+_, _*_, _≤_, _<_}
+use Prim.Native.Nat.{ℕ, _+_, _≤_, _<_}
 use native.Mathlib.Omega.{arith}
 use lib.Dec.{eqb, ltb}
 use lib.ListN.{length, getD, set, drop, replicate, length-set, getD-replicate}
@@ -23,7 +23,7 @@ use Rattle.cells.proofs.Acts.{read-acts, swap-acts, step-acts}
 use Rattle.history.specs.History.{read, swap, Action, begin, step, taskOf, Attempt, Report, Event, history}
 use Rattle.history.proofs.Basics.{either}
 use Rattle.machine.proofs.Listed.{action-then, no-action as no-more}
-use Rattle.bus_text.specs.Bus.{Times, short, finishedCalls, finishedBy, Timed, timed, timedFrom, Sums, noSums, addCall, addCalls, busCalls, callLine, callLines, allLine, callsText}
+use Rattle.bus_text.specs.Bus.{Times, short, finishedCalls, finishedBy, timed, timedFrom, Sums, noSums, addCall, addCalls, busCalls, callLine, callLines, allLine, callsText}
 use Rattle.bus_text.proofs.Fits.{Within, sums-after}
 use Rattle.bus_runner.specs.Loop.{addedText, addedSums, addedCalls, addedCounts, Ends, Numbered, busOn}
 

@@ -1,5 +1,5 @@
 -- No sum wraps: a call does at most 21 accesses, a time is at most 1,000,000 and a session has at most 65,535 actions.
-use mathlib.Core.Path.{_≡_, refl, sym, ap, _∙_}
+use mathlib.Core.Path.{_≡_, refl, ap}
 use mathlib.Core.Bool.{Bool, true, false, _&&_, cond, and-eq-true-iff}
 use mathlib.Core.Option.{Option, none, some}
 use mathlib.Core.List.{List, [], _∷_}
@@ -13,7 +13,7 @@ use Rattle.lines.specs.Paths.{table, entry, rowBelow, rowOf}
 use Rattle.history.specs.History.{Action, Report, Event, refused, accepted, answered, history}
 use Rattle.history.proofs.Basics.{clash, some-inj}
 use Rattle.cells.specs.Machine.{Pool, pool}
-use Rattle.bus_text.specs.Bus.{PerKind, perKind, Times, atMost, short, inRow, countsOf, total, finishedCalls, finishedBy, Timed, timed, timedFrom, Sums, noSums, addCall, addCalls, busCalls, sumsOf}
+use Rattle.bus_text.specs.Bus.{PerKind, Times, atMost, short, inRow, countsOf, total, finishedCalls, finishedBy, timed, timedFrom, Sums, noSums, addCall, addCalls, busCalls, sumsOf}
 use Rattle.bus_text.proofs.Totals.{three-le}
 
 -- FEW ACCESSES

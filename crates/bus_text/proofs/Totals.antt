@@ -1,8 +1,8 @@
 -- Totals of accesses: by kind they are products of times and counts; the low times give the least one and the high times the greatest.
-use mathlib.Core.Path.{_≡_, refl, sym, ap, _∙_}
+use mathlib.Core.Path.{_≡_, refl, sym, _∙_}
 use mathlib.Core.Bool.{true}
 use mathlib.Core.List.{List, [], _∷_, _++_}
-use Prim.Native.Nat.{ℕ, _+_, _*_, _/_, _%_, _≤_, _<_}
+use Prim.Native.Nat.{ℕ, _+_, _*_, _%_, _≤_, _<_}
 use native.Mathlib.Nat.{mul-zero, mul-one, mul-add, div-add-mod, mod-lt}
 use native.Mathlib.Omega.{arith}
 use lib.Dec.{leb}

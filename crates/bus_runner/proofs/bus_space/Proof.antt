@@ -1,12 +1,8 @@
 use mathlib.Core.Path.{sym}
 use Prim.Native.Nat.{ℕ}
 use lib.ListN.{length-replicate}
-use borrow.Author.Needs.{needs}
-use native.Mathlib.Omega.{arith}
 use Rattle.bus_runner.proofs.bus_space.Statement.{statement}
 use Rattle.bus_runner.proofs.bus_space.Tie as tie
-use Rattle.bus_runner.proofs.bus_space.Reads as reads
-use Rattle.bus_runner.proofs.bus_space.Lts as lts
 
 returns : tie.Need-returns
 returns c = sym (length-replicate {A = ℕ} 2400000 0)

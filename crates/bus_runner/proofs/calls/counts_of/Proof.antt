@@ -8,13 +8,6 @@ use borrow.Author.Needs.{needs}
 use native.Mathlib.Omega.{arith}
 use Rattle.bus_runner.proofs.calls.counts_of.Statement.{statement}
 use Rattle.bus_runner.proofs.calls.counts_of.Tie as tie
-use Rattle.bus_runner.proofs.calls.counts_of.Reads as reads
-use Rattle.bus_runner.proofs.calls.counts_of.Lts as lts
-use Rattle.bus_runner.proofs.calls.no_access.Reads as no-access-reads
-use Rattle.lines.proofs.paths.row_of.Reads as row-of-reads
-
-no-access-requires : tie.Need-no-access-requires
-no-access-requires c κs = search needs
 
 returns : tie.Need-returns
 returns c =
@@ -24,18 +17,6 @@ returns c =
 
 add-hardware : tie.Need-add-hardware
 add-hardware c = record { fits = omega (arith, not-many (reportOf (result (c .before .before .before .before .args .f))) (c .before .if1 .left)) }
-
-row-of-requires : tie.Need-row-of-requires
-row-of-requires c κs = search needs
-
-enum-known-load : tie.Need-enum-known-load
-enum-known-load c = search needs
-
-enum-told : tie.Need-enum-told
-enum-told c = search needs
-
-no-access-requires-2 : tie.Need-no-access-requires-2
-no-access-requires-2 c κs = search needs
 
 returns-2 : tie.Need-returns-2
 returns-2 c =
@@ -55,12 +36,12 @@ pub counts-of-spec : {M : Type 1} → statement M
 counts-of-spec =
     tie.close
     (tie.spec
-    no-access-requires
+    (λ c κs. search needs)
     returns
     add-hardware
-    row-of-requires
-    enum-known-load
-    enum-told
-    no-access-requires-2
+    (λ c κs. search needs)
+    (λ c. search needs)
+    (λ c. search needs)
+    (λ c κs. search needs)
     returns-2
     returns-3)

@@ -1,16 +1,7 @@
 use borrow.Author.Tests.{lt-ltb, le-ltb}
 use borrow.Author.Needs.{needs}
-use native.Mathlib.Omega.{arith}
 use Rattle.bus_runner.proofs.calls.longer.Statement.{statement}
 use Rattle.bus_runner.proofs.calls.longer.Tie as tie
-use Rattle.bus_runner.proofs.calls.longer.Reads as reads
-use Rattle.bus_runner.proofs.calls.longer.Lts as lts
-
-enum-told : tie.Need-enum-told
-enum-told c = search needs
-
-enum-known-best : tie.Need-enum-known-best
-enum-known-best c = search needs
 
 returns : tie.Need-returns
 returns c = rw (c .before .before .before .before .best .given .1, lt-ltb _ _ (c .if1 .taken))
@@ -22,4 +13,4 @@ returns-3 : tie.Need-returns-3
 returns-3 c = rw (c .before .before .before .before .best .given .1, le-ltb _ _ (c .if1 .left))
 
 pub longer-spec : {M : Type 1} → statement M
-longer-spec = tie.close (tie.spec enum-told enum-known-best returns returns-2 returns-3)
+longer-spec = tie.close (tie.spec (λ c. search needs) (λ c. search needs) returns returns-2 returns-3)

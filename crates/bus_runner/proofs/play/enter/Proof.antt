@@ -4,18 +4,6 @@ use borrow.Author.Needs.{needs}
 use native.Mathlib.Omega.{arith}
 use Rattle.bus_runner.proofs.play.enter.Statement.{statement}
 use Rattle.bus_runner.proofs.play.enter.Tie as tie
-use Rattle.bus_runner.proofs.play.enter.Reads as reads
-use Rattle.bus_runner.proofs.play.enter.Lts as lts
-use Rattle.bus_runner.proofs.play.end_call.Reads as end-call-reads
-
-enum-told : tie.Need-enum-told
-enum-told c = search needs
-
-enum-told-2 : tie.Need-enum-told-2
-enum-told-2 c = search needs
-
-enum-known-outcome : tie.Need-enum-known-outcome
-enum-known-outcome c = search needs
 
 end-call-requires : tie.Need-end-call-requires
 end-call-requires c κs = let e = rw (c .before .before .before .outcome .given .1) at (c .before .before .before .before .before .before .before .pre .1 .2) in (search needs, (c .before .before .before .before .before .before .before .pre .1 .0, c .before .before .before .before .before .before .before .pre .1 .1, e))
@@ -26,12 +14,6 @@ returns c = rw (c .enum-told .given .1) (nothing _ _, (refl, (refl, omega arith)
 returns-2 : tie.Need-returns-2
 returns-2 c = rw (c .enum-told2 .given .1) (nothing _ _, (refl, (refl, omega arith)))
 
-same-length : tie.Need-same-length
-same-length c = search needs
-
-same-length-2 : tie.Need-same-length-2
-same-length-2 c = search needs
-
 returns-3 : tie.Need-returns-3
 returns-3 c = rw (c .before .before .before .before .before .before .before .before .outcome .given .1) (c .before .before .before .before .end-call .ensures)
 
@@ -39,12 +21,12 @@ pub enter-spec : {M : Type 1} → statement M
 enter-spec =
     tie.close
     (tie.spec
-    enum-told
-    enum-told-2
-    enum-known-outcome
+    (λ c. search needs)
+    (λ c. search needs)
+    (λ c. search needs)
     end-call-requires
     returns
     returns-2
-    same-length
-    same-length-2
+    (λ c. search needs)
+    (λ c. search needs)
     returns-3)

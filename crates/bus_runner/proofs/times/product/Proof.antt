@@ -3,15 +3,6 @@ use borrow.Author.Needs.{needs}
 use native.Mathlib.Omega.{arith}
 use Rattle.bus_runner.proofs.times.product.Statement.{statement}
 use Rattle.bus_runner.proofs.times.product.Tie as tie
-use Rattle.bus_runner.proofs.times.product.Reads as reads
-use Rattle.bus_runner.proofs.times.product.Lts as lts
-use Rattle.text.proofs.numbered.wide.Reads as wide-reads
-
-wide-requires : tie.Need-wide-requires
-wide-requires c κs = search needs
-
-wide-requires-2 : tie.Need-wide-requires-2
-wide-requires-2 c κs = search needs
 
 mul-result : tie.Need-mul-result
 mul-result c =
@@ -26,4 +17,4 @@ returns c =
     (rw (w .ensures .0, w2 .ensures .0), product-fits (w .result) (w2 .result) (w .ensures .1) (omega (arith, w2 .ensures .0, c .before .before .pre)))
 
 pub product-spec : {M : Type 1} → statement M
-product-spec = tie.close (tie.spec wide-requires wide-requires-2 mul-result returns)
+product-spec = tie.close (tie.spec (λ c κs. search needs) (λ c κs. search needs) mul-result returns)
