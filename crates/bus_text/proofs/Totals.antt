@@ -105,3 +105,17 @@ rounded-down n = let e = div-add-mod n 10 in let b : n % 10 < 10 = mod-lt n (ome
 
 pub rounded-up : (n : ℕ) → (n ≤ 10 * up n) × (10 * up n < n + 10)
 rounded-up n = let e = div-add-mod (n + 9) 10 in let b : (n + 9) % 10 < 10 = mod-lt (n + 9) (omega arith) in (omega (arith, e, b), omega (arith, e))
+
+module _ {w : Times} {l : List Access} {least greatest : ℕ} (b : Between w l least greatest) where
+  -- So the printed nanoseconds, in tenths, bracket every total.
+  pub printed-brackets : (ts : List ℕ) → EachWithin w l ts → (10 * down least ≤ sum ts) × (sum ts ≤ 10 * up greatest)
+  printed-brackets ts h = let t = b .each ts h in (omega (arith, rounded-down least, t .0), omega (arith, rounded-up greatest, t .1))
+
+  -- No other two numbers lie so.
+  pub ends-unique : {least′ greatest′ : ℕ} → Between w l least′ greatest′ → (least ≡ least′) × (greatest ≡ greatest′)
+  ends-unique b′ =
+      let (ts, h, e) = b .each-least in
+      let (ts′, h′, e′) = b′ .each-least in
+      let (us, k, f) = b .each-greatest in
+      let (us′, k′, f′) = b′ .each-greatest in
+      (omega (arith, e, e′, b .each ts′ h′ .0, b′ .each ts h .0), omega (arith, f, f′, b .each us′ k′ .1, b′ .each us k .1))
