@@ -9,7 +9,7 @@ fn main() {
     let mut n = [0u32; 6];
     if !arguments::take(
         &mut n,
-        b"usage: bus LL LH SL SH HL HH < SESSION\n",
+        b"usage: bus LL LH SL SH HL HH\n",
         b"bus: cannot write standard output",
     ) {
         return;

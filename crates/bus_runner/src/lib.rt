@@ -21,6 +21,7 @@ ghost use mathlib.Core.List.{_++_, map};
 ghost use Prim.Native.Nat.{_≤_};
 ghost use lib.ListN.{length, drop, replicate};
 ghost use Rattle.io.specs.Counts.{Counts};
+ghost use Rattle.buffers.specs.Space.{zeros};
 ghost use Rattle.lines.specs.Record.{idle};
 ghost use Rattle.text.specs.Append.{Appended};
 ghost use Rattle.refinement.specs.Reached.{Reached};
@@ -34,6 +35,7 @@ ghost use Rattle.bus_runner.specs.Structs.{timesOf};
 const ROOM: usize = 2400000;
 
 pub fn bus_space() -> [u8; ROOM]
+    ensures { λ r. ⌜ r ≡ zeros 2400000 ⌝ }
     ensures { λ r. ⌜ 2400000 ≡ length r ⌝ }
 {
     [0; ROOM]
