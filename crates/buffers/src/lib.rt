@@ -22,8 +22,8 @@ pub fn text_space() -> [u8; ROOM]
     [0; ROOM]
 }
 
-// For what moments prints: a line of at most 32 bytes for each action and each task, with some to spare.
-pub fn marks_space() -> [u8; 2400000]
+// For what moments and bus print: a line of at most 32 bytes for each action and each task, with some to spare.
+pub fn lines_space() -> [u8; 2400000]
     ensures { λ r. ⌜ r ≡ zeros 2400000 ⌝ }
     ensures { λ r. ⌜ 2400000 ≡ length r ⌝ }
 {

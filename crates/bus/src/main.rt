@@ -1,7 +1,7 @@
 // Reads a session from standard input and writes its bus times: bus LL LH SL SH HL HH, the low and high time of a load, a store and a
 // hardware CAS, in tenths of a nanosecond.
 use buffers::file_space;
-use bus_runner::bus_space;
+use buffers::lines_space;
 use libc::STDIN_FILENO;
 use libc::STDOUT_FILENO;
 
@@ -20,7 +20,7 @@ fn main() {
         return;
     }
     let count = read.count;
-    let mut out = bus_space();
+    let mut out = lines_space();
     let end = bus_runner::run_bus(n[0], n[1], n[2], n[3], n[4], n[5], &file[..count], &mut out);
     report::write_all(
         STDOUT_FILENO,

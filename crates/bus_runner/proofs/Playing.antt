@@ -12,11 +12,12 @@ use borrow.Author.Tests.{ltb-true, eq-eqb, ne-eqb}
 use Rattle.lines.specs.Basics.{ands}
 use Rattle.lines.specs.Record.{recordAt}
 use Rattle.questions.specs.declared.State.{State}
-use Rattle.questions.specs.Questions.{Question, answers, fit, beginQuestions, swapQuestions, stepQuestions}
+use Rattle.questions.specs.Questions.{Question, answers, fit, beginQuestions, swapQuestions}
 use Rattle.questions.proofs.Tests.{nth}
 use Rattle.questions.proofs.Fits.{sizes}
 use Rattle.cells.specs.Answers.{Said, Refused, Acted, Ended, acts}
 use Rattle.cells.specs.Open.{After, leaving}
+use Rattle.cells.specs.Step.{stepAsks}
 use Rattle.cells.specs.Events.{reportOf, eventOf}
 use Rattle.cells.specs.Machine.{does, triedBy, pool}
 use Rattle.cells.proofs.Acts.{read-acts, swap-acts, step-acts}
@@ -36,7 +37,7 @@ module _ (s : State) (p : List ℕ) where
   task-below : (a : Action) → acts (does s p a .outcome) ≡ true → taskOf a < s .tasks
   task-below (begin t (read k)) e = second (fit s p) (drop 1 (beginQuestions (s .tasks) (s .cells) (recordAt (s .records) t) t k)) t (sym (read-acts s p t k) ∙ e)
   task-below (begin t (swap k x n)) e = second (fit s p) (drop 1 (swapQuestions (s .tasks) (s .cells) (recordAt (s .records) t) t k x n)) t (sym (swap-acts s p t k x n) ∙ e)
-  task-below (step t) e = second (fit s p) (drop 1 (stepQuestions (s .tasks) (recordAt (s .records) t) t)) t (sym (step-acts s p t) ∙ e)
+  task-below (step t) e = ltb-true t (s .tasks) (nth (answers (stepAsks s p t)) (sym (step-acts s p t) ∙ e) 1)
 
 -- HOW MANY CALLS EACH TASK HAS FINISHED
 

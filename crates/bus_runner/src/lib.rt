@@ -21,7 +21,6 @@ ghost use mathlib.Core.List.{_++_, map};
 ghost use Prim.Native.Nat.{_≤_};
 ghost use lib.ListN.{length, drop, replicate};
 ghost use Rattle.io.specs.Counts.{Counts};
-ghost use Rattle.buffers.specs.Space.{zeros};
 ghost use Rattle.lines.specs.Record.{idle};
 ghost use Rattle.text.specs.Append.{Appended};
 ghost use Rattle.refinement.specs.Reached.{Reached};
@@ -30,16 +29,6 @@ ghost use Rattle.session_reader.specs.Kept.{Named};
 ghost use Rattle.session_start.specs.Start.{toolStart, startAt, Ready};
 ghost use Rattle.bus_text.specs.Bus.{times as «timesFrom», busText, busWithin};
 ghost use Rattle.bus_runner.specs.Structs.{timesOf};
-
-// As many bytes as the longest text, of 65,535 lines, may have; it has fewer.
-const ROOM: usize = 2400000;
-
-pub fn bus_space() -> [u8; ROOM]
-    ensures { λ r. ⌜ r ≡ zeros 2400000 ⌝ }
-    ensures { λ r. ⌜ 2400000 ≡ length r ⌝ }
-{
-    [0; ROOM]
-}
 
 // 21 and 22, then the actions. What is left in the pool is open: it is the session's own.
 fn start(
@@ -107,7 +96,7 @@ fn print(
 }
 
 // Prints the bus times of a session file at the start of out, by the low and high times of a load, a store and a hardware CAS, and
-// returns the text's length; nothing where out has no ROOM. The bytes after the text are as they were.
+// returns the text's length; nothing where out has fewer than 2,400,000 bytes. The bytes after the text are as they were.
 pub fn run_bus(
     load_low: u32,
     load_high: u32,
@@ -122,7 +111,7 @@ pub fn run_bus(
     ensures { λ r. ⌜ r ≡ length (busWithin («timesFrom» «load_low» «load_high» «store_low» «store_high» «hardware_low» «hardware_high») (length (now (out .entry))) (now (file .entry))) ⌝ }
     ensures { λ r. ⌜ Counts r (now (out .exit)) ⌝ }
 {
-    if out.len() < ROOM {
+    if out.len() < 2400000 {
         return 0;
     }
     let low = Kinds {

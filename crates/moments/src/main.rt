@@ -1,6 +1,6 @@
 // Reads a session from standard input and writes when each of its calls took effect.
 use buffers::file_space;
-use buffers::marks_space;
+use buffers::lines_space;
 use libc::STDIN_FILENO;
 use libc::STDOUT_FILENO;
 use moments_runner::run_moments;
@@ -16,7 +16,7 @@ fn main() {
         return;
     }
     let n = read.count;
-    let mut out = marks_space();
+    let mut out = lines_space();
     let end = run_moments(&file[..n], &mut out);
     report::write_all(
         STDOUT_FILENO,

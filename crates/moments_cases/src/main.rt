@@ -1,6 +1,6 @@
 // Writes the name of each session that an argument names, and when its calls took effect.
 use buffers::file_space;
-use buffers::marks_space;
+use buffers::lines_space;
 use case_files::read_case;
 use libc::STDOUT_FILENO;
 use moments_runner::run_moments;
@@ -12,7 +12,7 @@ fn run_one(i: usize) {
         return;
     }
     let n = read.count;
-    let mut out = marks_space();
+    let mut out = lines_space();
     let end = run_moments(&file[..n], &mut out);
     report::write_all(STDOUT_FILENO, &out[..end], b"output");
 }

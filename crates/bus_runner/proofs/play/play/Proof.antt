@@ -13,7 +13,7 @@ use Rattle.cells.specs.Answers.{said}
 use Rattle.history.specs.History.{Report}
 use Rattle.session_reader.specs.Reading.{actAt}
 use Rattle.machine.specs.Actions.{actOf}
-use Rattle.machine.specs.Places.{stateOf}
+use Rattle.machine.specs.Places.{wholeOf}
 use Rattle.machine.proofs.Placing.{idle-places}
 use Rattle.machine.proofs.Turning.{reached-then}
 use Rattle.text.proofs.Toward.{Toward, toward-start, toward-more, toward-last}
@@ -25,16 +25,12 @@ use Rattle.bus_runner.proofs.Playing.{none-numbered, numbers-more, ends
 use Rattle.bus_runner.proofs.play.play.Statement.{statement}
 use Rattle.bus_runner.proofs.play.play.Tie as tie
 
--- the state that the loop is at
-abbrev whole : State → (last : ℕ) (current records counts : List ℕ) → State
-whole s l c w k = stateOf (s .tasks) (s .cells) (s .blocks) l c w k
-
 -- with the calls before
 abbrev Inv-loop : tie.InvT-loop
 Inv-loop out₀ w records₀ tasks cells first pool₀ forms kept finished₀ i₀ at₀ last₀ current₀ counts₀ z₀ out records pool finished i at last current counts z =
     (before : List (ℕ × Report))
-    × Toward out₀ out 0 at (busOn (timesOf w) before (sumsIn z) (whole first last current records counts, pool) (drop i (map (actAt forms) kept))) (callsText (busCalls (timesOf w) (first, pool₀) (map (actAt forms) kept)))
-    × Numbered finished before × (length before ≤ i) × (length finished ≡ 32) × Within i (sumsIn z) × (at ≤ 31 * i) × (i ≤ length kept) × (length pool ≡ length pool₀) × Reached tasks cells (whole first last current records counts) pool × (length records ≡ 384)
+    × Toward out₀ out 0 at (busOn (timesOf w) before (sumsIn z) (wholeOf first last current records counts, pool) (drop i (map (actAt forms) kept))) (callsText (busCalls (timesOf w) (first, pool₀) (map (actAt forms) kept)))
+    × Numbered finished before × (length before ≤ i) × (length finished ≡ 32) × Within i (sumsIn z) × (at ≤ 31 * i) × (i ≤ length kept) × (length pool ≡ length pool₀) × Reached tasks cells (wholeOf first last current records counts) pool × (length records ≡ 384)
 
 abbrev μ-loop : tie.MeasureT-loop
 μ-loop out₀ w records₀ tasks cells first pool₀ forms kept finished₀ i₀ at₀ last₀ current₀ counts₀ z₀ out records pool finished i at last current counts z = length kept - i
@@ -45,10 +41,10 @@ loop-holds c =
     let l = map (actAt a.forms.now) a.kept.now in
     let zs = c .no-calls .ensures in
     let z = sumsIn (c .no-calls .result) in
-    let e : a .first ≡ whole a.first (a .first .last) (a .first .current) a.records.now (a .first .counts) =
+    let e : a .first ≡ wholeOf a.first (a .first .last) (a .first .current) a.records.now (a .first .counts) =
     ap (λ (x : List Record). record { tasks = a .first .tasks; cells = a .first .cells; blocks = a .first .blocks; last = a .first .last; current = a .first .current; records = x; counts = a .first .counts }) (c .before .before .before .before .before .before .before .before .before .pre .1 .1 .0 .1 ∙ sym idle-places ∙ ap (recordsOf 32) (sym (c .before .before .before .before .before .before .before .before .before .pre .1 .1 .0 .0)))
     in
-    let s = whole a.first (a .first .last) (a .first .current) a.records.now (a .first .counts) in
+    let s = wholeOf a.first (a .first .last) (a .first .current) a.records.now (a .first .counts) in
     let none = c .before .before .before .counters .ensures in (
       [],
       subst (λ (rest : List ℕ). Toward a.out.now a.out.now 0 0 rest (callsText (busCalls (timesOf (a .w)) (a .first, a.pool.now) l))) (start-text (timesOf (a .w)) z (a .first) s a.pool.now l zs e) (toward-start _ _ _),
@@ -76,7 +72,7 @@ enter-requires : tie.Need-enter-requires Inv-loop μ-loop
 enter-requires c κs =
     let l = c .before .before .before .before .before .before .before .before .before .before .before .before .before .before .before .loop in
     let a = c .before .before .before .before .before .before .before .before .before .before .before .before .before .before .before .before .before .before .before .before .before .before .before .before .before .args in
-    let s = whole (a .first) l.last l.current l.records l.counts in
+    let s = wholeOf (a .first) l.last l.current l.records l.counts in
     let h : l .i < 65535 = omega (arith, c .before .before .before .before .before .before .before .before .before .before .before .before .before .before .loop-test .taken, c .before .before .before .before .before .before .before .before .before .before .before .before .before .before .before .before .before .before .before .before .before .before .before .before .before .pre .1 .1 .1 .0) in
     let z = within-fits l.i (sumsIn l.z) (l .inv .5) (omega (arith, h)) in (
       (omega (arith, l .inv .1 .same, l .inv .6, h, c .before .before .before .before .before .before .before .before .before .before .before .before .before .before .before .before .before .before .before .before .before .before .before .before .before .pre .1 .1 .1 .1 .1), l .inv .4, c .before .before .before .before .before .before .before .before .before .before .before .before .before .before .before .before .before .before .before .before .before .before .before .before .before .pre .0),
@@ -94,7 +90,7 @@ loop-again c =
     let l = c .before .before .before .before .before .before .before .before .before .before .before .before .before .before .before .before .before .before .before .before .loop in
     let a = c .before .before .before .before .before .before .before .before .before .before .before .before .before .before .before .before .before .before .before .before .before .before .before .before .before .before .before .before .before .before .args in
     let x = actOf (c .before .before .before .before .before .before .before .before .before .before .before .before .before .before .before .before .before .action-at .result) in
-    let s = whole (a .first) l.last l.current l.records l.counts in
+    let s = wholeOf (a .first) l.last l.current l.records l.counts in
     let d = c .before .before .before .before .before .before .before .before .before .before .before .before .advance .ensures in
     let o = said (c .before .before .before .before .before .before .before .before .before .before .before .before .advance .result .outcome) in
     let t = c .before .before .before .before .before .task-of .result in
@@ -129,7 +125,7 @@ returns : tie.Need-returns Inv-loop μ-loop
 returns c =
     let l = c .before .before .before .before .before .loop in
     let a = c .before .before .before .before .before .before .before .before .before .before .before .before .before .before .before .args in
-    let s = whole (a .first) l.last l.current l.records l.counts in
+    let s = wholeOf (a .first) l.last l.current l.records l.counts in
     toward-last (l .inv .1) (rw (no-action (timesOf (a .w)) (l .inv .0) (sumsIn l.z) s l.pool (actAt a.forms.now) a.kept.now l.i (omega (arith, c .before .before .before .before .loop-test .left))) (c .before .before .put-all .ensures))
 
 pub play-spec : {M : Type 1} → statement M

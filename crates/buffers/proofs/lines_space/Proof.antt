@@ -3,12 +3,12 @@ use mathlib.Core.Path.{refl, sym}
 use Prim.Native.Nat.{ℕ}
 use lib.ListN.{length-replicate}
 use Rattle.buffers.specs.Space.{zeros}
-use Rattle.buffers.proofs.marks_space.Statement.{statement}
-use Rattle.buffers.proofs.marks_space.Tie as tie
+use Rattle.buffers.proofs.lines_space.Statement.{statement}
+use Rattle.buffers.proofs.lines_space.Tie as tie
 
 returns : tie.Need-returns
 unfolding zeros
 returns c = (refl, sym (length-replicate {A = ℕ} 2400000 0))
 
-pub marks-space-spec : {M : Type 1} → statement M
-marks-space-spec = tie.close (tie.spec returns)
+pub lines-space-spec : {M : Type 1} → statement M
+lines-space-spec = tie.close (tie.spec returns)
