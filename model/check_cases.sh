@@ -1,9 +1,10 @@
 #!/bin/sh
 # Makes the cases of sessions, of the once-only cells, of the shaker and of the
-# tools moments and nudge anew from the model and compares them with the ones kept
-# in crates/session_cases, crates/once_cases, crates/shake_cases,
-# crates/moments_cases and crates/nudge_cases, and likewise what crates/cells_cases,
-# crates/shake and crates/shaken_session print and the pairs in examples/c.
+# tools moments, nudge and bus anew from the model and compares them with the ones
+# kept in crates/session_cases, crates/once_cases, crates/shake_cases,
+# crates/moments_cases, crates/nudge_cases and crates/bus_cases, and likewise what
+# crates/cells_cases, crates/shake and crates/shaken_session print and the pairs in
+# examples/c.
 # Ends with 1, naming the first difference, if data, args, a stdin, a stdout or
 # the pairs differ.
 set -u
@@ -48,6 +49,7 @@ compare make_once_cases.py once_cases
 compare make_shake_cases.py shake_cases
 compare make_moments_cases.py moments_cases
 compare make_nudge_cases.py nudge_cases
+compare make_bus_cases.py bus_cases
 
 # what the programs shake and shaken_session print for their stored arguments
 for crate in shake shaken_session; do
