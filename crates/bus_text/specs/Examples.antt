@@ -52,8 +52,8 @@ prints :
     (times 1000001 1000000 0 0 0 0, ("(open 2 1 5 (5))\n", "(bad 21)\n")) ∷
     (times 1000001 1000001 0 0 1 0, ("(open 2 1 5 (5))\n", "(bad 21)\n")) ∷
     -- the open's before 21, and 13 before the open's
-    (times 1 0 0 0 0 0, ("(open 2 1 4 (5))\n", "(bad 3)\n")) ∷
-    (times 1 0 0 0 0 0, ("(open 2 1 4 (5))", "(bad 13)\n")) ∷
+    (times 1 0 0 0 0 0, ("(open 2 1 3 (5))\n", "(bad 3)\n")) ∷
+    (times 1 0 0 0 0 0, ("(open 2 1 3 (5))", "(bad 13)\n")) ∷
     []
     )
 unfolding digits word digitsAfter number rowOf fit recordFit cellsFit recordsFit hasNone openQuestions uses countsTrue found recounted opened readBegun swapBegun ran stepped fits deeper shapedAfter reader.numbers reader.manyWithin reader.values reader.opening reader.keyword reader.head reader.body reader.form reader.line reader.count reader.times reader.actions reader.asked14 reader.formed reader.verdict numbers callLines busText toolAfterOpen toolPrinted reader.asked15
