@@ -86,8 +86,3 @@ recounted-same l r c n h = rw (eq-eqb c c refl) (ext-getD 0 (claimed (released l
     each b i =
         let j : b < length l = omega (arith, i, long) in
         omega (arith, claimed-at b (released l r) (omega (arith, j, length-released l r)) r, released-at b l j r, h b (omega (arith, j, n)))
-
--- where a record that names nothing takes an idle one's place
-pub recounted-new : (l : List ℕ) (r q : Record) (c : ℕ) → isIdle r ≡ true → not (isIdle q) && holds q ≡ false → not (isIdle q) && hasTaken q ≡ false → recounted l r q c c ≡ l
-unfolding recounted
-recounted-new l r q c e g h = rw (eq-eqb c c refl, e, g, h)

@@ -1,4 +1,3 @@
-pub mod Pool
 pub mod Answers
 pub mod Open
 pub mod Begin
