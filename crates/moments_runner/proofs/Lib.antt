@@ -1,8 +1,3 @@
-mod Sorting
-mod Printing
-mod Encoding
-mod Noting
-mod Ruling
 mod Doing
 mod Seeing
 mod Marking

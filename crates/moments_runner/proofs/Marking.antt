@@ -22,13 +22,13 @@ use Rattle.history.specs.Moments.{Spot, Mark, marks, marked, markOf, markOfPend
 use Rattle.figure.specs.Moments.{Notes, noNotes, noted, note, noting, names, ruled, stands}
 use Rattle.figure.proofs.AsBegun.{opOf, cell-of}
 use Rattle.refinement.specs.Moments.{seesPool}
-use Rattle.moments_runner.specs.declared.notes.Sight.{Sight}
-use Rattle.moments_runner.specs.declared.notes.Own.{Own}
-use Rattle.moments_runner.specs.Words.{wordOf, encode, insertWord, Small, Listed}
-use Rattle.moments_runner.specs.Notes.{slot, seen, holdsWith, sightOf, notesOf, ownOf, ownNotes}
-use Rattle.moments_runner.specs.Loop.{endingSpot, endedWords, EndFits, notedLine, spreads, standWords, StandFits, closing, Closing}
-use Rattle.moments_runner.proofs.Encoding.{none-listed, one-listed}
-use Rattle.moments_runner.proofs.Noting.{zeros-at}
+use Rattle.moments_notes.specs.declared.Sight.{Sight}
+use Rattle.moments_notes.specs.declared.Own.{Own}
+use Rattle.moments_notes.specs.Words.{wordOf, encode, insertWord, Small, Listed}
+use Rattle.moments_notes.specs.Notes.{slot, seen, holdsWith, sightOf, notesOf, ownOf, ownNotes}
+use Rattle.moments_notes.specs.Loop.{endingSpot, endedWords, EndFits, notedLine, spreads, standWords, StandFits, closing, Closing}
+use Rattle.moments_notes.proofs.Encoding.{none-listed, one-listed}
+use Rattle.moments_notes.proofs.Noting.{zeros-at}
 use Rattle.moments_runner.proofs.Doing.{Steps, Did, refuses, begins, moves, ends, did, BegunAs, AllBegun, begun-next}
 use Rattle.moments_runner.proofs.Seeing.{Who, same-noted}
 

@@ -13,9 +13,9 @@ use Rattle.questions.specs.declared.State.{State}
 use Rattle.cells.specs.Step.{current}
 use Rattle.figure.specs.Moments.{holdsBlock, Notes, noted}
 use Rattle.refinement.specs.Moments.{seesPool}
-use Rattle.moments_runner.specs.declared.notes.Sight.{Sight}
-use Rattle.moments_runner.specs.Notes.{seen, holdsWith, sightOf}
-use Rattle.moments_runner.specs.Loop.{spreads}
+use Rattle.moments_notes.specs.declared.Sight.{Sight}
+use Rattle.moments_notes.specs.Notes.{seen, holdsWith, sightOf}
+use Rattle.moments_notes.specs.Loop.{spreads}
 
 first-true : (a b : Bool) → (a && b) ≡ true → a ≡ true
 first-true true b e = refl

@@ -23,11 +23,11 @@ use Rattle.refinement.proofs.Refines.{together}
 use Rattle.history.specs.History.{Action}
 use Rattle.machine.proofs.Turning.{reached-small}
 use Rattle.moments_text.specs.Printed.{momentsText}
-use Rattle.moments_runner.specs.Words.{wordLines, Listed}
-use Rattle.moments_runner.specs.Notes.{slot}
-use Rattle.moments_runner.specs.Loop.{allMarks}
-use Rattle.moments_runner.proofs.Encoding.{listed-lines}
-use Rattle.moments_runner.proofs.Noting.{slot-below}
+use Rattle.moments_notes.specs.Words.{wordLines, Listed}
+use Rattle.moments_notes.specs.Notes.{slot}
+use Rattle.moments_notes.specs.Loop.{allMarks}
+use Rattle.moments_notes.proofs.Encoding.{listed-lines}
+use Rattle.moments_notes.proofs.Noting.{slot-below}
 
 pub reached-cell : {n v : ℕ} {s : State} {p : List ℕ} → Reached n v s p → (t : ℕ) → t < n → recordAt (s .records) t .cell < 16
 reached-cell {n} {v} {s} {p} r t h =

@@ -1,9 +1,5 @@
 // Prints when each call of a session file took effect.
-mod calls;
-mod notes;
 mod play;
-mod spots;
-mod words;
 
 use buffers::action_space;
 use buffers::form_space;

@@ -1,20 +1,20 @@
 // The actions in their order, the words of the calls that they end, and those of the pending swaps after the last.
-use crate::calls::close;
-use crate::calls::end_call;
-use crate::calls::noted_line;
-use crate::calls::spreads;
-use crate::notes::holders;
-use crate::notes::note;
-use crate::notes::own_notes;
-use crate::notes::see_cell;
-use crate::notes::slot;
-use crate::words::put_marks;
 use buffers::record_space;
 use machine::actions::action_at;
 use machine::actions::task_of;
 use machine::advance::advance;
 use machine::places::record_at;
 use machine::places::with_records;
+use moments_calls::calls::close;
+use moments_calls::calls::end_call;
+use moments_calls::calls::noted_line;
+use moments_calls::calls::spreads;
+use moments_calls::notes::holders;
+use moments_calls::notes::note;
+use moments_calls::notes::own_notes;
+use moments_calls::notes::see_cell;
+use moments_calls::notes::slot;
+use moments_words::put_marks;
 use questions::State;
 ghost use mathlib.Core.Path.{_≡_};
 ghost use mathlib.Core.List.{map};
@@ -26,8 +26,8 @@ ghost use Rattle.session_reader.specs.Reading.{actAt};
 ghost use Rattle.session_reader.specs.Kept.{Named};
 ghost use Rattle.text.specs.Append.{Appended};
 ghost use Rattle.moments_text.specs.Printed.{momentsText};
-ghost use Rattle.moments_runner.specs.Words.{Listed};
-ghost use Rattle.moments_runner.specs.Loop.{allMarks};
+ghost use Rattle.moments_notes.specs.Words.{Listed};
+ghost use Rattle.moments_notes.specs.Loop.{allMarks};
 
 // A word for each action, and one for each task.
 const MARKS: usize = 65567;

@@ -18,9 +18,9 @@ use Rattle.machine.specs.Places.{wholeOf}
 use Rattle.machine.proofs.Placing.{records-length, idle-places}
 use Rattle.machine.proofs.Turning.{reached-small, reached-then}
 use Rattle.machine.proofs.Listed.{action-then, no-action}
-use Rattle.moments_runner.specs.Words.{Listed}
-use Rattle.moments_runner.specs.Notes.{slot, notesOf, Sized}
-use Rattle.moments_runner.specs.Loop.{allMarks}
+use Rattle.moments_notes.specs.Words.{Listed}
+use Rattle.moments_notes.specs.Notes.{slot, notesOf, Sized}
+use Rattle.moments_notes.specs.Loop.{allMarks}
 use Rattle.moments_runner.proofs.Marking.{Marking, marks-start, coded, marks-on, marks-end}
 use Rattle.moments_runner.proofs.Starting.{reached-cell, reached-sizes, task-below, slot-cell}
 use Rattle.moments_runner.proofs.play.list_marks.Statement.{statement}

@@ -1,0 +1,4 @@
+pub mod Sorting
+pub mod Encoding
+pub mod Noting
+pub mod Ruling

@@ -1,0 +1,28 @@
+use borrow.Author.Needs.{needs}
+use native.Mathlib.Omega.{arith}
+use Rattle.moments_notes.proofs.Ruling.{changes-yes, changes-no, changes-value}
+use Rattle.moments_words.proofs.changes.Statement.{statement}
+use Rattle.moments_words.proofs.changes.Tie as tie
+use Rattle.moments_words.proofs.changes.Reads as reads
+use Rattle.moments_words.proofs.changes.Lts as lts
+
+enum-told : tie.Need-enum-told
+enum-told c = search needs
+
+enum-told-2 : tie.Need-enum-told-2
+enum-told-2 c = search needs
+
+enum-told-3 : tie.Need-enum-told-3
+enum-told-3 c = search needs
+
+returns : tie.Need-returns
+returns c = rw (c .before .before .enum-told .given .1) (changes-yes (c .before .before .before .before .args .r))
+
+returns-2 : tie.Need-returns-2
+returns-2 c = rw (c .enum-told2 .given .1) (changes-no (c .before .before .args .r))
+
+returns-3 : tie.Need-returns-3
+returns-3 c = rw (c .enum-told3 .given .1) (changes-value (c .before .before .args .r) _)
+
+pub changes-spec : {M : Type 1} → statement M
+changes-spec = tie.close (tie.spec enum-told enum-told-2 enum-told-3 returns returns-2 returns-3)

@@ -1,0 +1,27 @@
+use borrow.Author.Needs.{needs}
+use native.Mathlib.Omega.{arith}
+use mathlib.Core.Path.{ap, _∙_}
+use Prim.Native.Nat.{ℕ}
+use lib.ListN.{take}
+use Rattle.moments_notes.specs.Words.{insertWord}
+use Rattle.moments_words.proofs.enter.Statement.{statement}
+use Rattle.moments_words.proofs.enter.Tie as tie
+use Rattle.moments_words.proofs.enter.Reads as reads
+use Rattle.moments_words.proofs.enter.Lts as lts
+use Rattle.moments_words.proofs.insert.Reads as insert-reads
+use Rattle.moments_words.proofs.word_of.Reads as word-of-reads
+
+word-of-requires : tie.Need-word-of-requires
+word-of-requires c κs = search needs
+
+insert-requires : tie.Need-insert-requires
+insert-requires c κs = search needs
+
+same-length : tie.Need-same-length
+same-length c = search needs
+
+returns : tie.Need-returns
+returns c = let w = c .before .before .before .before .word-of .ensures in (c .before .before .insert .ensures ∙ ap (λ (v : ℕ). insertWord v (take (c .before .before .before .before .before .before .args .n) (c .before .before .before .before .before .before .args .list .now))) (w .0), w .1)
+
+pub enter-spec : {M : Type 1} → statement M
+enter-spec = tie.close (tie.spec word-of-requires insert-requires same-length returns)

@@ -1,0 +1,93 @@
+use borrow.Author.Needs.{needs}
+use native.Mathlib.Omega.{arith}
+use borrow.Author.Tests.{eq-eqb, ne-eqb, le-ltb, lt-ltb}
+use Prim.Native.Nat.{_≤_}
+use mathlib.Core.Path.{_≡_}
+use lib.ListN.{length, take}
+use lib.Seq.{length-take-le}
+use Rattle.moments_notes.proofs.Sorting.{Opened, opened, goes-behind, goes-down, goes-first}
+use Rattle.moments_words.proofs.insert.Statement.{statement}
+use Rattle.moments_words.proofs.insert.Tie as tie
+use Rattle.moments_words.proofs.insert.Reads as reads
+use Rattle.moments_words.proofs.insert.Lts as lts
+
+abbrev Inv-loop : tie.InvT-loop
+Inv-loop list₀ n w j₀ list j = Opened (take n list₀) w list j × (length list ≡ length list₀) × (j ≤ n)
+
+abbrev μ-loop : tie.MeasureT-loop
+μ-loop list₀ n w j₀ list j = j
+
+loop-holds : tie.Need-loop-holds Inv-loop μ-loop
+loop-holds c = (opened _ _ _ (c .pre .0), search needs, search needs)
+
+sub-y : tie.Need-sub-y Inv-loop μ-loop
+sub-y c = search needs
+
+mul-y : tie.Need-mul-y Inv-loop μ-loop
+mul-y c = search needs
+
+slice-read-y : tie.Need-slice-read-y Inv-loop μ-loop
+slice-read-y c = search needs
+
+mul-list : tie.Need-mul-list Inv-loop μ-loop
+mul-list c = search needs
+
+slice-write-list : tie.Need-slice-write-list Inv-loop μ-loop
+slice-write-list c = search needs
+
+same-length : tie.Need-same-length Inv-loop μ-loop
+same-length c = search needs
+
+returns : tie.Need-returns Inv-loop μ-loop
+returns c = rw ((length-take-le (c .before .before .before .before .args .n) (c .before .before .before .before .args .list .now) (omega (arith, c .before .before .before .before .pre .0)))) at (goes-behind (c .before .before .before .loop .inv .0) (c .before .before .loop-test .taken) (c .before .before .before .before .pre .1) (c .if1 .taken))
+
+mul-list-2 : tie.Need-mul-list-2 Inv-loop μ-loop
+mul-list-2 c = search needs
+
+slice-write-list-2 : tie.Need-slice-write-list-2 Inv-loop μ-loop
+slice-write-list-2 c = search needs
+
+sub-j : tie.Need-sub-j Inv-loop μ-loop
+sub-j c = search needs
+
+loop-less : tie.Need-loop-less Inv-loop μ-loop
+loop-less c = search needs
+
+loop-again : tie.Need-loop-again Inv-loop μ-loop
+loop-again c = (goes-down (c .before .before .before .loop .inv .0) (c .before .before .loop-test .taken) (c .if1 .left), search needs, search needs)
+
+mul-list-3 : tie.Need-mul-list-3 Inv-loop μ-loop
+mul-list-3 c = search needs
+
+slice-write-list-3 : tie.Need-slice-write-list-3 Inv-loop μ-loop
+slice-write-list-3 c = search needs
+
+same-length-2 : tie.Need-same-length-2 Inv-loop μ-loop
+same-length-2 c = search needs
+
+returns-2 : tie.Need-returns-2 Inv-loop μ-loop
+returns-2 c = rw ((length-take-le (c .before .before .args .n) (c .before .before .args .list .now) (omega (arith, c .before .before .pre .0)))) at (goes-first (c .before .loop .inv .0) (c .loop-test .left))
+
+pub insert-spec : {M : Type 1} → statement M
+insert-spec =
+    tie.close
+    (tie.spec
+    Inv-loop
+    μ-loop
+    loop-holds
+    sub-y
+    mul-y
+    slice-read-y
+    mul-list
+    slice-write-list
+    same-length
+    returns
+    mul-list-2
+    slice-write-list-2
+    sub-j
+    loop-less
+    loop-again
+    mul-list-3
+    slice-write-list-3
+    same-length-2
+    returns-2)
