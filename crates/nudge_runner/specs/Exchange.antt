@@ -21,8 +21,8 @@ use Rattle.nudge_runner.specs.Calls.{calls, answerOfCall}
 use Rattle.nudge_runner.specs.declared.calls.Frame.{Frame}
 use Rattle.nudge_runner.specs.declared.touching.Touch.{Touch}
 use Rattle.nudge_runner.specs.declared.touching.Touch.the-variants as touch
-use Rattle.nudge_runner.specs.declared.exchange.Nudge.{Nudge}
-use Rattle.nudge_runner.specs.declared.exchange.Nudge.the-variants as nudge
+use Rattle.nudge_runner.specs.declared.calls.Nudge.{Nudge}
+use Rattle.nudge_runner.specs.declared.calls.Nudge.the-variants as nudge
 
 abbrev pub stateWith : Frame → (records : List ℕ) → State
 stateWith s w = stateOf (s .tasks) (s .cells) (s .blocks) (s .last) (s .current) w (s .counts)

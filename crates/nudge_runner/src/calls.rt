@@ -66,6 +66,12 @@ pub enum Sought {
     Found(Call),
 }
 
+// The first exchange that changes the answer.
+pub enum Nudge {
+    Nowhere,
+    At(usize),
+}
+
 fn begun_by(a: Action, begun: usize, i: usize) -> usize
     ensures { λ r. ⌜ r ≡ begunBy (actOf a) begun i ⌝ }
 {

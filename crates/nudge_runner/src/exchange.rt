@@ -2,6 +2,7 @@
 use crate::calls::Call;
 use crate::calls::Frame;
 use crate::calls::Noted;
+use crate::calls::Nudge;
 use crate::calls::begun_after;
 use crate::calls::note;
 use crate::touching::collide;
@@ -22,11 +23,6 @@ ghost use Rattle.session_reader.specs.Kept.{Named};
 ghost use Rattle.session_reader.specs.Reading.{actAt};
 ghost use Rattle.nudge_runner.specs.Calls.{calls, answerOfCall, Finishes, summaryOf};
 ghost use Rattle.nudge_runner.specs.Exchange.{stateWith, Fresh, tried, nudgeOf};
-
-pub enum Nudge {
-    Nowhere,
-    At(usize),
-}
 
 // The words, at the start of a buffer of their own.
 pub fn copied(from: &[u32]) -> [u32; 640]

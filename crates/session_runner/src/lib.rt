@@ -1,13 +1,12 @@
 // Runs a session file and prints its lines.
-mod play;
-mod printing;
-
 use buffers::action_space;
 use buffers::form_space;
 use buffers::pool_space;
 use buffers::record_space;
 use buffers::value_space;
 use questions::State;
+use session_play::play;
+use session_play::printing;
 use session_start::Opening;
 use session_start::open_session;
 use text::numbered::put_bad;
@@ -19,7 +18,7 @@ ghost use Rattle.io.specs.Counts.{Counts};
 ghost use Rattle.text.specs.Append.{Appended};
 ghost use Rattle.session_start.specs.Start.{startAt, Ready};
 ghost use Rattle.session_text.specs.Printed.{printedWithin};
-ghost use Rattle.session_runner.specs.Loop.{startText};
+ghost use Rattle.session_play.specs.Loop.{startText};
 
 // What follows from the opening, on records of its own. What is left in the pool is open: it is the session's own.
 fn print(

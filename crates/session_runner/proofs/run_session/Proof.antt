@@ -1,6 +1,6 @@
 use native.Mathlib.Omega.{arith}
 use borrow.Author.Needs.{needs}
-use Rattle.session_runner.proofs.Playing.{none-printed, all-printed}
+use Rattle.session_play.proofs.Playing.{none-printed, all-printed}
 use Rattle.session_runner.proofs.run_session.Statement.{statement}
 use Rattle.session_runner.proofs.run_session.Tie as tie
 

@@ -1,0 +1,3 @@
+// A session's actions in their order, and the lines that are printed of them.
+pub mod play;
+pub mod printing;
