@@ -1,17 +1,15 @@
 // Prints the bus times of a session file.
-mod calls;
 mod play;
 mod printing;
-mod times;
 
-use crate::times::Kinds;
-use crate::times::Ranges;
-use crate::times::refusal;
 use buffers::action_space;
 use buffers::form_space;
 use buffers::pool_space;
 use buffers::record_space;
 use buffers::value_space;
+use bus_calls::times::Kinds;
+use bus_calls::times::Ranges;
+use bus_calls::times::refusal;
 use questions::State;
 use session_start::Opening;
 use session_start::open_session;
@@ -28,7 +26,7 @@ ghost use Rattle.session_reader.specs.Reading.{actAt};
 ghost use Rattle.session_reader.specs.Kept.{Named};
 ghost use Rattle.session_start.specs.Start.{toolStart, startAt, Ready};
 ghost use Rattle.bus_text.specs.Bus.{times as «timesFrom», busText, busWithin};
-ghost use Rattle.bus_runner.specs.Structs.{timesOf};
+ghost use Rattle.bus_calls.specs.Structs.{timesOf};
 
 // 21 and 22, then the actions. What is left in the pool is open: it is the session's own.
 fn start(

@@ -1,10 +1,10 @@
 // The actions in their order, each finished call with its line, and the line of the sums after the last.
-use crate::calls::Totals;
-use crate::calls::add_call;
-use crate::calls::no_calls;
-use crate::calls::timed;
 use crate::printing;
-use crate::times::Ranges;
+use bus_calls::calls::Totals;
+use bus_calls::calls::add_call;
+use bus_calls::calls::no_calls;
+use bus_calls::calls::timed;
+use bus_calls::times::Ranges;
 use cells::Outcome;
 use lines::Finished;
 use machine::actions;
@@ -23,7 +23,7 @@ ghost use Rattle.session_reader.specs.Reading.{actAt};
 ghost use Rattle.session_reader.specs.Kept.{Named};
 ghost use Rattle.cells.specs.Answers.{said, Ended};
 ghost use Rattle.bus_text.specs.Bus.{short, busCalls, callsText};
-ghost use Rattle.bus_runner.specs.Structs.{timesOf, sumsIn};
+ghost use Rattle.bus_calls.specs.Structs.{timesOf, sumsIn};
 ghost use Rattle.bus_runner.specs.Loop.{Ends, addedText, addedSums, addedCounts};
 
 // The place after the text, and the totals.

@@ -4,10 +4,10 @@ ghost use Prim.Native.Nat.{_+_, _≤_, _<_};
 ghost use lib.ListN.{length};
 ghost use Rattle.text.specs.Append.{Appended};
 ghost use Rattle.bus_text.specs.Bus.{up as «upOf», callLine, allLine};
-ghost use Rattle.bus_runner.specs.Structs.{callOf, longestOf, sumsIn, sumsLine};
-use crate::calls::CallTime;
-use crate::calls::Longest;
-use crate::calls::Totals;
+ghost use Rattle.bus_calls.specs.Structs.{callOf, longestOf, sumsIn, sumsLine};
+use bus_calls::calls::CallTime;
+use bus_calls::calls::Longest;
+use bus_calls::calls::Totals;
 use text::numbered::put_line;
 use text::numbered::wide;
 

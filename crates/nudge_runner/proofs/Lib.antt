@@ -1,4 +1,1 @@
-pub mod Following
-pub mod Exchanging
-pub mod Steps
 pub mod Naming

@@ -20,11 +20,11 @@ use Rattle.session_start.specs.Start.{New}
 use Rattle.text.specs.Lines.{badLine}
 use Rattle.nudge_text.specs.Nudge.{after, namedCall, nudges, earliest, nudge, nudgeLine, asked18, asked19}
 use Rattle.nudge_text.proofs.Nudge.{named-is-finished}
-use Rattle.nudge_runner.specs.Calls.{Summary, summary, calls, Finishes}
-use Rattle.nudge_runner.specs.Exchange.{Fresh}
-use Rattle.nudge_runner.proofs.Following.{Between, named-none, named-some}
-use Rattle.nudge_runner.proofs.Exchanging.{whoOf, between}
-use Rattle.nudge_runner.proofs.Steps.{before-start, reached-before}
+use Rattle.nudge_calls.specs.Calls.{Summary, summary, calls, Finishes}
+use Rattle.nudge_calls.specs.Exchange.{Fresh}
+use Rattle.nudge_calls.proofs.Following.{Between, named-none, named-some}
+use Rattle.nudge_calls.proofs.Exchanging.{whoOf, between}
+use Rattle.nudge_calls.proofs.Steps.{before-start, reached-before}
 
 module _ {s : State} {p : List ℕ} (F : Fresh s p) (l : List Action) (t n : ℕ) where
   known : Between (whoOf l) (s .cells) noCalls (history pool (s, p) l)

@@ -1,19 +1,15 @@
 // Finds the smallest nudge of a call of a session, and prints it.
-mod calls;
-mod exchange;
-mod touching;
-
 use buffers::action_space;
 use buffers::form_space;
 use buffers::pool_space;
 use buffers::record_space;
 use buffers::value_space;
-use calls::Sought;
-use calls::find_call;
-use calls::frame_of;
-use exchange::Nudge;
-use exchange::copied;
-use exchange::first_nudge;
+use nudge_calls::calls::Nudge;
+use nudge_calls::calls::Sought;
+use nudge_calls::calls::find_call;
+use nudge_calls::calls::frame_of;
+use nudge_exchange::copied;
+use nudge_exchange::first_nudge;
 use questions::State;
 use session_start::Opening;
 use session_start::open_session;
@@ -33,7 +29,7 @@ ghost use Rattle.session_reader.specs.Reading.{actAt};
 ghost use Rattle.session_start.specs.Start.{startAt, toolStart, Ready};
 ghost use Rattle.session_text.specs.Tools.{toolWithin};
 ghost use Rattle.text.specs.Append.{Appended};
-ghost use Rattle.nudge_runner.specs.Exchange.{Fresh, nudgeOf};
+ghost use Rattle.nudge_calls.specs.Exchange.{Fresh, nudgeOf};
 
 fn put_nudge(out: &mut [u8], found: Nudge) -> usize
     requires { ⌜ 67 ≤ length (now out) ⌝ }

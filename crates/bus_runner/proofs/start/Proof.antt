@@ -1,7 +1,7 @@
 use mathlib.Core.List.{map}
 use Rattle.session_reader.specs.Reading.{actAt}
-use Rattle.bus_runner.specs.Structs.{timesOf}
-use Rattle.bus_runner.proofs.Laws.{text-as, are-short, text-of-calls, text-of-refusal}
+use Rattle.bus_calls.specs.Structs.{timesOf}
+use Rattle.bus_calls.proofs.Laws.{text-as, are-short, text-of-calls, text-of-refusal}
 use borrow.Author.Needs.{needs}
 use Rattle.bus_runner.proofs.start.Statement.{statement}
 use Rattle.bus_runner.proofs.start.Tie as tie

@@ -14,9 +14,9 @@ use Rattle.lines.specs.Answers.{answerOf}
 use Rattle.machine.proofs.Placing.{idle-places, places-length}
 use Rattle.session_reader.specs.Reading.{actAt}
 use Rattle.nudge_text.specs.Nudge.{after, nudges, earliest, nudgeLine}
-use Rattle.nudge_runner.specs.Calls.{calls, summaryOf, soughtOf}
+use Rattle.nudge_calls.specs.Calls.{calls, summaryOf, soughtOf}
 use Rattle.nudge_runner.proofs.Naming.{sought-none, sought-finishes, sought-nudge, fresh-as, fresh-reached}
-use Rattle.nudge_runner.proofs.Steps.{reached-words}
+use Rattle.nudge_calls.proofs.Steps.{reached-words}
 use Rattle.nudge_runner.proofs.answer.Statement.{statement}
 use Rattle.nudge_runner.proofs.answer.Tie as tie
 

@@ -3,8 +3,8 @@ use Rattle.bus_text.specs.Bus.{Timed, addCall, callLine}
 use lib.ListN.{getD}
 use Rattle.lines.specs.Answers.{result}
 use Rattle.cells.specs.Events.{reportOf}
-use Rattle.bus_runner.specs.Structs.{timesOf, sumsIn}
-use Rattle.bus_runner.proofs.Laws.{call-known, text-as}
+use Rattle.bus_calls.specs.Structs.{timesOf, sumsIn}
+use Rattle.bus_calls.proofs.Laws.{call-known, text-as}
 use borrow.Author.Needs.{needs}
 use native.Mathlib.Omega.{arith}
 use Rattle.bus_runner.proofs.play.end_call.Statement.{statement}

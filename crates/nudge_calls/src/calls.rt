@@ -1,0 +1,166 @@
+// The calls of one task, followed through the actions.
+use cells::Outcome;
+use lines::Answer;
+use machine::actions::Action;
+use machine::actions::action_at;
+use machine::actions::task_of;
+use machine::advance::advance;
+use questions::State;
+ghost use mathlib.Core.Path.{_≡_};
+ghost use mathlib.Core.List.{List, map};
+ghost use Prim.Native.Nat.{ℕ, _≤_};
+ghost use lib.ListN.{length};
+ghost use Rattle.cells.specs.Answers.{said};
+ghost use Rattle.cells.specs.Events.{eventOf};
+ghost use Rattle.cells.specs.Machine.{pool as «machine»};
+ghost use Rattle.history.specs.History.{untried, history};
+ghost use Rattle.machine.specs.Actions.{actOf};
+ghost use Rattle.pool.specs.Words.{recordsOf};
+ghost use Rattle.nudge_text.specs.Nudge.{after};
+ghost use Rattle.refinement.specs.Reached.{Reached};
+ghost use Rattle.session_reader.specs.Kept.{Named};
+ghost use Rattle.session_reader.specs.Reading.{actAt};
+ghost use Rattle.nudge_calls.specs.Calls.{noteOf, begunBy, begunAfter, calls, noted as «notedOf», soughtOf};
+ghost use Rattle.nudge_calls.specs.Exchange.{stateWith};
+
+// The state but for the records, which stand as words.
+pub struct Frame {
+    pub tasks: u32,
+    pub cells: u32,
+    pub blocks: u32,
+    pub last: u32,
+    pub current: [u32; 16],
+    pub counts: [u8; 128],
+}
+
+pub fn frame_of(s: State) -> Frame
+    ensures { λ r. ⌜ ((w : List ℕ) → recordsOf 32 w ≡ s .records → stateWith r w ≡ s) ⌝ }
+{
+    let current = s.current;
+    let counts = s.counts;
+    Frame {
+        tasks: s.tasks,
+        cells: s.cells,
+        blocks: s.blocks,
+        last: s.last,
+        current,
+        counts,
+    }
+}
+
+// After an action: where the task's call was begun, or what the call that it ended answers.
+pub enum Noted {
+    Pending(usize),
+    Ended(Answer),
+}
+
+// The numbers of its begin and of its last step, and its answer.
+pub struct Call {
+    pub begun: usize,
+    pub last: usize,
+    pub answer: Answer,
+}
+
+pub enum Sought {
+    Nowhere,
+    Found(Call),
+}
+
+// The first exchange that changes the answer.
+pub enum Nudge {
+    Nowhere,
+    At(usize),
+}
+
+fn begun_by(a: Action, begun: usize, i: usize) -> usize
+    ensures { λ r. ⌜ r ≡ begunBy (actOf a) begun i ⌝ }
+{
+    match a {
+        Action::Read(_, _) => i,
+        Action::Swap(_, _, _, _) => i,
+        Action::Step(_) => begun,
+    }
+}
+
+pub fn note(task: u32, a: Action, outcome: Outcome, begun: usize, i: usize) -> Noted
+    ensures { λ r. ⌜ «notedOf» r ≡ noteOf task begun i (actOf a) (eventOf untried (said outcome)) ⌝ }
+{
+    if task_of(a) != task {
+        return Noted::Pending(begun);
+    }
+    match outcome {
+        Outcome::Refused(_) => Noted::Pending(begun),
+        Outcome::Acted => Noted::Pending(begun_by(a, begun, i)),
+        Outcome::Ended(f) => {
+            let answer = f.answer;
+            Noted::Ended(answer)
+        }
+    }
+}
+
+pub fn begun_after(noted: Noted, begun: usize) -> usize
+    ensures { λ r. ⌜ r ≡ begunAfter («notedOf» noted) begun ⌝ }
+{
+    match noted {
+        Noted::Pending(k) => k,
+        Noted::Ended(_) => begun,
+    }
+}
+
+// The task's call with n finished before it. What is left of pool and records is open.
+pub fn find_call(
+    pool: &mut [u32],
+    records: &mut [u32],
+    s: Frame,
+    forms: &[u32],
+    kept: &[u32],
+    task: u32,
+    n: u32,
+) -> Sought
+    requires { ⌜ Reached (s .tasks) (s .cells) (stateWith s (now records)) (now pool) ⌝ }
+    requires { ⌜ (length (now records) ≡ 384) × (length (now kept) ≤ 2000) ⌝ }
+    requires { ⌜ Named (length (now forms)) (now kept) ⌝ }
+    ensures { λ r. ⌜ soughtOf r ≡ after n (calls task 0 0 (history «machine» (stateWith s (now (records .entry)), now (pool .entry)) (map (actAt (now (forms .entry))) (now (kept .entry))))) ⌝ }
+{
+    let mut i = 0;
+    let mut left = n;
+    let mut begun = 0;
+    let mut last = s.last;
+    let mut current = s.current;
+    let mut counts = s.counts;
+    while i < kept.len() {
+        let a = action_at(forms, kept[i]);
+        let done = advance(
+            pool,
+            records,
+            &mut current,
+            &mut counts,
+            s.tasks,
+            s.cells,
+            s.blocks,
+            last,
+            a,
+        );
+        last = done.last;
+        let outcome = done.outcome;
+        let noted = note(task, a, outcome, begun, i);
+        match noted {
+            Noted::Pending(k) => {
+                begun = k;
+            }
+            Noted::Ended(answer) => {
+                if left == 0 {
+                    let call = Call {
+                        begun,
+                        last: i,
+                        answer,
+                    };
+                    return Sought::Found(call);
+                }
+                left -= 1;
+            }
+        }
+        i += 1;
+    }
+    Sought::Nowhere
+}

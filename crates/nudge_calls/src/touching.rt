@@ -1,0 +1,67 @@
+// Whether two actions touch the same cell.
+use machine::actions::Action;
+use machine::actions::task_of;
+use pool::words::record_of;
+ghost use mathlib.Core.Path.{_≡_};
+ghost use Prim.Native.Nat.{_≤_};
+ghost use lib.ListN.{length};
+ghost use Rattle.history.specs.History.{step};
+ghost use Rattle.lines.specs.Record.{recordAt};
+ghost use Rattle.machine.specs.Actions.{actOf};
+ghost use Rattle.pool.specs.Words.{recordsOf};
+ghost use Rattle.nudge_calls.specs.Exchange.{touchedBy, sameCell, collides as «collidesOf», touched as «touchedOf»};
+
+pub enum Touch {
+    Nothing,
+    Cell(u32),
+}
+
+fn cell_of_step(records: &[u32], tasks: u32, task: u32) -> Touch
+    requires { ⌜ (length (now records) ≡ 384) × (tasks ≤ 32) ⌝ }
+    ensures { λ r. ⌜ «touchedOf» r ≡ touchedBy tasks (recordAt (recordsOf 32 (now (records .entry)))) (step task) ⌝ }
+{
+    if tasks <= task {
+        return Touch::Nothing;
+    }
+    let from = 12 * task as usize;
+    let to = from + 12;
+    let r = record_of(&records[from..to]);
+    if r.line == 0 {
+        return Touch::Nothing;
+    }
+    Touch::Cell(r.cell)
+}
+
+// A begin touches no cell, nor does a step that is refused.
+fn cell_of(records: &[u32], tasks: u32, a: Action) -> Touch
+    requires { ⌜ (length (now records) ≡ 384) × (tasks ≤ 32) ⌝ }
+    ensures { λ r. ⌜ «touchedOf» r ≡ touchedBy tasks (recordAt (recordsOf 32 (now (records .entry)))) (actOf a) ⌝ }
+{
+    match a {
+        Action::Read(_, _) => Touch::Nothing,
+        Action::Swap(_, _, _, _) => Touch::Nothing,
+        Action::Step(task) => cell_of_step(records, tasks, task),
+    }
+}
+
+fn same(x: Touch, y: Touch) -> bool
+    ensures { λ r. ⌜ r ≡ sameCell («touchedOf» x) («touchedOf» y) ⌝ }
+{
+    let Touch::Cell(j) = x else {
+        return false;
+    };
+    let Touch::Cell(k) = y else {
+        return false;
+    };
+    j == k
+}
+
+pub fn collide(records: &[u32], tasks: u32, a: Action, b: Action) -> bool
+    requires { ⌜ (length (now records) ≡ 384) × (tasks ≤ 32) ⌝ }
+    ensures { λ r. ⌜ r ≡ «collidesOf» tasks (recordAt (recordsOf 32 (now (records .entry)))) (actOf a) (actOf b) ⌝ }
+{
+    if task_of(a) == task_of(b) {
+        return false;
+    }
+    same(cell_of(records, tasks, a), cell_of(records, tasks, b))
+}
