@@ -15,7 +15,6 @@ use lines::Finished;
 use lines::Record;
 use lines::records::idle;
 use pool::Next;
-use pool::run::run;
 use pool::words::CELL;
 use pool::words::KIND;
 use pool::words::LINE;
@@ -23,6 +22,7 @@ use pool::words::STEPS;
 use pool::words::put;
 use pool::words::record_of;
 use pool::words::words_of;
+use runs::run;
 
 // What a turn leaves besides the pool; `current` is the block that the task's cell then names.
 pub struct Turn {

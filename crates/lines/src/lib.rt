@@ -1,5 +1,5 @@
 // The lines of figure 2 without its memory: a task's record, what its next line accesses, and what follows. What they do is
-// defined in specs/; the figure with a new block each time runs these definitions, and the code of pool::run does what they say.
+// defined in specs/; the figure with a new block each time runs these definitions, and the code of runs::run does what they say.
 pub mod paths;
 pub mod records;
 

@@ -1,6 +1,6 @@
-// The lent pool of words, and figure 2's lines run on it. A task's record stands in its place as twelve words.
+// The lent pool of words, and what follows a line of figure 2 run on it. A task's record stands in its place as twelve words.
+pub mod after;
 pub mod memory;
-pub mod run;
 pub mod words;
 
 use lines::Answer;

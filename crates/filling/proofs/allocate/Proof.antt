@@ -1,0 +1,21 @@
+use borrow.Author.Needs.{needs}
+use Rattle.blocks.specs.Blocks.{foundOf}
+use Rattle.pool.specs.Memory.{touched}
+use Rattle.pool.proofs.LineRuns.{by-taking}
+use Rattle.filling.proofs.allocate.Statement.{statement}
+use Rattle.filling.proofs.allocate.Tie as tie
+
+pub allocate-spec : {M : Type 1} → statement M
+allocate-spec =
+    tie.close
+    (tie.spec
+    (λ c. search needs)
+    (λ c κs. rw (c .before .before .free .given .1) at (c .before .before .before .before .before .pre))
+    (λ c κs. search needs)
+    (λ c κs. search needs)
+    (λ c. search needs)
+    (λ c κs. search needs)
+    (λ c κs. search needs)
+    (λ c. search needs)
+    (λ c. rw (c .leave .ensures) (c .before .take .ensures .0, λ w t e g. by-taking (c .before .before .before .before .before .before .before .before .before .before .args .pool .now) t w (c .before .before .before .before .before .before .before .before .before .before .args .current) (c .before .before .before .before .before .before .before .before .before .before .args .last) (foundOf (c .before .before .before .before .before .before .before .before .before .before .args .free)) (touched _ _ _ _) e g (rw (c .before .before .before .before .before .before .before .free .given .1, c .before .before .before .before .store .ensures)) (c .before .take .ensures .1 w e)))
+    (λ c. rw (c .leave2 .ensures) (c .before .take2 .ensures .0, λ w t e g. by-taking (c .before .before .before .before .before .args .pool .now) t w (c .before .before .before .before .before .args .current) (c .before .before .before .before .before .args .last) (foundOf (c .before .before .before .before .before .args .free)) (touched _ _ _ _) e g (rw (c .before .before .enum-told .given .1)) (c .before .take2 .ensures .1 w e))))

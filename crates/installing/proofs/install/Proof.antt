@@ -1,0 +1,28 @@
+use borrow.Author.Needs.{needs}
+use mathlib.Core.Path.{_≡_, refl}
+use borrow.Author.Tests.{eq-eqb, ne-eqb}
+use Rattle.lines.specs.declared.Answer.the-variants as code
+use Rattle.lines.specs.declared.Access.the-variants.{InstallCas}
+use Rattle.lines.specs.Lines.{l30}
+use Rattle.lines.proofs.Ranges.{line-at}
+use Rattle.pool.specs.Words.{recordOf}
+use Rattle.pool.specs.Memory.{touched}
+use Rattle.pool.proofs.Twelve.{ends-won, ends-lost}
+use Rattle.pool.proofs.LineRuns.{by-access}
+use Rattle.installing.proofs.install.Statement.{statement}
+use Rattle.installing.proofs.install.Tie as tie
+
+pub install-spec : {M : Type 1} → statement M
+install-spec =
+    tie.close
+    (tie.spec
+    (λ c. search needs)
+    (λ c. search needs)
+    (λ c. search needs)
+    (λ c. search needs)
+    (λ c. search needs)
+    (λ c κs. search needs)
+    (λ c. search needs)
+    (λ c κs. search needs)
+    (λ c. let w = c .before .before .before .before .before .before .before .args .rec .now in let r = recordOf w in rw (c .leave .ensures) (tt, λ p t f. by-access p t r (c .before .before .before .before .before .before .before .args .current) (c .before .before .before .before .before .before .before .args .last) f l30 (line-at r 30 (c .before .before .before .before .before .before .before .pre .2)) (InstallCas (r .cell) (r .held) (r .taken)) (touched p (r .taken) (c .before .before .before .before .before .before .before .args .last) 1) refl (rw (eq-eqb _ _ (c .before .before .if1 .taken))) (ends-won code.Yes w)))
+    (λ c. let w = c .before .before .before .before .before .before .args .rec .now in let r = recordOf w in rw (c .leave2 .ensures) (tt, λ p t f. by-access p t r (c .before .before .before .before .before .before .args .current) (c .before .before .before .before .before .before .args .last) f l30 (line-at r 30 (c .before .before .before .before .before .before .pre .2)) (InstallCas (r .cell) (r .held) (r .taken)) (touched p (c .before .before .before .before .before .before .args .current) (c .before .before .before .before .before .before .args .last) 0) refl (rw (ne-eqb _ _ (c .before .if1 .left))) (ends-lost code.No w))))

@@ -1,0 +1,12 @@
+use borrow.Author.Needs.{needs}
+use Rattle.pool.proofs.Twelve.{ends}
+use Rattle.pool.proofs.after.answer.Statement.{statement}
+use Rattle.pool.proofs.after.answer.Tie as tie
+
+pub answer-spec : {M : Type 1} → statement M
+answer-spec =
+    tie.close
+    (tie.spec
+    (λ c. search needs)
+    (λ c. search needs)
+    (λ c. (tt, ends (c .before .before .args .a) (c .before .before .args .rec .now))))

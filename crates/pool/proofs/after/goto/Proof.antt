@@ -1,0 +1,11 @@
+use borrow.Author.Needs.{needs}
+use lib.Dec.{lit<}
+use Rattle.pool.proofs.Twelve.{goes}
+use Rattle.pool.proofs.after.goto.Statement.{statement}
+use Rattle.pool.proofs.after.goto.Tie as tie
+
+pub goto-spec : {M : Type 1} → statement M
+goto-spec =
+    tie.close
+    (tie.spec
+    (λ c. (lit< tt, goes (c .args .line))))

@@ -1,0 +1,11 @@
+use borrow.Author.Needs.{needs}
+use lib.Dec.{lit<}
+use Rattle.pool.proofs.Twelve.{loads}
+use Rattle.pool.proofs.after.keep.Statement.{statement}
+use Rattle.pool.proofs.after.keep.Tie as tie
+
+pub keep-spec : {M : Type 1} → statement M
+keep-spec =
+    tie.close
+    (tie.spec
+    (λ c. (lit< tt, loads (c .args .line) (c .args .v))))

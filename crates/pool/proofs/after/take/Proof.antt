@@ -1,0 +1,11 @@
+use borrow.Author.Needs.{needs}
+use lib.Dec.{lit<}
+use Rattle.pool.proofs.Twelve.{takes}
+use Rattle.pool.proofs.after.take.Statement.{statement}
+use Rattle.pool.proofs.after.take.Tie as tie
+
+pub take-spec : {M : Type 1} → statement M
+take-spec =
+    tie.close
+    (tie.spec
+    (λ c. (lit< tt, takes (c .args .line) (c .args .block))))
