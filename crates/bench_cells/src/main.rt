@@ -84,7 +84,7 @@ fn begin(s: State, pool: &mut [u32], task: u32, start: u32, t: Totals) -> Round 
     let second = next_seed(first);
     let cell = second / 65536 % 16;
     if first / 65536 % 2 == 0 {
-        let reply = cells::begin_read(s, pool, task, cell);
+        let reply = entries::begin_read(s, pool, task, cell);
         let outcome = reply.outcome;
         let state = reply.state;
         return Round {
@@ -95,7 +95,7 @@ fn begin(s: State, pool: &mut [u32], task: u32, start: u32, t: Totals) -> Round 
     }
     let third = next_seed(second);
     let fourth = next_seed(third);
-    let reply = cells::begin_swap(s, pool, task, cell, third / 65536 % 4, fourth / 65536 % 4);
+    let reply = entries::begin_swap(s, pool, task, cell, third / 65536 % 4, fourth / 65536 % 4);
     let outcome = reply.outcome;
     let state = reply.state;
     Round {
@@ -114,7 +114,7 @@ fn turn(s: State, pool: &mut [u32], start: u32, t: Totals) -> Round {
     if r.line == 0 {
         return begin(s, pool, task, seed, t);
     }
-    let reply = cells::step(s, pool, task);
+    let reply = entries::step(s, pool, task);
     let outcome = reply.outcome;
     let state = reply.state;
     Round {
@@ -136,7 +136,7 @@ fn run(pool: &mut [u32], first: Round) -> Totals {
 
 fn main() {
     let mut pool = [0u32; 400];
-    let opened = cells::open(blank(), &mut pool, 32, 16, 80, &[0; 16]);
+    let opened = entries::open(blank(), &mut pool, 32, 16, 80, &[0; 16]);
     let state = opened.state;
     let none = Totals {
         finished: 0,

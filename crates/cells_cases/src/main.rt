@@ -101,12 +101,12 @@ fn print_reply(before: u32, r: Reply, pool: &[u32]) {
 
 fn try_entries(s: State, pool: &mut [u32], task: u32, cell: u32, expected: u32, new: u32) {
     let before = sum_of(s, pool);
-    let looked = cells::look(s, pool, cell);
-    let r = cells::begin_read(s, pool, task, cell);
+    let looked = entries::look(s, pool, cell);
+    let r = entries::begin_read(s, pool, task, cell);
     print_reply(before, r, pool);
-    let q = cells::begin_swap(s, pool, task, cell, expected, new);
+    let q = entries::begin_swap(s, pool, task, cell, expected, new);
     print_reply(before, q, pool);
-    let e = cells::step(s, pool, task);
+    let e = entries::step(s, pool, task);
     print_reply(before, e, pool);
     print_look(looked);
 }
@@ -197,7 +197,7 @@ fn try_case(c: [u32; 27], pool: &mut [u32], values: &[u32]) {
         try_entries(s, pool, c[19], c[20], c[21], c[22]);
     } else {
         let before = sum_of(s, pool);
-        let r = cells::open(s, pool, s.tasks, s.cells, s.blocks, values);
+        let r = entries::open(s, pool, s.tasks, s.cells, s.blocks, values);
         print_reply(before, r, pool);
     }
 }

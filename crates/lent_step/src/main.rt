@@ -22,7 +22,7 @@ fn lend(s: State, pool: &mut [u32], task: u32, r: Record) -> Kept
     ensures { λ n. ⌜ lent (leaving (n .reply .state) (now (pool .exit)) (said (n .reply .outcome))) (n .record) ≡ steppedLent s (now (pool .entry)) task r ⌝ }
 {
     let mut rec = r;
-    let reply = cells::step_lent(s, pool, task, &mut rec);
+    let reply = entries::step_lent(s, pool, task, &mut rec);
     Kept { reply, record: rec }
 }
 
@@ -149,8 +149,8 @@ fn lack_a_block() {
 fn main() {
     let mut pool: [u32; 25] = [0; 25];
     let values: [u32; 1] = [5];
-    let opened = cells::open(unopened(), &mut pool, 2, 1, 5, &values);
-    let begun = cells::begin_swap(opened.state, &pool, 0, 0, 5, 7);
+    let opened = entries::open(unopened(), &mut pool, 2, 1, 5, &values);
+    let begun = entries::begin_swap(opened.state, &pool, 0, 0, 5, 7);
     let s = begun.state;
     let first = s.records[0];
     print(b"begun at line ", first.line);

@@ -34,15 +34,15 @@ fn act(s: State, pool: &mut [u32], a: Action) -> State
 {
     match a {
         Action::Read(t, k) => {
-            let r = cells::begin_read(s, pool, t, k);
+            let r = entries::begin_read(s, pool, t, k);
             r.state
         }
         Action::Swap(t, k, e, n) => {
-            let r = cells::begin_swap(s, pool, t, k, e, n);
+            let r = entries::begin_swap(s, pool, t, k, e, n);
             r.state
         }
         Action::Step(t) => {
-            let r = cells::step(s, pool, t);
+            let r = entries::step(s, pool, t);
             r.state
         }
     }

@@ -99,7 +99,7 @@ fn put_session(
     ensures { λ r. ⌜ Appended (now (out .entry)) (now (out .exit)) 0 r (sessionText seed tasks cells blocks count) ⌝ }
 {
     let at = put_opening(out, tasks, cells, blocks);
-    let first = cells::open(blank(), pool, tasks, cells, blocks, values);
+    let first = entries::open(blank(), pool, tasks, cells, blocks, values);
     let s = first.state;
     actions::put_actions(out, at, s, pool, seed, tasks, cells, count)
 }
