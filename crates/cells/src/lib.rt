@@ -54,7 +54,7 @@ pub fn open(
 ) -> Reply
     ensures { λ r. ⌜ leaving (r .state) (now (pool .exit)) (said (r .outcome)) ≡ opened s (now (pool .entry)) tasks cells blocks (now (values .entry)) ⌝ }
 {
-    let n = questions::open_refusal(pool.len(), tasks, cells, blocks, values);
+    let n = refusals::open_refusal(pool.len(), tasks, cells, blocks, values);
     if n != 0 {
         return Reply {
             state: s,
@@ -74,14 +74,14 @@ fn begin(mut s: State, pool: &[u32], task: u32, q: Record) -> Reply
     ensures { λ r. ⌜ leaving (r .state) (now (pool .entry)) (said (r .outcome)) ≡ begun s (now (pool .entry)) task q ⌝ }
 {
     let t = task as usize;
-    let fit = questions::is_fit(s, pool);
+    let fit = fitness::is_fit(s, pool);
     // Only a task of a fit state has a record to ask about.
     let r = if fit & (task < s.tasks) {
         s.records[t]
     } else {
         records::idle()
     };
-    let n = questions::begin_refusal(fit, s.tasks, s.cells, r, task, q);
+    let n = refusals::begin_refusal(fit, s.tasks, s.cells, r, task, q);
     if n != 0 {
         return Reply {
             state: s,
@@ -112,7 +112,7 @@ pub fn step(mut s: State, pool: &mut [u32], task: u32) -> Reply
     ensures { λ r. ⌜ leaving (r .state) (now (pool .exit)) (said (r .outcome)) ≡ stepped s (now (pool .entry)) task ⌝ }
 {
     let t = task as usize;
-    let fit = questions::is_fit(s, pool);
+    let fit = fitness::is_fit(s, pool);
     // Only a task of a fit state has a record to ask about.
     let r = if fit & (task < s.tasks) {
         s.records[t]
@@ -125,7 +125,7 @@ pub fn step(mut s: State, pool: &mut [u32], task: u32) -> Reply
     } else {
         Found::Nowhere
     };
-    let n = questions::step_refusal(fit, s.tasks, r, task, blocks::is_found(free));
+    let n = refusals::step_refusal(fit, s.tasks, r, task, blocks::is_found(free));
     if n != 0 {
         return Reply {
             state: s,
@@ -207,7 +207,7 @@ fn shown_value(pool: &[u32], block: u32) -> u32
 pub fn look(s: State, pool: &[u32], cell: u32) -> Looked
     ensures { λ r. ⌜ seen r ≡ looked s (now (pool .entry)) cell ⌝ }
 {
-    if !questions::is_fit(s, pool) {
+    if !fitness::is_fit(s, pool) {
         return Looked::NotShown(6);
     }
     if s.cells <= cell {

@@ -12,7 +12,7 @@ use lines::records::first_read;
 use lines::records::first_swap;
 use pool::words::put;
 use pool::words::record_of;
-use questions::begin_refusal;
+use refusals::begin_refusal;
 ghost use mathlib.Core.Path.{_≡_};
 ghost use mathlib.Core.Bool.{true, false};
 ghost use mathlib.Core.List.{List};

@@ -1,8 +1,8 @@
 // What is noted beside the cells at each step, of the block that a task holds.
+use counting::is_holding;
 use lines::Record;
 use lines::records::NO_VALUE;
 use machine::places::record_at;
-use questions::counts::is_holding;
 ghost use mathlib.Core.Path.{_≡_};
 ghost use mathlib.Core.Bool.{true, _&&_, cond};
 ghost use Prim.Native.Nat.{ℕ, _+_, _≤_, _<_};
