@@ -8,8 +8,8 @@ use cells::Reply;
 use lines::Record;
 use lines::records;
 use questions::State;
-use questions::begin_refusal;
-use questions::is_fit;
+use refusals::begin_refusal;
+use fitness::is_fit;
 
 // The task's call begins with the record q.
 fn begin(mut s: State, pool: &[u32], task: u32, q: Record) -> Reply

@@ -10,12 +10,12 @@
 use cells::Looked;
 use cells::Outcome;
 use cells::Reply;
+use counting::is_holding;
+use counting::is_taking;
 use libc::STDOUT_FILENO;
 use lines::Record;
 use lines::records;
 use questions::State;
-use questions::counts::is_holding;
-use questions::counts::is_taking;
 use std::num::wrapping_add_u32;
 
 // PRINTING

@@ -10,7 +10,7 @@ use lines::Field;
 use lines::records::NO_VALUE;
 use pool::memory::load;
 use questions::State;
-use questions::is_fit;
+use fitness::is_fit;
 
 // What a read of the block would find.
 fn shown_value(pool: &[u32], block: u32) -> u32

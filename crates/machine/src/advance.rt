@@ -10,7 +10,7 @@ use lines::records::first_read;
 use lines::records::first_swap;
 use pool::words::put;
 use pool::words::record_of;
-use questions::begin_refusal;
+use refusals::begin_refusal;
 use turns::counts::recount;
 use turns::make_move;
 ghost use mathlib.Core.Path.{_≡_};

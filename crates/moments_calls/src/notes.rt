@@ -4,7 +4,7 @@ use lines::records::NO_VALUE;
 use machine::places::record_at;
 use moments_notes::Own;
 use moments_notes::Sight;
-use questions::counts::is_holding;
+use counting::is_holding;
 ghost use mathlib.Core.Path.{_≡_};
 ghost use mathlib.Core.Bool.{true, _&&_, cond};
 ghost use Prim.Native.Nat.{ℕ, _+_, _≤_, _<_};

@@ -10,7 +10,7 @@ use cells::Reply;
 use lines::records::idle;
 use pool::memory::fill;
 use questions::State;
-use questions::open_refusal;
+use refusals::open_refusal;
 
 // Each of the first V blocks is used once.
 fn open_counts(cells: u32) -> [u8; 128]

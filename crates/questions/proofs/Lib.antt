@@ -7,5 +7,4 @@ pub mod Tables
 pub mod Uses
 pub mod Counted
 pub mod Numbers
-pub mod LineKinds
 pub mod Accesses

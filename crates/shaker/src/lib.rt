@@ -34,7 +34,7 @@ pub fn session_space() -> [u8; ROOM]
 fn refusal(tasks: u32, cells: u32, blocks: u32, count: u32) -> u32
     ensures { λ n. ⌜ n ≡ Option·getD («refusalOf» (shakeQuestions tasks cells blocks count)) 0 ⌝ }
 {
-    let n = questions::open_refusal(5 * blocks as usize, tasks, cells, blocks, &[]);
+    let n = refusals::open_refusal(5 * blocks as usize, tasks, cells, blocks, &[]);
     if n < 4 {
         return n;
     }

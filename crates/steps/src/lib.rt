@@ -10,8 +10,8 @@ use cells::Reply;
 use lines::Record;
 use lines::records;
 use questions::State;
-use questions::is_fit;
-use questions::step_refusal;
+use fitness::is_fit;
+use refusals::step_refusal;
 use turns::counts::recount;
 use turns::take_turn;
 

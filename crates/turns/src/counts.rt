@@ -5,10 +5,10 @@ ghost use lib.ListN.{getD};
 ghost use Prim.Native.Nat.{_<_};
 ghost use Rattle.cells.specs.Counts.{less, released, renamed, recounted, Names, Named, Countable};
 use lines::Record;
-use questions::counts::claim;
-use questions::counts::count;
-use questions::counts::is_holding;
-use questions::counts::is_taking;
+use counting::claim;
+use counting::count;
+use counting::is_holding;
+use counting::is_taking;
 
 fn discount(counts: &mut [u8; 128], b: u32)
     requires { ⌜ (b < 128) × (0 < getD (now counts) b 0) ⌝ }
