@@ -5,11 +5,9 @@ use mathlib.Core.Bool.{Bool, true, false, not, _&&_, _||_, cond, false≢true}
 use lib.Dec.{eqb}
 use borrow.Author.Tests.{eqb-true, eqb-false}
 use Rattle.lines.specs.declared.Record.{Record}
+use Rattle.lines.specs.Record.{opOf}
 use Rattle.questions.specs.Questions.{reads, swaps}
-use Rattle.history.specs.History.{Op, read, swap, cellOf, aRead, aSwap, kindOf}
-
-abbrev pub opOf : Record → Op
-opOf q = cond (eqb (q .kind) 1) (read (q .cell)) (swap (q .cell) (q .expected) (q .new))
+use Rattle.history.specs.History.{read, swap, cellOf, aRead, aSwap, kindOf}
 
 module _ (q : Record) where
   -- kind and cell as a finished call reports them

@@ -26,7 +26,8 @@ use Rattle.history.proofs.ListTests.{both, every, by-test}
 use Rattle.figure.proofs.LineLaws.{every-line, lines, same, same-is, extends, Leads, goes, done}
 use Rattle.figure.proofs.LineLaws as Laws
 use Rattle.figure.proofs.Records.{Pending, led}
-use Rattle.figure.proofs.AsBegun.{opOf, cell-of}
+use Rattle.figure.proofs.AsBegun.{cell-of}
+use Rattle.lines.specs.Record.{opOf}
 use Rattle.figure.proofs.Tallies.{doing}
 use Rattle.figure.proofs.Classes.{is, figureLine, busy, holding, swapping, stored, storing, replacing, lies-in, are-apart}
 use Rattle.figure.proofs.Invariant.{View, Knowledge, Owner, TaskOf, line, held}

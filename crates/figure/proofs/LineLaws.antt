@@ -10,14 +10,14 @@ use borrow.Author.Tests.{eq-eqb, ne-eqb}
 use Rattle.lines.specs.declared.Record.{Record}
 use Rattle.lines.specs.declared.Access.{Access}
 use Rattle.lines.specs.Answers.{Next, Go}
-use Rattle.lines.specs.Record.{idle}
+use Rattle.lines.specs.Record.{idle, opOf}
 use Rattle.lines.specs.Lines.{Line, for13, for25, for28, l1, l2, l3, l4, l5, l6, l7, l8, l10, l11, l12, l15, l16, l17, l18, l19, l20, l21, l22, l23, l24, l26, l27, l30, nowhere, lineAt, lineOf, accessAt, loads, stores, hardware, at, answer, readAnswer, nextAt}
 use Rattle.questions.specs.Questions.{ofKind, reads, swaps}
 use Rattle.history.specs.Basics.{_∈_}
 use Rattle.history.proofs.ListTests.{every, has, both, every-in, every-at, by-test, has-in}
 use Rattle.history.specs.History.{Op, read, swap, Response, Value, Yes, No}
 use Rattle.figure.specs.Paths.{decision, readPaths, paths, by25, pathsOf}
-use Rattle.figure.proofs.AsBegun.{opOf, swap-op, Reads, read-op}
+use Rattle.figure.proofs.AsBegun.{swap-op, Reads, read-op}
 
 -- THE LIST OF ALL LINES
 

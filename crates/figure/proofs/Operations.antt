@@ -7,7 +7,7 @@ use Prim.Native.Nat.{ℕ}
 use lib.Dec.{eqb, T}
 use borrow.Author.Tests.{eqb-true, eq-eqb, ne-eqb}
 use Rattle.lines.specs.declared.Record.{Record}
-use Rattle.lines.specs.Record.{isIdle}
+use Rattle.lines.specs.Record.{isIdle, opOf}
 use Rattle.lines.specs.Lines.{lineAt, lineOf, readAnswer}
 use Rattle.questions.specs.Questions.{ofKind, reads, swaps, lineFit}
 use Rattle.history.specs.History.{Op, cellOf, Yes, No}
@@ -15,7 +15,7 @@ use Rattle.history.specs.Linearization.{reply, valueLeft, apply}
 use Rattle.history.specs.Demand3.{Unequal}
 use Rattle.history.proofs.ListTests.{imp}
 use Rattle.figure.proofs.LineLaws.{every-line}
-use Rattle.figure.proofs.AsBegun.{opOf, swap-op, Reads, read-op}
+use Rattle.figure.proofs.AsBegun.{swap-op, Reads, read-op}
 use Rattle.figure.proofs.Tallies.{tally, tallyOf}
 use Rattle.figure.proofs.Classes.{busy, swapping, are-apart}
 

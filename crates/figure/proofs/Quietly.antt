@@ -11,7 +11,7 @@ use lib.Dec.{eqb, T}
 use borrow.Author.Tests.{eqb-false}
 use Rattle.lines.specs.declared.Record.{Record}
 use Rattle.lines.specs.Answers.{Next, Go, Done}
-use Rattle.lines.specs.Record.{idle}
+use Rattle.lines.specs.Record.{idle, opOf}
 use Rattle.lines.specs.Lines.{Line, l10, l15, lineAt, lineOf, accessOf, accessAt, nextOf, counted, attempt}
 use Rattle.history.specs.Basics.{upd}
 use Rattle.history.specs.History.{Op, read, swap, cellOf, untried}
@@ -21,7 +21,7 @@ use Rattle.history.proofs.Simulation.{Ghost, Tally, QuietStarts, QuietSteps, Fr
 use Rattle.figure.specs.Figure.{Cell, World, withTask, recordAfter, accessCell, clear, figureAnswers, triedIn, firstOf}
 use Rattle.figure.proofs.LineLaws.{Leads, goes, done}
 use Rattle.figure.proofs.Records.{Pending, OnPath, AllOnPath, Accepted, led}
-use Rattle.figure.proofs.AsBegun.{opOf, cell-of}
+use Rattle.figure.proofs.AsBegun.{cell-of}
 use Rattle.figure.proofs.Tallies.{tally, tallyOf, doing}
 use Rattle.figure.proofs.Classes.{busy, swapping, marking, lies-in, holding, uncontended}
 use Rattle.figure.proofs.Invariant.{none, Knowledge, line}

@@ -11,7 +11,7 @@ use borrow.Author.Tests.{ltb-true, lt-ltb, eq-eqb, ne-eqb}
 use Rattle.lines.specs.declared.Record.{Record}
 use Rattle.cells.specs.Answers.{Refused, Acted}
 use Rattle.lines.specs.Answers.{Next, Go, Done}
-use Rattle.lines.specs.Record.{idle, isIdle}
+use Rattle.lines.specs.Record.{idle, isIdle, opOf}
 use Rattle.lines.specs.Lines.{Line, lineAt, lineOf, accessAt, accessOf, attempt, counted, nextOf, hardware}
 use Rattle.figure.proofs.Tries.{tries}
 use Rattle.questions.specs.Questions.{Question, refusal, ofKind, reads, swaps, lineFit, valuesFit, beginQuestions, swapQuestions, stepQuestions}
@@ -22,7 +22,6 @@ use Rattle.figure.specs.Figure.{Cell, World, withTask, withBoth, WorldAf
 use Rattle.cells.specs.Events.{reportOf, eventOf}
 use Rattle.figure.specs.Paths.{count, Trace, didLine, enterLine}
 use Rattle.figure.specs.Paths as Paths
-use Rattle.figure.proofs.AsBegun.{opOf}
 use Rattle.history.proofs.ListTests.{every, every-in, both, imp}
 use Rattle.figure.proofs.LineLaws.{every-line, lines, before, extends-in, waysOf, hardware-alike, Leads, goes, done, leads}
 

@@ -11,7 +11,7 @@ use lib.Dec.{eqb, leb, leb→le}
 use borrow.Author.Tests.{eqb-true}
 use Rattle.lines.specs.declared.Record.{Record}
 use Rattle.lines.specs.Answers.{Next}
-use Rattle.lines.specs.Record.{idle, isIdle}
+use Rattle.lines.specs.Record.{idle, isIdle, opOf}
 use Rattle.lines.specs.Lines.{Line, lineOf, accessOf, counted, hardware}
 use Rattle.history.specs.Basics.{upd, _∈_}
 use Rattle.history.specs.History.{Op, read, swap, Action, begin, step, untried, Response}
@@ -21,7 +21,7 @@ use Rattle.history.proofs.Simulation.{Tally, first, Follows}
 use Rattle.figure.specs.Figure.{Cell, World, WorldAfter, withBoth, recordAfter, outcomeOf, figureRan, figure, accessCell, triedIn, firstOf}
 use Rattle.cells.specs.Events.{eventOf}
 use Rattle.figure.specs.Paths.{readPaths, paths, count}
-use Rattle.figure.proofs.AsBegun.{opOf, kind-of, cell-of}
+use Rattle.figure.proofs.AsBegun.{kind-of, cell-of}
 use Rattle.history.proofs.ListTests.{every-in, by-test}
 use Rattle.figure.proofs.LineLaws.{waysOf, on-paths, on-read-paths, Leads, goes, done}
 use Rattle.figure.proofs.Records.{Pending, not-idle, led, Then, one-line, pending-bounds, read-bounds, Begun, starts, begin-cases, Stepped, runs, step-cases, OnPath, AllOnPath}

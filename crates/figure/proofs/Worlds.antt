@@ -8,7 +8,7 @@ use Prim.Native.Nat.{ℕ, _<_}
 use lib.Dec.{eqb, T}
 use Rattle.lines.specs.declared.Record.{Record}
 use Rattle.lines.specs.Answers.{Next}
-use Rattle.lines.specs.Record.{idle}
+use Rattle.lines.specs.Record.{idle, opOf}
 use Rattle.lines.specs.Lines.{Line, lineOf, accessOf, nextOf}
 use Rattle.history.specs.Basics.{upd}
 use Rattle.history.specs.History.{Op, cellOf, Yes}
@@ -21,7 +21,7 @@ use Rattle.figure.specs.Moments.{Notes, noted, names, sees}
 use Rattle.history.proofs.ListTests.{every}
 use Rattle.figure.proofs.LineLaws.{lines}
 use Rattle.figure.proofs.Records.{Pending, AllOnPath, OnPath}
-use Rattle.figure.proofs.AsBegun.{opOf, cell-of}
+use Rattle.figure.proofs.AsBegun.{cell-of}
 use Rattle.figure.proofs.Tallies.{tally, tallyOf, doing}
 use Rattle.figure.proofs.Classes.{busy, holding, swapping, stored, viewing, lies-in}
 use Rattle.figure.proofs.Invariant.{none, View, Knowledge, TaskOf, line, held, Inv}

@@ -4,6 +4,7 @@ use mathlib.Core.List.{List}
 use Prim.Native.Nat.{ℕ}
 use lib.Dec.{eqb}
 use lib.ListN.{getD}
+use Rattle.history.specs.History.{Op, read, swap}
 use Rattle.lines.specs.declared.Record.{Record}
 
 -- document 01's "none": from a fresh opening it never enters or leaves a cell
@@ -31,3 +32,7 @@ firstRead k = first 10 1 k 0 0
 -- line 14: a swap of equal values reads
 abbrev pub firstSwap : (cell expected new : ℕ) → Record
 firstSwap k e n = first (cond (eqb e n) 10 15) 2 k e n
+
+-- the operation that a record was begun with
+abbrev pub opOf : Record → Op
+opOf q = cond (eqb (q .kind) 1) (read (q .cell)) (swap (q .cell) (q .expected) (q .new))

@@ -7,14 +7,14 @@ use Prim.Native.Nat.{ℕ, _+_, _≤_}
 use native.Mathlib.Numerals.{add-one}
 use lib.Dec.{eqb}
 use Rattle.lines.specs.declared.Record.{Record}
-use Rattle.lines.specs.Record.{recordAt}
+use Rattle.lines.specs.Record.{recordAt, opOf}
 use Rattle.questions.specs.declared.State.{State}
 use Rattle.cells.specs.Machine.{Pool}
 use Rattle.history.specs.History.{Op, read, swap, aRead, aSwap, kindOf, Response, Value, Yes, No}
 use Rattle.history.specs.Moments as Moments
 use Rattle.history.specs.Moments.{Rule, C1, changes}
 use Rattle.figure.specs.Moments.{at, Notes, stands}
-use Rattle.figure.proofs.AsBegun.{opOf, kind-of, cell-of}
+use Rattle.figure.proofs.AsBegun.{kind-of, cell-of}
 use Rattle.refinement.specs.Moments.{seesPool}
 use Rattle.moments_notes.specs.declared.Sight.{Sight}
 use Rattle.moments_notes.specs.declared.Own.{Own}

@@ -5,13 +5,12 @@ use mathlib.Core.List.{List, []}
 use Prim.Native.Nat.{ℕ, zero, suc, _+_, _≤_}
 use lib.Dec.{eqb}
 use Rattle.lines.specs.declared.Record.{Record}
-use Rattle.lines.specs.Record.{recordAt}
+use Rattle.lines.specs.Record.{recordAt, opOf}
 use Rattle.cells.specs.Answers.{Said, Refused, Acted, Ended}
 use Rattle.cells.specs.Machine.{Pool, pool}
 use Rattle.history.specs.History.{Op, Response, Yes, Action, begin, step, noCalls}
 use Rattle.history.specs.Moments.{Spot, Mark, marks}
 use Rattle.figure.specs.Moments.{Notes, noNotes, noting, names, ruled, stands}
-use Rattle.figure.proofs.AsBegun.{opOf}
 use Rattle.refinement.specs.Moments.{seesPool}
 use Rattle.moments_notes.specs.declared.Sight.{Sight}
 use Rattle.moments_notes.specs.declared.Own.{Own}

@@ -12,7 +12,7 @@ use lib.Dec.{eqb, ltb}
 use borrow.Author.Tests.{ltb-true}
 use Rattle.lines.specs.declared.Record.{Record}
 use Rattle.lines.specs.Answers.{Result, Next, Go, Done}
-use Rattle.lines.specs.Record.{noValue, idle, isIdle, recordAt, firstRead, firstSwap}
+use Rattle.lines.specs.Record.{noValue, idle, isIdle, recordAt, firstRead, firstSwap, opOf}
 use Rattle.lines.specs.Lines.{Line, lineOf, accessOf, attempt, counted, nextOf}
 use Rattle.questions.specs.declared.State.{State}
 use Rattle.questions.specs.Questions.{Question, refusal, answers, fit, beginQuestions, swapQuestions}
@@ -27,7 +27,6 @@ use Rattle.cells.specs.Turn.{ending, turn}
 use Rattle.cells.specs.Events.{eventOf}
 use Rattle.cells.specs.Machine.{does}
 use Rattle.cells.proofs.Stepping.{Acting, own-acting}
-use Rattle.figure.proofs.AsBegun.{opOf}
 use Rattle.figure.proofs.LineLaws.{Leads, goes, done, leads}
 use Rattle.figure.proofs.Records.{not-idle}
 use Rattle.history.specs.Basics.{upd}

@@ -10,7 +10,7 @@ use lib.Dec.{eqb}
 use lib.ListN.{length, getD, replicate}
 use borrow.Author.Tests.{eqb-true, lt-ltb}
 use Rattle.lines.specs.declared.Record.{Record}
-use Rattle.lines.specs.Record.{idle, isIdle, recordAt}
+use Rattle.lines.specs.Record.{idle, isIdle, recordAt, opOf}
 use Rattle.questions.specs.declared.State.{State}
 use Rattle.cells.specs.Answers.{Said, Refused, Acted, Ended}
 use Rattle.cells.specs.Open.{After, leaving}
@@ -20,7 +20,7 @@ use Rattle.cells.specs.Machine.{Pool, does, triedBy, pool}
 use Rattle.history.specs.History.{Op, cellOf, Action, begin, step, taskOf, Response, Value, Yes, No, Attempt, Call, Calls, noCalls, enter}
 use Rattle.history.specs.Moments.{Spot, Mark, marks, marked, markOf, markOfPending, pendingMarks}
 use Rattle.figure.specs.Moments.{Notes, noNotes, noted, note, noting, names, ruled, stands}
-use Rattle.figure.proofs.AsBegun.{opOf, cell-of}
+use Rattle.figure.proofs.AsBegun.{cell-of}
 use Rattle.refinement.specs.Moments.{seesPool}
 use Rattle.moments_notes.specs.declared.Sight.{Sight}
 use Rattle.moments_notes.specs.declared.Own.{Own}

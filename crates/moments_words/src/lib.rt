@@ -5,7 +5,7 @@ ghost use Prim.Native.Nat.{_+_, _*_, _/_, _%_, _≤_, _<_};
 ghost use lib.ListN.{length, take};
 ghost use Rattle.lines.specs.Answers.{answerOf};
 ghost use Rattle.history.specs.Moments.{changes as «changesOf»};
-ghost use Rattle.figure.proofs.AsBegun.{opOf};
+ghost use Rattle.lines.specs.Record.{opOf};
 ghost use Rattle.text.specs.Append.{Appended};
 ghost use Rattle.text.specs.Bytes.{decimal};
 ghost use Rattle.session_text.specs.Lines.{kindWord};

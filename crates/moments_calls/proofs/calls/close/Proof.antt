@@ -4,10 +4,9 @@ use mathlib.Core.Path.{_≡_, refl, sym, ap, subst, _∙_}
 use Prim.Native.Nat.{_+_, _-_, _≤_}
 use mathlib.Core.List.{[]}
 use lib.ListN.{length, take}
-use Rattle.lines.specs.Record.{recordAt}
+use Rattle.lines.specs.Record.{recordAt, opOf}
 use Rattle.cells.specs.Machine.{Pool}
 use Rattle.figure.specs.Moments.{stands}
-use Rattle.figure.proofs.AsBegun.{opOf}
 use Rattle.refinement.specs.Moments.{seesPool}
 use Rattle.moments_notes.specs.declared.Standing.{Standing}
 use Rattle.moments_notes.specs.Words.{SortedWords}

@@ -2,7 +2,7 @@ use borrow.Author.Needs.{needs}
 use native.Mathlib.Omega.{arith}
 use lib.ListN.{take}
 use Rattle.lines.specs.Answers.{answerOf}
-use Rattle.figure.proofs.AsBegun.{opOf}
+use Rattle.lines.specs.Record.{opOf}
 use Rattle.moments_notes.specs.Loop.{endingSpot}
 use Rattle.moments_notes.proofs.Ruling.{numbered-small, entered, moment-fits}
 use Rattle.moments_calls.proofs.calls.end_with.Statement.{statement}
