@@ -1,4 +1,4 @@
--- `steps::step_lent` meets its contract: a walk of its MIR, by hand. The borrow of the record is opened, the record is copied out, `lent_turn` is called with the slice, the new record is stored, and the borrow is closed.
+-- `lent::step_lent` meets its contract: a walk of its MIR, by hand. The borrow of the record is opened, the record is copied out, `lent_turn` is called with the slice, the new record is stored, and the borrow is closed.
 use mathlib.Core.Path.{_≡_, refl, ap}
 use Prim.Native.Nat.{ℕ, _<_, _^_}
 use mathlib.Core.List.{[], _∷_, List}
@@ -45,23 +45,23 @@ use Rattle.cells.specs.Lent.{lent, steppedLent}
 use Rattle.lines.specs.declared.Record.{Record}
 use Rattle.questions.specs.declared.State.{State}
 use Rattle.cells.specs.declared.Reply.{Reply}
-use Rattle.steps.specs.declared.LentTurn.{LentTurn}
+use Rattle.lent.specs.declared.LentTurn.{LentTurn}
 use Rattle.lines.proofs.Record as R
 use Rattle.lines.proofs.Record.Laws as R′
 use Rattle.questions.proofs.State as S
 use Rattle.questions.proofs.State.Laws as S′
 use Rattle.cells.proofs.Reply as G
 use Rattle.cells.proofs.Reply.Laws as G′
-use Rattle.steps.proofs.LentTurn as P
-use Rattle.steps.proofs.LentTurn.Laws as P′
-use Rattle.steps.proofs.lent_turn as lent-turn
-use Rattle.steps.proofs.lent_turn.Symbol as lent-turn-def
-use Rattle.steps.proofs.lent_turn.Symbol.{name as #steps·lent-turn}
-use Rattle.steps.proofs.lent_turn.Met as lent-turn-thm
-use Rattle.steps.proofs.step_lent.Key.{name as #steps·step-lent}
-use Rattle.steps.proofs.step_lent as step-lent
-use Rattle.steps.proofs.step_lent.Statement as stated
-use Rattle.steps.proofs.step_lent.Code as code
+use Rattle.lent.proofs.LentTurn as P
+use Rattle.lent.proofs.LentTurn.Laws as P′
+use Rattle.lent.proofs.lent_turn as lent-turn
+use Rattle.lent.proofs.lent_turn.Symbol as lent-turn-def
+use Rattle.lent.proofs.lent_turn.Symbol.{name as #lent·lent-turn}
+use Rattle.lent.proofs.lent_turn.Met as lent-turn-thm
+use Rattle.lent.proofs.step_lent.Key.{name as #lent·step-lent}
+use Rattle.lent.proofs.step_lent as step-lent
+use Rattle.lent.proofs.step_lent.Statement as stated
+use Rattle.lent.proofs.step_lent.Code as code
 
 abbrev stayed : Stays (step-lent.ended .signature .params) (step-lent.ended .kept)
 stayed = (stay-none (λ _. S.the-row) yes, (gave-slice (0 ∷ []) tt (plain (λ _. u32)), (stay-none (λ _. u32) yes, (stay-ref (1 ∷ []) tt (plain (λ _. R.the-row)), tt))))
@@ -130,7 +130,7 @@ module _ {M : Type 1} (𝓤 : URA M) (H : Heap 𝓤) (A : Atoms 𝓤) (W : Given
       nothing ! $ owned ! R.the-row (Is R.the-row) (LL.makes R.the-type R′.the-plain 𝓤 H A) h _ g $ fjoin ! $ owned ! u32 (Is u32) (uint-makes 𝓤 H A W w32) t _ (refl, t-fits) $ fjoin ! $ move ! (1 ∷ 0 ∷ []) $ fjoin ! $
       owned ! S.the-row (Is S.the-row) (LL.makes S.the-type S′.the-plain 𝓤 H A) st _ gs $ fjoin ! $ move ! (1 ∷ 0 ∷ []) $ join ! $ frame ! $ done !
 
-  module _ (C : Calls 𝓤 H) (Λ : Loops 𝓤 H) (fm : FmC 𝓤 H (W .laws) C) (known : Triple 𝓤 (C #steps·lent-turn) (TurnC 𝓤 H A at-mem run)) where
+  module _ (C : Calls 𝓤 H) (Λ : Loops 𝓤 H) (fm : FmC 𝓤 H (W .laws) C) (known : Triple 𝓤 (C #lent·lent-turn) (TurnC 𝓤 H A at-mem run)) where
     walk : ent 𝓤 (onEntry 𝓤 H A step-lent.signature (κ, (κ′, tt)) (q, (q′, tt)) a vals) (WpFn 𝓤 H C Λ code.function (machS st ∷ sl ∷ vint w32 t ∷ vptr b′ o′ ∷ []) Post)
     walk =
         qed W ((‵ (flft κ q) ⊛ ‵ (flft κ′ q′) ⊛ ‵ ftrue) ∷ ‵ (owns (S.the-row ∷ MutSlice (named 0) κ u32 ∷ u32 ∷ MutRef (named 1) κ′ R.the-row ∷ []) a vals) ∷ []) ∵ split ! $ move ! (1 ∷ []) $ split ! $
@@ -161,7 +161,7 @@ module _ {M : Type 1} (𝓤 : URA M) (H : Heap 𝓤) (A : Atoms 𝓤) (W : Given
         move ! (3 ∷ []) $ split ! $ keep ! (2 ∷ 3 ∷ 0 ∷ 4 ∷ 5 ∷ []) $ by ! (exits r (zs .1 .0) e l (reply-is r (w ∷ []) is)))))))))))))))))))
 
 module _ {M : Type 1} (𝓤 : URA M) (H : Heap 𝓤) (A : Atoms 𝓤) (W : Given 𝓤 H A) (at-mem : Memory → SProp 𝓤) (run : Routine → Fun 𝓤) where
-  step-lent-walks : (C : Calls 𝓤 H) (Λ : Loops 𝓤 H) → FmC 𝓤 H (W .laws) C → Triple 𝓤 (C #steps·lent-turn) (TurnC 𝓤 H A at-mem run) → Walks 𝓤 H A step-lent.ended stayed (WpFn 𝓤 H C Λ code.function) (step-lent.clauses 𝓤 H A at-mem run)
+  step-lent-walks : (C : Calls 𝓤 H) (Λ : Loops 𝓤 H) → FmC 𝓤 H (W .laws) C → Triple 𝓤 (C #lent·lent-turn) (TurnC 𝓤 H A at-mem run) → Walks 𝓤 H A step-lent.ended stayed (WpFn 𝓤 H C Λ code.function) (step-lent.clauses 𝓤 H A at-mem run)
   step-lent-walks C Λ fm known = walked 𝓤 H A step-lent.ended stayed (step-lent.clauses 𝓤 H A at-mem run) (WpFn 𝓤 H C Λ code.function)
       (λ κs. (LL.vals S.the-type S′.the-laws, (slice-vals, (uint-vals w32, (ptr-vals, tt))))) (λ κs. (LL.tells S.the-type S′.the-laws, (mut-slice-tells (named 0) (κs .0) u32, (uint-tells w32, (mut-tells (named 1) (κs .1 .0) R.the-row, tt)))))
       (λ κs qs bounds a g are. via 𝓤 _ (fst∗ 𝓤 _ (emp 𝓤)) (
@@ -170,7 +170,7 @@ module _ {M : Type 1} (𝓤 : URA M) (H : Heap 𝓤) (A : Atoms 𝓤) (W : Given
   goes : AllGo 𝓤 H A W 2 (step-lent.signature .params) (step-lent.ended .kept) stayed
   goes = (goes-none 𝓤 H A W 2 (λ _. S.the-row) yes (λ κs x f. refl), (goes-gave-slice 𝓤 H A W 2 0 tt (plain (λ _. u32)), (goes-none 𝓤 H A W 2 (λ _. u32) yes (λ κs x f. refl), (goes-ref 𝓤 H A W 2 1 tt (plain (λ _. R.the-row)), tt))))
 
-step-lent-meets : {M : Type 1} (𝓤 : URA M) (H : Heap 𝓤) (A : Atoms 𝓤) → Given 𝓤 H A → (at-mem : Memory → SProp 𝓤) (run : Routine → Fun 𝓤) (𝓣 : Tables 𝓤 H) → Triple 𝓤 (𝓣 .C #steps·lent-turn) (TurnC 𝓤 H A at-mem run)
+step-lent-meets : {M : Type 1} (𝓤 : URA M) (H : Heap 𝓤) (A : Atoms 𝓤) → Given 𝓤 H A → (at-mem : Memory → SProp 𝓤) (run : Routine → Fun 𝓤) (𝓣 : Tables 𝓤 H) → Triple 𝓤 (𝓣 .C #lent·lent-turn) (TurnC 𝓤 H A at-mem run)
     → Meets 𝓤 H A step-lent.signature (WpFn 𝓤 H (𝓣 .C) (𝓣 .Λ) code.function) (step-lent.spec 𝓤 H A at-mem run)
 step-lent-meets 𝓤 H A W at-mem run 𝓣 known = walk-meets 𝓤 H A step-lent.ended stayed W (goes 𝓤 H A W at-mem run) (step-lent.clauses 𝓤 H A at-mem run) (WpFn 𝓤 H (𝓣 .C) (𝓣 .Λ) code.function) (WpFn-mono 𝓤 H (W .laws) 𝓣 code.function) (step-lent-walks 𝓤 H A W at-mem run (𝓣 .C) (𝓣 .Λ) (fmOf 𝓤 H (W .laws) 𝓣) known)
 
@@ -178,6 +178,6 @@ pub step-lent-spec : {M : Type 1} → stated.statement M
 unfolding code.routine tablesOf
 step-lent-spec 𝓤 H 𝓜 𝓖 𝓡 =
     entered 𝓤 H (tripleOf 𝓤 H (𝓖 .A) step-lent.signature (step-lent.spec 𝓤 H (𝓖 .A) (𝓜 .mem) (𝓡 .run)))
-    (tables 𝓤 H 𝓜 𝓡 code.env .C) (tables 𝓤 H 𝓜 𝓡 code.env .Λ) #steps·step-lent code.function (code.unfolded 𝓤 H 𝓜 𝓡)
+    (tables 𝓤 H 𝓜 𝓡 code.env .C) (tables 𝓤 H 𝓜 𝓡 code.env .Λ) #lent·step-lent code.function (code.unfolded 𝓤 H 𝓜 𝓡)
     (step-lent-meets 𝓤 H (𝓖 .A) (givenOf 𝓤 H 𝓜 𝓖) (𝓜 .mem) (𝓡 .run) (tablesOf 𝓤 H 𝓜 (tables 𝓤 H 𝓜 𝓡 code.env))
-    (cited 𝓤 H (TurnC 𝓤 H (𝓖 .A) (𝓜 .mem) (𝓡 .run)) 𝓜 𝓡 code.env #steps·lent-turn lent-turn-def.routine code.calls-steps·lent-turn (lent-turn-thm.met 𝓤 H 𝓜 𝓖 𝓡)))
+    (cited 𝓤 H (TurnC 𝓤 H (𝓖 .A) (𝓜 .mem) (𝓡 .run)) 𝓜 𝓡 code.env #lent·lent-turn lent-turn-def.routine code.calls-lent·lent-turn (lent-turn-thm.met 𝓤 H 𝓜 𝓖 𝓡)))

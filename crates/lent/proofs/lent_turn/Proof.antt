@@ -8,8 +8,8 @@ use Rattle.cells.specs.Begin.{withRecord}
 use Rattle.cells.proofs.Arrays.{has-32}
 use Rattle.cells.proofs.LentLaw.{placed, below-32, lent-refused, lent-acted}
 use borrow.Author.Needs.{needs}
-use Rattle.steps.proofs.lent_turn.Statement.{statement}
-use Rattle.steps.proofs.lent_turn.Tie as tie
+use Rattle.lent.proofs.lent_turn.Statement.{statement}
+use Rattle.lent.proofs.lent_turn.Tie as tie
 
 -- the state that is stepped
 holds : (c : tie.Joined1) → let e = c .before .before .args in c .if1 .q ≡ withRecord (e .s) (e .task) (e .r)
