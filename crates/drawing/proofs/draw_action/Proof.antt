@@ -1,7 +1,7 @@
-use Rattle.shaker.proofs.Draws.{draws-begin, draws-step}
+use Rattle.drawing.proofs.Draws.{draws-begin, draws-step}
 use borrow.Author.Needs.{needs}
-use Rattle.shaker.proofs.drawing.draw_action.Statement.{statement}
-use Rattle.shaker.proofs.drawing.draw_action.Tie as tie
+use Rattle.drawing.proofs.draw_action.Statement.{statement}
+use Rattle.drawing.proofs.draw_action.Tie as tie
 
 returns : tie.Need-returns
 returns c =

@@ -2,8 +2,8 @@
 use mathlib.Core.Path.{refl, sym}
 use Prim.Native.Nat.{ℕ}
 use lib.ListN.{length-replicate}
-use Rattle.shaker.proofs.session_space.Statement.{statement}
-use Rattle.shaker.proofs.session_space.Tie as tie
+use Rattle.buffers.proofs.session_space.Statement.{statement}
+use Rattle.buffers.proofs.session_space.Tie as tie
 
 returns : tie.Need-returns
 returns c = (refl, sym (length-replicate {A = ℕ} 65536 0))

@@ -1,7 +1,7 @@
-use Rattle.shaker.proofs.Draws.{begins-read, begins-swap}
+use Rattle.drawing.proofs.Draws.{begins-read, begins-swap}
 use borrow.Author.Needs.{needs}
-use Rattle.shaker.proofs.drawing.draw_begin.Statement.{statement}
-use Rattle.shaker.proofs.drawing.draw_begin.Tie as tie
+use Rattle.drawing.proofs.draw_begin.Statement.{statement}
+use Rattle.drawing.proofs.draw_begin.Tie as tie
 
 returns : tie.Need-returns
 returns c =

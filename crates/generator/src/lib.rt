@@ -1,7 +1,7 @@
 // The generator of draws.
 ghost use mathlib.Core.Path.{_≡_};
 ghost use Prim.Native.Nat.{_*_, _%_, _<_};
-ghost use Rattle.shaker.specs.Generator.{next as «nextOf», below as «belowOf»};
+ghost use Rattle.generator.specs.Generator.{next as «nextOf», below as «belowOf»};
 use std::num::wrapping_add_u32;
 
 // The product, wrapping at 32 bits.

@@ -5,8 +5,8 @@ use borrow.Author.Tests.{ne-eqb}
 use Rattle.history.specs.History.{read, swap, begin, step}
 use Rattle.lines.specs.Record.{recordAt}
 use Rattle.questions.specs.declared.State.{State}
-use Rattle.shaker.specs.Generator.{next, below}
-use Rattle.shaker.specs.Drawn.{Drawn, drawn, drawnBegin, drawnAction}
+use Rattle.generator.specs.Generator.{next, below}
+use Rattle.drawing.specs.Drawn.{Drawn, drawn, drawnBegin, drawnAction}
 
 module _ (t v g : ℕ) {a b kind cell : ℕ} (ea : a ≡ next g) (eb : b ≡ next a) (ek : kind ≡ below 2 a) (ec : cell ≡ below v b) where
   kinds : below 2 (next g) ≡ kind

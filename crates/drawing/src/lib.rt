@@ -1,10 +1,10 @@
 // The actions drawn.
 ghost use mathlib.Core.Path.{_≡_};
 ghost use Prim.Native.Nat.{_≤_, _<_};
-ghost use Rattle.shaker.specs.Drawn.{drawnBegin, drawnAction};
-ghost use Rattle.shaker.specs.Answers.{drawnOf};
-use crate::generator::below;
-use crate::generator::next;
+ghost use Rattle.drawing.specs.Drawn.{drawnBegin, drawnAction};
+ghost use Rattle.drawing.specs.Answers.{drawnOf};
+use generator::below;
+use generator::next;
 use questions::State;
 
 pub enum Action {

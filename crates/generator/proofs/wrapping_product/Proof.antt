@@ -3,8 +3,8 @@ use Prim.Native.Nat.{ℕ, _+_, _*_, _^_, _<_}
 use native.Mathlib.Nat.{le-of-lt, lt-of-le-of-lt, mul-le-mul-left, mul-lt-mul-of-pos-right}
 use lib.Pow.{pow-pos, pow-add}
 use borrow.Author.Needs.{needs}
-use Rattle.shaker.proofs.generator.wrapping_product.Statement.{statement}
-use Rattle.shaker.proofs.generator.wrapping_product.Tie as tie
+use Rattle.generator.proofs.wrapping_product.Statement.{statement}
+use Rattle.generator.proofs.wrapping_product.Tie as tie
 
 -- the product of two numbers of k bits has at most k + k
 product-below : (k : ℕ) {a b : ℕ} → a < 2 ^ k → b < 2 ^ k → a * b < 2 ^ (k + k)

@@ -1,9 +1,9 @@
 use Prim.Native.Nat.{_*_}
 use native.Mathlib.Nat.{mod-add-mod}
-use Rattle.shaker.specs.Generator.{next}
+use Rattle.generator.specs.Generator.{next}
 use borrow.Author.Needs.{needs}
-use Rattle.shaker.proofs.generator.next.Statement.{statement}
-use Rattle.shaker.proofs.generator.next.Tie as tie
+use Rattle.generator.proofs.next.Statement.{statement}
+use Rattle.generator.proofs.next.Tie as tie
 
 returns : tie.Need-returns
 unfolding next

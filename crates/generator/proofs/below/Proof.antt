@@ -1,10 +1,10 @@
 use mathlib.Core.Path.{refl}
 use Prim.Native.Nat.{_/_}
 use native.Mathlib.Nat.{mod-lt}
-use Rattle.shaker.specs.Generator.{below}
+use Rattle.generator.specs.Generator.{below}
 use borrow.Author.Needs.{needs}
-use Rattle.shaker.proofs.generator.below.Statement.{statement}
-use Rattle.shaker.proofs.generator.below.Tie as tie
+use Rattle.generator.proofs.below.Statement.{statement}
+use Rattle.generator.proofs.below.Tie as tie
 
 returns : tie.Need-returns
 unfolding below
