@@ -6,9 +6,9 @@ ghost use lib.ListN.{length};
 use buffers::session_space;
 use case_files::read_case;
 use libc::STDOUT_FILENO;
+use readers::starts_with;
 use session_reader::items;
 use text::Place;
-use text::starts_with;
 
 // False where it failed, which has been said.
 fn print(text: &[u8]) -> bool {

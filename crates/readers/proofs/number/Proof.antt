@@ -3,10 +3,10 @@ use native.Mathlib.Omega.{arith}
 use mathlib.Core.Path.{_≡_, sym, _∙_}
 use Prim.Native.Nat.{_-_, _≤_, _<_}
 use lib.ListN.{length, drop, getD}
 use Rattle.text.specs.Readers.{number, digitsAfter}
 use Rattle.text.proofs.Reading as reading
-use Rattle.text.proofs.number.Statement.{statement}
-use Rattle.text.proofs.number.Tie as tie
+use Rattle.readers.proofs.number.Statement.{statement}
+use Rattle.readers.proofs.number.Tie as tie
 
 abbrev Inv-loop : tie.InvT-loop
 Inv-loop s at first v₀ i₀ v i = (at < i) × (i ≤ length s) × (v ≤ 4294967295) × (digitsAfter v (drop i s) ≡ number (drop at s))

@@ -3,10 +3,10 @@ use native.Mathlib.Omega.{arith}
 use mathlib.Core.Path.{_≡_, sym, _∙_}
 use Prim.Native.Nat.{_+_, _-_, _≤_}
 use lib.ListN.{length, drop}
 use Rattle.text.specs.Readers as readers
 use Rattle.text.proofs.Reading.{word-end, word-short, word-other, word-more}
-use Rattle.text.proofs.starts_with.Statement.{statement}
-use Rattle.text.proofs.starts_with.Tie as tie
+use Rattle.readers.proofs.starts_with.Statement.{statement}
+use Rattle.readers.proofs.starts_with.Tie as tie
 
 abbrev Inv-loop : tie.InvT-loop
 Inv-loop s at word i₀ j₀ i j = (j ≤ length word) × (i ≡ at + j) × (i ≤ length s) × (readers.word (drop j word) (drop i s) ≡ readers.word word (drop at s))
