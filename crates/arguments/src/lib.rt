@@ -14,11 +14,11 @@ use text::Place;
 fn argument(line: &[u8], at: usize) -> Numeral
     ensures { λ r. ⌜ NumeralIs «argumentOf» (now (line .entry)) at 2 r ⌝ }
 {
-    let read = text::number(line, at);
+    let read = readers::number(line, at);
     let Numeral::Read(n, a) = read else {
         return Numeral::Absent;
     };
-    let end = text::starts_with(line, a, &[0]);
+    let end = readers::starts_with(line, a, &[0]);
     let Place::At(next) = end else {
         return Numeral::Absent;
     };

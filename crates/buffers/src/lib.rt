@@ -15,6 +15,14 @@ pub fn file_space() -> [u8; 65537]
     [0; 65537]
 }
 
+// As many bytes as a session may have; the longest that is drawn has fewer.
+pub fn session_space() -> [u8; 65536]
+    ensures { λ r. ⌜ r ≡ replicate 65536 0 ⌝ }
+    ensures { λ r. ⌜ 65536 ≡ length r ⌝ }
+{
+    [0; 65536]
+}
+
 pub fn text_space() -> [u8; ROOM]
     ensures { λ r. ⌜ r ≡ zeros 921000 ⌝ }
     ensures { λ r. ⌜ 921000 ≡ length r ⌝ }

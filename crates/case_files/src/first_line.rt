@@ -2,9 +2,9 @@
 ghost use mathlib.Core.Path.{_≡_};
 ghost use Prim.Native.Nat.{_≤_};
 ghost use lib.ListN.{length};
+use readers::starts_with;
 use text::Numeral;
 use text::Place;
-use text::starts_with;
 
 // A first line, and one byte more than a session may have.
 pub fn case_space() -> [u8; 65700]
@@ -33,7 +33,7 @@ fn bad() -> Item
 fn read_item(s: &[u8], at: usize, end: &[u8]) -> Item
     ensures { λ r. ⌜ r .next ≤ length (now (s .entry)) ⌝ }
 {
-    let read = text::number(s, at);
+    let read = readers::number(s, at);
     let Numeral::Read(value, after) = read else {
         return bad();
     };

@@ -1,4 +1,2 @@
-pub mod Further
-pub mod Fits
 pub mod Known
 pub mod Words

@@ -4,9 +4,7 @@ ghost use mathlib.Core.Path.{_≡_};
 ghost use Rattle.consensus.specs.Figure.{given};
 ghost use Rattle.consensus.specs.Entries.{onceAfter, onceOpened, offerBegun, onceStepped};
 
-mod asking;
 mod offers;
-mod turn;
 
 use consensus::OnceState;
 use consensus::Progress;
@@ -20,14 +18,14 @@ pub struct OnceReply {
 pub fn open(mut s: OnceState, tasks: u32, cells: u32) -> OnceReply
     ensures { λ r. ⌜ onceAfter (r .state) (given (r .progress)) ≡ onceOpened s tasks cells ⌝ }
 {
-    let n = asking::open_refusal(tasks, cells);
+    let n = once_questions::open_refusal(tasks, cells);
     if n != 0 {
         return OnceReply {
             state: s,
             progress: Progress::Declined(n),
         };
     }
-    let r = offers::idle();
+    let r = once_turn::idle();
     let m = offers::fresh_cell();
     s.tasks = tasks;
     s.cells = cells;
@@ -45,8 +43,8 @@ pub fn begin_offer(mut s: OnceState, task: u32, cell: u32, value: u32) -> OnceRe
 {
     let t = task as usize;
     let k = cell as usize;
-    let fits = asking::is_fit(s);
-    let n = asking::place_refusal(fits, s.tasks, s.cells, task, cell);
+    let fits = once_questions::is_fit(s);
+    let n = once_questions::place_refusal(fits, s.tasks, s.cells, task, cell);
     if n != 0 {
         return OnceReply {
             state: s,
@@ -56,7 +54,7 @@ pub fn begin_offer(mut s: OnceState, task: u32, cell: u32, value: u32) -> OnceRe
     // Only now are there an offer and a cell to ask about.
     let r = s.offers[t];
     let mut m = s.words[k];
-    let i = asking::offer_refusal(r, m.offered[t], value);
+    let i = once_questions::offer_refusal(r, m.offered[t], value);
     if i != 0 {
         return OnceReply {
             state: s,
@@ -77,8 +75,8 @@ pub fn step(mut s: OnceState, task: u32) -> OnceReply
     ensures { λ r. ⌜ onceAfter (r .state) (given (r .progress)) ≡ onceStepped s task ⌝ }
 {
     let t = task as usize;
-    let fits = asking::is_fit(s);
-    let n = asking::task_refusal(fits, s.tasks, task);
+    let fits = once_questions::is_fit(s);
+    let n = once_questions::task_refusal(fits, s.tasks, task);
     if n != 0 {
         return OnceReply {
             state: s,
@@ -94,7 +92,7 @@ pub fn step(mut s: OnceState, task: u32) -> OnceReply
         };
     }
     let k = r.cell as usize;
-    let a = turn::take_turn(task, r, s.words[k]);
+    let a = once_turn::take_turn(task, r, s.words[k]);
     let m = a.cell;
     let q = a.offer;
     let progress = a.progress;

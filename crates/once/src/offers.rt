@@ -1,24 +1,10 @@
-// A task's offer, and the cell that an opening leaves.
+// A task's first offer, and the cell that an opening leaves.
 ghost use mathlib.Core.Path.{_≡_};
-ghost use Rattle.consensus.specs.Figure.{idleOffer};
 ghost use Rattle.consensus.specs.Questions.{freshCell};
 ghost use Rattle.consensus.specs.Entries.{firstOffer};
 use consensus::Offer;
 use consensus::OnceCell;
 use lines::records::NO_VALUE;
-
-// Of a task without a call.
-pub fn idle() -> Offer
-    ensures { λ r. ⌜ r ≡ idleOffer ⌝ }
-{
-    Offer {
-        line: 0,
-        cell: 0,
-        value: 0,
-        steps: 0,
-        tried: false,
-    }
-}
 
 // Of a task whose call begins.
 pub fn first(cell: u32, value: u32) -> Offer

@@ -15,11 +15,11 @@ use consensus::Progress;
 use libc::STDIN_FILENO;
 use libc::STDOUT_FILENO;
 use once::OnceReply;
+use readers::starts_with;
 use report::Input;
 use session_reader::items;
 use std::num::wrapping_add_u32;
 use text::Place;
-use text::starts_with;
 
 // PRINTING: false where it failed, which has been said
 

@@ -34,19 +34,19 @@ fn keyword(s: &[u8], at: usize) -> Word
     requires { ⌜ at ≤ length (now s) ⌝ }
     ensures { λ r. ⌜ KeywordIs (now (s .entry)) at r ⌝ }
 {
-    let read = text::starts_with(s, at, b"(read");
+    let read = readers::starts_with(s, at, b"(read");
     if let Place::At(next) = read {
         return Word::Known(1, 2, next);
     }
-    let swap = text::starts_with(s, at, b"(swap");
+    let swap = readers::starts_with(s, at, b"(swap");
     if let Place::At(next) = swap {
         return Word::Known(2, 4, next);
     }
-    let step = text::starts_with(s, at, b"(step");
+    let step = readers::starts_with(s, at, b"(step");
     if let Place::At(next) = step {
         return Word::Known(3, 1, next);
     }
-    let again = text::starts_with(s, at, b"(again");
+    let again = readers::starts_with(s, at, b"(again");
     if let Place::At(next) = again {
         return Word::Known(4, 1, next);
     }
@@ -236,7 +236,7 @@ fn line(s: &[u8], at: usize, forms: &mut [u32], f: usize, actions: &mut [u32], n
     let Got::At(a, over, g, m) = got else {
         return Got::Bad;
     };
-    let end = text::starts_with(s, a, b"\n");
+    let end = readers::starts_with(s, a, b"\n");
     let Place::At(next) = end else {
         return Got::Bad;
     };

@@ -12,7 +12,7 @@ pub fn space(s: &[u8], at: usize) -> Place
     requires { ⌜ at ≤ length (now s) ⌝ }
     ensures { λ r. ⌜ PlaceIs «spaceOf» (now (s .entry)) at 1 r ⌝ }
 {
-    text::starts_with(s, at, b" ")
+    readers::starts_with(s, at, b" ")
 }
 
 // A number after a space.
@@ -24,14 +24,14 @@ pub fn item(s: &[u8], at: usize) -> Numeral
     let Place::At(a) = gap else {
         return Numeral::Absent;
     };
-    text::number(s, a)
+    readers::number(s, a)
 }
 
 pub fn close(s: &[u8], at: usize) -> Place
     requires { ⌜ at ≤ length (now s) ⌝ }
     ensures { λ r. ⌜ PlaceIs «closeOf» (now (s .entry)) at 1 r ⌝ }
 {
-    text::starts_with(s, at, b")")
+    readers::starts_with(s, at, b")")
 }
 
 // Stores k numbers, each after a space, and nothing behind them. Where one is missing, the first k words are open.

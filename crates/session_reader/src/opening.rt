@@ -30,7 +30,7 @@ fn values(s: &[u8], at: usize, out: &mut [u32]) -> Listed
     if let Place::At(next) = shut {
         return Listed::Read(0, next);
     }
-    let first = text::number(s, at);
+    let first = readers::number(s, at);
     let Numeral::Read(v, a) = first else {
         return Listed::Wrong;
     };
@@ -57,7 +57,7 @@ fn lead(s: &[u8], out: &mut [u32]) -> Place
     requires { ⌜ 3 ≤ length (now out) ⌝ }
     ensures { λ r. ⌜ LeadIs (now (s .entry)) (now (out .exit)) r ⌝ }
 {
-    let word = text::starts_with(s, 0, b"(open");
+    let word = readers::starts_with(s, 0, b"(open");
     let Place::At(a) = word else {
         return Place::Nowhere;
     };
@@ -65,7 +65,7 @@ fn lead(s: &[u8], out: &mut [u32]) -> Place
     let Place::At(b) = three else {
         return Place::Nowhere;
     };
-    text::starts_with(s, b, b" (")
+    readers::starts_with(s, b, b" (")
 }
 
 pub fn opening(s: &[u8], out: &mut [u32]) -> Opened
@@ -82,7 +82,7 @@ pub fn opening(s: &[u8], out: &mut [u32]) -> Opened
     let Listed::Read(count, d) = read else {
         return Opened::Wrong;
     };
-    let end = text::starts_with(s, d, b")\n");
+    let end = readers::starts_with(s, d, b")\n");
     let Place::At(next) = end else {
         return Opened::Wrong;
     };

@@ -1,6 +1,6 @@
 // Writes the session that is drawn from a seed: shake SEED N V B LENGTH.
+use buffers::session_space;
 use libc::STDOUT_FILENO;
-use shaker::session_space;
 
 fn main() {
     let mut n = [0u32; 5];

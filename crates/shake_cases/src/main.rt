@@ -3,12 +3,12 @@
 ghost use mathlib.Core.Path.{_≡_};
 ghost use Prim.Native.Nat.{_≤_, _<_};
 ghost use lib.ListN.{length};
+use buffers::session_space;
 use case_files::read_case;
 use libc::STDOUT_FILENO;
+use readers::starts_with;
 use session_reader::items;
-use shaker::session_space;
 use text::Place;
-use text::starts_with;
 
 // False where it failed, which has been said.
 fn print(text: &[u8]) -> bool {

@@ -1,8 +1,8 @@
 // Draws a session, as shake does, and runs it, as the session program does: shaken_session SEED N V B LENGTH.
+use buffers::session_space;
 use buffers::text_space;
 use libc::STDOUT_FILENO;
 use session_runner::run_session;
-use shaker::session_space;
 
 fn main() {
     let mut n = [0u32; 5];

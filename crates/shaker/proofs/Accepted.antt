@@ -20,8 +20,9 @@ use Rattle.cells.proofs.Acts.{read-acts, swap-acts, step-acts}
 use Rattle.refinement.specs.Reached.{Reached}
 use Rattle.refinement.proofs.Refines.{together}
 use Rattle.refinement.proofs.Reaching.{reached-next, reached-fit, reached-20}
-use Rattle.shaker.specs.Generator.{next, below}
-use Rattle.shaker.specs.Drawn.{Drawn, drawn, drawnBegin, drawnAction, drawnActions, startOf}
+use Rattle.generator.specs.Generator.{next, below}
+use Rattle.drawing.specs.Drawn.{Drawn, drawn, drawnBegin, drawnAction}
+use Rattle.shaker.specs.Actions.{drawnActions, startOf}
 use Rattle.shaker.specs.Shaken.{shakeQuestions, shakenActions}
 use Rattle.shaker.proofs.Writing.{below-lt}
 use Rattle.shaker.proofs.Allowed.{sizes-ok, start-reached}

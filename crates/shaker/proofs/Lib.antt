@@ -1,4 +1,3 @@
-mod Draws
 mod Acting
 mod Writing
 mod Starting

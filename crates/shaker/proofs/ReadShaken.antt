@@ -14,9 +14,9 @@ use Rattle.session_file.specs.Session.{act, session, verdict}
 use Rattle.session_file.specs.Written.{writtenValues, openingLine, formLine, formLines, fileText}
 use Rattle.session_file.specs.Proper.{Small, numbersOf, SmallActions, ProperOpening}
 use Rattle.session_file.proofs.WrittenRead.{actions-read}
-use Rattle.shaker.specs.Drawn.{drawnAction, drawnActions, startOf}
+use Rattle.drawing.specs.Drawn.{drawnAction}
+use Rattle.shaker.specs.Actions.{drawnActions, startOf, Short}
 use Rattle.shaker.specs.Shaken.{shakeQuestions, zeroOpening, shakenActions, sessionText, shaken}
-use Rattle.shaker.specs.Answers.{Short}
 use Rattle.shaker.proofs.Starting.{zeros-length, three-length}
 use Rattle.shaker.proofs.Writing.{written-short, short-drawn}
 use Rattle.shaker.proofs.Allowed.{sizes-ok}

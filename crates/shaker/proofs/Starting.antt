@@ -17,7 +17,7 @@ use Rattle.cells.specs.Machine.{Pool}
 use Rattle.session_file.specs.Session.{act}
 use Rattle.session_file.specs.Written.{writtenValues, openingLine, formLines, fileText}
 use Rattle.session_text.specs.Printed.{blank}
-use Rattle.shaker.specs.Drawn.{drawnActions, startOf}
+use Rattle.shaker.specs.Actions.{drawnActions, startOf}
 use Rattle.shaker.specs.Shaken.{zeroOpening, sessionText}
 use Rattle.shaker.proofs.Acting.{moves}
 

@@ -18,9 +18,9 @@ use Rattle.questions.specs.declared.State.{State}
 use Rattle.cells.specs.Machine.{Pool, pool}
 use Rattle.session_file.specs.Session.{act}
 use Rattle.session_file.specs.Written.{actionStart, written, formLine, formLines}
-use Rattle.shaker.specs.Generator.{next, below}
-use Rattle.shaker.specs.Drawn.{Drawn, drawn, drawnBegin, drawnAction, drawnActions}
-use Rattle.shaker.specs.Answers.{Short}
+use Rattle.generator.specs.Generator.{next, below}
+use Rattle.drawing.specs.Drawn.{Drawn, drawn, drawnBegin, drawnAction}
+use Rattle.shaker.specs.Actions.{drawnActions, Short}
 
 -- ROOM FOR ANY NUMBERS OF 32 BITS
 

@@ -1,7 +1,7 @@
--- Draws and sessions, computed.
+-- Sessions, computed.
 use mathlib.Core.Path.{_≡_, refl}
 use mathlib.Core.List.{List, [], _∷_}
-use Prim.Native.Nat.{ℕ, zero, suc}
+use Prim.Native.Nat.{ℕ}
 use Prim.Native.String.{String}
 use Rattle.text.specs.Bytes.{bytes, digits}
 use Rattle.text.specs.Lines.{numbers}
@@ -12,20 +12,10 @@ use Rattle.cells.specs.Counts.{recounted}
 use Rattle.cells.specs.Begin.{readBegun, swapBegun}
 use Rattle.cells.specs.Step.{ran, stepped}
 use Rattle.session_file.specs.Written.{written, writtenValues, openingLine, formLines, fileText}
-use Rattle.shaker.specs.Generator.{next, below}
-use Rattle.shaker.specs.Drawn.{drawnBegin, drawnAction, drawnActions, startOf}
+use Rattle.generator.specs.Generator.{next, below}
+use Rattle.drawing.specs.Drawn.{drawnBegin, drawnAction}
+use Rattle.shaker.specs.Actions.{drawnActions, startOf}
 use Rattle.shaker.specs.Shaken.{shakeQuestions, shaken}
-
--- the first k draws from a seed; a draw is below 65,536
-abbrev draws : (k seed : ℕ) → List ℕ
-draws zero g = []
-draws (suc k) g = below 65536 (next g) ∷ draws k (next g)
-
-first-draws :
-    (draws 8 0 ≡ 15470 ∷ 18256 ∷ 53708 ∷ 43769 ∷ 25170 ∷ 40750 ∷ 22526 ∷ 41945 ∷ [])
-    × (draws 8 1 ≡ 15496 ∷ 24200 ∷ 33046 ∷ 46195 ∷ 3312 ∷ 24216 ∷ 50774 ∷ 36450 ∷ [])
-unfolding next below
-first-draws = (refl, refl)
 
 -- five numbers, and what they print
 abbrev Shakes : List ((ℕ × ℕ × ℕ × ℕ × ℕ) × String) → Type 0

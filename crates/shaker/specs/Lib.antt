@@ -1,6 +1,4 @@
-pub mod Generator
-pub mod Drawn
+pub mod Actions
 pub mod Shaken
 pub mod Played
-pub mod Answers
 pub mod Examples

@@ -1,7 +1,5 @@
 // Sessions drawn from a seed.
 mod actions;
-mod drawing;
-mod generator;
 
 use lines::records::idle;
 use questions::State;
@@ -22,13 +20,6 @@ ghost use Rattle.shaker.specs.Shaken.{shakeQuestions, zeroOpening, sessi
 
 // As many bytes as a session may have; the longest that is drawn has fewer.
 const ROOM: usize = 65536;
-
-pub fn session_space() -> [u8; ROOM]
-    ensures { λ r. ⌜ r ≡ replicate 65536 0 ⌝ }
-    ensures { λ r. ⌜ 65536 ≡ length r ⌝ }
-{
-    [0; ROOM]
-}
 
 // The number of the first question answered no, or 0. With no values an opening is refused with 4 where it passes 1 to 3.
 fn refusal(tasks: u32, cells: u32, blocks: u32, count: u32) -> u32

@@ -13,7 +13,7 @@ use Rattle.questions.proofs.Refusals.{is-refused, is-allowed}
 use Rattle.consensus.specs.declared.OnceState.{OnceState}
 use Rattle.consensus.specs.Questions.{offerAt, onceAt, isIdleOffer, hasOffered}
 use Rattle.consensus.specs.Entries.{offerBegun}
-use Rattle.once.proofs.Further.{refused-first, asked-further}
+use Rattle.once_questions.proofs.Further.{refused-first, asked-further}
 use Rattle.once.proofs.Known.{ofPlace, known-place}
 use Rattle.once.proofs.Words.{zeroCell, cell-is}
 use Rattle.once.proofs.begin_offer.Statement.{statement}

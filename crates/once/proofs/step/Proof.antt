@@ -13,8 +13,8 @@ use Rattle.consensus.specs.declared.OnceState.{OnceState}
 use Rattle.consensus.specs.Questions.{offerAt, isIdleOffer}
 use Rattle.consensus.specs.Figure.{leaves}
 use Rattle.consensus.specs.Entries.{storedBack, onceStepped}
-use Rattle.once.proofs.Further.{refused-first, asked-further}
-use Rattle.once.proofs.Fits.{busy}
+use Rattle.once_questions.proofs.Further.{refused-first, asked-further}
+use Rattle.once_questions.proofs.Fits.{busy}
 use Rattle.once.proofs.Known.{ofTask, KnownTask, known-task}
 use Rattle.once.proofs.Words.{zeroCell, cell-is}
 use Rattle.once.proofs.step.Statement.{statement}

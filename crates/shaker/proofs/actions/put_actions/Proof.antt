@@ -8,8 +8,8 @@ use lib.ListN.{length}
 use Rattle.text.proofs.Toward.{Toward, toward-start, toward-more, toward-end}
 use Rattle.session_file.specs.Session.{act}
 use Rattle.session_file.specs.Written.{formLines}
-use Rattle.shaker.specs.Drawn.{Drawn, drawnActions}
-use Rattle.shaker.specs.Answers.{Short}
+use Rattle.drawing.specs.Drawn.{Drawn}
+use Rattle.shaker.specs.Actions.{drawnActions, Short}
 use Rattle.shaker.proofs.Writing.{short-drawn, one-line, no-line}
 use Rattle.shaker.proofs.actions.put_actions.Statement.{statement}
 use Rattle.shaker.proofs.actions.put_actions.Tie as tie

@@ -1,0 +1,26 @@
+-- The actions drawn one after another, and where they begin.
+use mathlib.Core.List.{List, [], _∷_}
+use Prim.Native.Nat.{ℕ, zero, suc, _<_}
+use lib.ListN.{replicate}
+use Rattle.history.specs.History.{read, swap, Action, begin, step}
+use Rattle.cells.specs.Open.{opened}
+use Rattle.cells.specs.Machine.{Pool, pool}
+use Rattle.session_text.specs.Printed.{blank, poolWords}
+use Rattle.drawing.specs.Drawn.{drawnAction}
+
+-- k actions, drawn as the cells go on from the state and pool x
+unfoldable pub drawnActions : (tasks cells k generator : ℕ) → Pool → List Action
+drawnActions n v zero g x = []
+drawnActions n v (suc k) g x =
+    let d = drawnAction n v (x .0) g in
+    d .action ∷ drawnActions n v k (d .generator) (pool x (d .action) .0)
+
+-- what the session's opening leaves, all values 0
+unfoldable pub startOf : (tasks cells blocks : ℕ) → Pool
+startOf n v b = let a = opened blank (replicate (poolWords b) 0) n v b (replicate v 0) in (a .state, a .pool)
+
+-- a drawn action's task and cell have at most two digits, its values one
+abbrev pub Short : Action → Type 0
+Short (begin t (read k)) = (t < 100) × (k < 100)
+Short (begin t (swap k e n)) = (t < 100) × (k < 100) × (e < 10) × (n < 10)
+Short (step t) = t < 100
