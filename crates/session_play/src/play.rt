@@ -77,7 +77,7 @@ fn put_cells(out: &mut [u8], at: usize, s: State, pool: &[u32], cells: u32) -> u
     let mut k = 0;
     let mut a = at;
     while k < cells {
-        let seen = entries::look(s, pool, k);
+        let seen = looks::look(s, pool, k);
         a = put_look(out, a, k, seen);
         k += 1;
     }

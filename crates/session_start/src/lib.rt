@@ -88,7 +88,7 @@ fn open_pool(
     ensures { λ r. ⌜ Opens (r .opening) (r .state) actions (now (pool .exit)) ⌝ }
 {
     let words = pool_words(blocks);
-    let first = entries::open(blank(), &mut pool[..words], tasks, cells, blocks, values);
+    let first = opening::open(blank(), &mut pool[..words], tasks, cells, blocks, values);
     let state = first.state;
     let outcome = first.outcome;
     Started {
