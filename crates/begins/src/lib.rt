@@ -5,11 +5,11 @@ ghost use Rattle.cells.specs.Open.{leaving};
 ghost use Rattle.cells.specs.Begin.{begun, readBegun, swapBegun};
 use cells::Outcome;
 use cells::Reply;
+use fitness::is_fit;
 use lines::Record;
 use lines::records;
 use questions::State;
 use refusals::begin_refusal;
-use fitness::is_fit;
 
 // The task's call begins with the record q.
 fn begin(mut s: State, pool: &[u32], task: u32, q: Record) -> Reply

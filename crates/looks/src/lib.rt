@@ -6,11 +6,11 @@ ghost use Rattle.pool.specs.Pool.{word};
 ghost use Rattle.cells.specs.Answers.{seen};
 ghost use Rattle.cells.specs.Look.{looked, shownValue};
 use cells::Looked;
+use fitness::is_fit;
 use lines::Field;
 use lines::records::NO_VALUE;
 use pool::memory::load;
 use questions::State;
-use fitness::is_fit;
 
 // What a read of the block would find.
 fn shown_value(pool: &[u32], block: u32) -> u32

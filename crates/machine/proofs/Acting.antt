@@ -7,7 +7,7 @@ use borrow.Author.Tests.{ne-eqb}
 use lib.ListN.{take, drop, getD}
 use lib.Seq.{getD-take, getD-drop}
 use Rattle.history.specs.History.{read, swap, begin, step}
-use Rattle.session_reader.specs.Reading.{actAt}
+use Rattle.session_reading.specs.Reading.{actAt}
 
 field : (l : List ℕ) (a j k : ℕ) → j < 4 → a + j ≡ k → getD (take 4 (drop a l)) j 0 ≡ getD l k 0
 field l a j k h e = getD-take 4 (drop a l) j 0 h ∙ getD-drop a l j 0 ∙ ap (λ (n : ℕ). getD l n 0) e

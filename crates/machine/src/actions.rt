@@ -2,7 +2,7 @@
 ghost use mathlib.Core.Path.{_≡_};
 ghost use Prim.Native.Nat.{_+_, _*_, _≤_};
 ghost use lib.ListN.{length};
-ghost use Rattle.session_reader.specs.Reading.{actAt};
+ghost use Rattle.session_reading.specs.Reading.{actAt};
 ghost use Rattle.history.specs.History.{taskOf};
 ghost use Rattle.machine.specs.Actions.{actOf};
 

@@ -1,10 +1,10 @@
 // What is noted beside the cells at each step, of the block that a task holds.
+use counting::is_holding;
 use lines::Record;
 use lines::records::NO_VALUE;
 use machine::places::record_at;
 use moments_notes::Own;
 use moments_notes::Sight;
-use counting::is_holding;
 ghost use mathlib.Core.Path.{_≡_};
 ghost use mathlib.Core.Bool.{true, _&&_, cond};
 ghost use Prim.Native.Nat.{ℕ, _+_, _≤_, _<_};

@@ -18,8 +18,8 @@ ghost use Rattle.machine.specs.Actions.{actOf};
 ghost use Rattle.pool.specs.Words.{recordsOf};
 ghost use Rattle.nudge_text.specs.Nudge.{after};
 ghost use Rattle.refinement.specs.Reached.{Reached};
-ghost use Rattle.session_reader.specs.Kept.{Named};
-ghost use Rattle.session_reader.specs.Reading.{actAt};
+ghost use Rattle.session_reading.specs.Kept.{Named};
+ghost use Rattle.session_reading.specs.Reading.{actAt};
 ghost use Rattle.nudge_calls.specs.Calls.{noteOf, begunBy, begunAfter, calls, noted as «notedOf», soughtOf};
 ghost use Rattle.nudge_calls.specs.Exchange.{stateWith};
 

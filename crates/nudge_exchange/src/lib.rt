@@ -19,8 +19,8 @@ ghost use Rattle.lines.specs.Answers.{answerOf};
 ghost use Rattle.nudge_text.specs.Exchange.{exchanged, movedTo};
 ghost use Rattle.nudge_text.specs.Nudge.{sameAnswer, answersStill, nudges, earliest};
 ghost use Rattle.refinement.specs.Reached.{Reached};
-ghost use Rattle.session_reader.specs.Kept.{Named};
-ghost use Rattle.session_reader.specs.Reading.{actAt};
+ghost use Rattle.session_reading.specs.Kept.{Named};
+ghost use Rattle.session_reading.specs.Reading.{actAt};
 ghost use Rattle.nudge_calls.specs.Calls.{calls, answerOfCall, Finishes, summaryOf};
 ghost use Rattle.nudge_calls.specs.Exchange.{stateWith, Fresh, tried, nudgeOf};
 

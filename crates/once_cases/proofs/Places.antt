@@ -7,7 +7,7 @@ use Rattle.text.specs.Readers.{Reader}
 use Rattle.text.specs.Answers.{PlaceIs}
 use Rattle.text.specs.declared.Place.{Place}
 use Rattle.text.specs.declared.Place.the-variants as place
-use Rattle.session_reader.specs.Answers.{NumbersAre}
+use Rattle.session_reading.specs.Answers.{NumbersAre}
 
 module _ (s : List ℕ) (at : ℕ) {r : Place} {next : ℕ} (e : r ≡ place.At next) where
   pub found : (p : Reader (Unit {0})) (m : ℕ) → PlaceIs p s at m r → (at + m ≤ next) × (next ≤ length s)

@@ -17,7 +17,6 @@ use libc::STDOUT_FILENO;
 use once::OnceReply;
 use readers::starts_with;
 use report::Input;
-use session_reader::items;
 use std::num::wrapping_add_u32;
 use text::Place;
 
@@ -85,7 +84,7 @@ fn read_numbers(s: &[u8], from: usize, form: usize) -> Line
     ensures { λ l. ⌜ (from ≤ l .next) × (l .next ≤ length (now (s .entry))) ⌝ }
 {
     let mut numbers = [0u32; 3];
-    let read = items::numbers(s, from, form, &mut numbers);
+    let read = session_items::numbers(s, from, form, &mut numbers);
     let Place::At(at) = read else {
         return bad(s.len());
     };

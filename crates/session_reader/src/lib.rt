@@ -1,25 +1,12 @@
 // Reads a session file: the first of questions 12 to 15 that is answered no, or the session.
-mod forms;
-pub mod items;
-mod opening;
-
+use session_reading::Got;
+use session_reading::Opened;
+use session_reading::Reading;
 ghost use mathlib.Core.Path.{_≡_};
 ghost use lib.ListN.{length};
 ghost use Rattle.session_file.specs.Session.{verdict};
-ghost use Rattle.session_reader.specs.Reading.{verdictOf, judged};
-ghost use Rattle.session_reader.specs.Kept.{Within, Left};
-
-pub enum Reading {
-    // The question's number; 0 for buffers of other sizes.
-    Bad(u32),
-    Session {
-        tasks: u32,
-        cells: u32,
-        blocks: u32,
-        values: usize,
-        actions: usize,
-    },
-}
+ghost use Rattle.session_reading.specs.Reading.{verdictOf, judged};
+ghost use Rattle.session_reading.specs.Kept.{Within, Left};
 
 // Words that a file can fill: a value takes at least 2 bytes, and a form of five words at least 8.
 const VALUES: usize = 32768;
@@ -42,12 +29,12 @@ fn read(file: &[u8], values: &mut [u32], kept: &mut [u32], actions: &mut [u32]) 
     if !session_shape::shaped(file) {
         return Reading::Bad(13);
     }
-    let first = opening::opening(file, values);
-    let opening::Opened::Read(tasks, cells, blocks, count, next) = first else {
+    let first = session_opening::opening(file, values);
+    let Opened::Read(tasks, cells, blocks, count, next) = first else {
         return Reading::Bad(14);
     };
-    let rest = forms::lines(file, next, kept, actions);
-    let forms::Got::At(_, over, _, n) = rest else {
+    let rest = session_forms::lines(file, next, kept, actions);
+    let Got::At(_, over, _, n) = rest else {
         return Reading::Bad(14);
     };
     if over {

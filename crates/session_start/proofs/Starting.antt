@@ -20,9 +20,9 @@ use Rattle.cells.specs.Machine.{Pool}
 use Rattle.cells.proofs.Acts.{acts-iff, open-acts}
 use Rattle.history.specs.History.{Action}
 use Rattle.session_file.specs.Session.{Verdict, bad, session, verdict}
-use Rattle.session_reader.specs.Reading.{judged}
-use Rattle.session_reader.specs.Kept.{Named}
-use Rattle.session_reader.proofs.Verdicts.{right-sizes}
+use Rattle.session_reading.specs.Reading.{judged}
+use Rattle.session_reading.specs.Kept.{Named}
+use Rattle.session_reading.proofs.Verdicts.{right-sizes}
 use Rattle.session_text.specs.Printed.{blank, poolWords}
 use Rattle.session_text.specs.Tools.{toolAfterOpen, toolText, toolPrinted, toolWithin}
 use Rattle.session_start.specs.Start.{Start, notOpened, ready, startAfter, startOf, toolStart, New, Opens, Ready}

@@ -11,8 +11,8 @@ use Rattle.cells.specs.Machine.{Pool}
 use Rattle.refinement.specs.Reached.{Reached}
 use Rattle.history.specs.History.{Action}
 use Rattle.session_file.specs.Session.{Verdict, bad, session}
-use Rattle.session_reader.specs.Reading.{actAt}
-use Rattle.session_reader.specs.Kept.{Named}
+use Rattle.session_reading.specs.Reading.{actAt}
+use Rattle.session_reading.specs.Kept.{Named}
 use Rattle.session_text.specs.Printed.{openedBy}
 use Rattle.text.specs.Lines.{badLine}
 use Rattle.session_start.specs.declared.Opening.{Opening}

@@ -2,8 +2,8 @@
 use cells::Outcome;
 use lines::records::idle;
 use questions::State;
-use session_reader::Reading;
 use session_reader::read_session;
+use session_reading::Reading;
 ghost use mathlib.Core.Path.{_≡_};
 ghost use mathlib.Core.List.{List, map};
 ghost use Prim.Native.Nat.{ℕ, _≤_};
@@ -12,7 +12,7 @@ ghost use Rattle.questions.specs.declared.State.{State};
 ghost use Rattle.cells.specs.Answers.{said, Acted};
 ghost use Rattle.cells.specs.Open.{leaving, opened};
 ghost use Rattle.session_file.specs.Session.{verdict};
-ghost use Rattle.session_reader.specs.Reading.{actAt};
+ghost use Rattle.session_reading.specs.Reading.{actAt};
 ghost use Rattle.session_text.specs.Printed.{blank as «blankOf», poolWords};
 ghost use Rattle.session_start.specs.Start.{startAfter, startOf, startAt, New, Opens, Ready};
 

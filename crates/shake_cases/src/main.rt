@@ -7,7 +7,6 @@ use buffers::session_space;
 use case_files::read_case;
 use libc::STDOUT_FILENO;
 use readers::starts_with;
-use session_reader::items;
 use text::Place;
 
 // False where it failed, which has been said.
@@ -47,7 +46,7 @@ fn read_line(s: &[u8], at: usize) -> Line
         return bad(s.len());
     };
     let mut numbers = [0u32; 5];
-    let read = items::numbers(s, after, 5, &mut numbers);
+    let read = session_items::numbers(s, after, 5, &mut numbers);
     let Place::At(last) = read else {
         return bad(s.len());
     };

@@ -4,11 +4,11 @@ ghost use mathlib.Core.Bool.{true, cond};
 ghost use lib.ListN.{getD};
 ghost use Prim.Native.Nat.{_<_};
 ghost use Rattle.cells.specs.Counts.{less, released, renamed, recounted, Names, Named, Countable};
-use lines::Record;
 use counting::claim;
 use counting::count;
 use counting::is_holding;
 use counting::is_taking;
+use lines::Record;
 
 fn discount(counts: &mut [u8; 128], b: u32)
     requires { ⌜ (b < 128) × (0 < getD (now counts) b 0) ⌝ }

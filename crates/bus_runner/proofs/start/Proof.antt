@@ -1,5 +1,5 @@
 use mathlib.Core.List.{map}
-use Rattle.session_reader.specs.Reading.{actAt}
+use Rattle.session_reading.specs.Reading.{actAt}
 use Rattle.bus_calls.specs.Structs.{timesOf}
 use Rattle.bus_calls.proofs.Laws.{text-as, are-short, text-of-calls, text-of-refusal}
 use borrow.Author.Needs.{needs}

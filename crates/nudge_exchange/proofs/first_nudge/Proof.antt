@@ -9,7 +9,7 @@ use Rattle.cells.specs.Machine.{Pool}
 use Rattle.lines.specs.Answers.{answerOf}
 use Rattle.machine.specs.Places.{stateOf}
 use Rattle.refinement.proofs.Reaching.{reached-fit, reached-arrays}
-use Rattle.session_reader.specs.Reading.{actAt}
+use Rattle.session_reading.specs.Reading.{actAt}
 use Rattle.nudge_text.specs.Nudge.{nudges, earliest}
 use Rattle.nudge_calls.specs.Calls.{summaryOf}
 use Rattle.nudge_calls.specs.Exchange.{stateWith}

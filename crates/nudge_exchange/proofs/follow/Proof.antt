@@ -13,7 +13,7 @@ use Rattle.machine.specs.Actions.{actOf}
 use Rattle.machine.proofs.Turning.{reached-then}
 use Rattle.refinement.specs.Reached.{Reached}
 use Rattle.refinement.proofs.Reaching.{reached-fit, reached-arrays}
-use Rattle.session_reader.specs.Reading.{actAt}
+use Rattle.session_reading.specs.Reading.{actAt}
 use Rattle.nudge_text.specs.Exchange.{exchanged}
 use Rattle.nudge_calls.specs.Calls.{calls, answerOfCall}
 use Rattle.nudge_calls.specs.Exchange.{stateWith}

@@ -5,7 +5,7 @@ use lib.Seq.{length-take-le}
 use borrow.Author.Needs.{needs}
 use Rattle.lines.specs.Answers.{answerOf}
 use Rattle.machine.proofs.Turning.{reached-small}
-use Rattle.session_reader.specs.Reading.{actAt}
+use Rattle.session_reading.specs.Reading.{actAt}
 use Rattle.nudge_calls.specs.Exchange.{stateWith}
 use Rattle.nudge_calls.proofs.Steps.{tried-apart, tried-close, reached-words}
 use Rattle.nudge_exchange.proofs.try_exchange.Statement.{statement}

@@ -12,7 +12,7 @@ use Rattle.cells.specs.Machine.{pool as machine}
 use Rattle.history.specs.History.{history}
 use Rattle.lines.specs.Answers.{answerOf}
 use Rattle.machine.proofs.Placing.{idle-places, places-length}
-use Rattle.session_reader.specs.Reading.{actAt}
+use Rattle.session_reading.specs.Reading.{actAt}
 use Rattle.nudge_text.specs.Nudge.{after, nudges, earliest, nudgeLine}
 use Rattle.nudge_calls.specs.Calls.{calls, summaryOf, soughtOf}
 use Rattle.nudge_runner.proofs.Naming.{sought-none, sought-finishes, sought-nudge, fresh-as, fresh-reached}

@@ -3,7 +3,7 @@ use native.Mathlib.Omega.{arith}
 use lib.Seq.{length-take-le}
 use borrow.Author.Needs.{needs}
 use Rattle.text.specs.Append.{Appended}
-use Rattle.session_reader.specs.Reading.{actAt}
+use Rattle.session_reading.specs.Reading.{actAt}
 use Rattle.nudge_runner.proofs.Naming.{new-fresh, too-many, few-enough}
 use Rattle.nudge_runner.proofs.print.Statement.{statement}
 use Rattle.nudge_runner.proofs.print.Tie as tie

@@ -1,14 +1,14 @@
 use borrow.Author.Needs.{needs}
 use native.Mathlib.Omega.{arith}
-use Rattle.session_reader.proofs.Verdicts.{opened-at, opened-no, is-12, is-13, unopened, unformed, is-15, is-session}
-use Rattle.session_reader.proofs.Walks.{got-at, got-no}
-use Rattle.session_reader.proofs.Standing.{whole, spilled}
-use Rattle.session_reader.proofs.Keeping.{stands-named, stands-grows}
+use Rattle.session_reading.proofs.Verdicts.{opened-at, opened-no, is-12, is-13, unopened, unformed, is-15, is-session}
+use Rattle.session_reading.proofs.Walks.{got-at, got-no}
+use Rattle.session_reading.proofs.Standing.{whole, spilled}
+use Rattle.session_reading.proofs.Keeping.{stands-named, stands-grows}
 use Rattle.session_shape.specs.Shape as shape
 use Rattle.session_file.specs.Session as specs
-use Rattle.session_reader.specs.Answers.{OpenedIs, GotIs}
-use Rattle.session_reader.specs.declared.opening.Opened.the-variants as opened
-use Rattle.session_reader.specs.declared.forms.Got.the-variants as got
+use Rattle.session_reading.specs.Answers.{OpenedIs, GotIs}
+use Rattle.session_reading.specs.declared.Opened.the-variants as opened
+use Rattle.session_reading.specs.declared.Got.the-variants as got
 use lib.ListN.{length, length-take}
 use borrow.Author.Tests.{not-true, not-false}
 use Prim.Native.Nat.{ℕ, _*_, _≤_, _<_}

@@ -6,7 +6,7 @@ use lib.ListN.{length, take}
 use lib.Seq.{length-take-le}
 use borrow.Author.Needs.{needs}
 use Rattle.cells.specs.Open.{After}
-use Rattle.session_reader.specs.Reading.{actAt}
+use Rattle.session_reading.specs.Reading.{actAt}
 use Rattle.session_start.specs.Start.{startAfter}
 use Rattle.session_start.proofs.Starting.{new-length, opens, newly}
 use Rattle.session_start.proofs.open_pool.Statement.{statement}

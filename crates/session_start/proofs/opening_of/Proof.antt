@@ -3,7 +3,7 @@ use mathlib.Core.List.{map}
 use lib.ListN.{take}
 use borrow.Author.Needs.{needs}
 use Rattle.cells.specs.Answers.{said}
-use Rattle.session_reader.specs.Reading.{actAt}
+use Rattle.session_reading.specs.Reading.{actAt}
 use Rattle.session_start.proofs.Starting.{on-refused, on-acted, on-ended}
 use Rattle.session_start.proofs.opening_of.Statement.{statement}
 use Rattle.session_start.proofs.opening_of.Tie as tie

@@ -4,7 +4,7 @@ use native.Mathlib.Omega.{arith}
 use Rattle.text.specs.Bytes.{bytes}
 use Rattle.text.specs.Readers.{word}
 use Rattle.text.proofs.Reading.{place-at}
-use Rattle.session_reader.specs.Answers.{NumbersAre}
+use Rattle.session_reading.specs.Answers.{NumbersAre}
 use borrow.Author.Needs.{needs}
 use Rattle.shake_cases.proofs.read_line.Statement.{statement}
 use Rattle.shake_cases.proofs.read_line.Tie as tie

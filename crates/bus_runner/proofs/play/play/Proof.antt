@@ -11,7 +11,7 @@ use Rattle.refinement.specs.Reached.{Reached}
 use Rattle.refinement.proofs.Reaching.{reached-fit, reached-arrays}
 use Rattle.cells.specs.Answers.{said}
 use Rattle.history.specs.History.{Report}
-use Rattle.session_reader.specs.Reading.{actAt}
+use Rattle.session_reading.specs.Reading.{actAt}
 use Rattle.machine.specs.Actions.{actOf}
 use Rattle.machine.specs.Places.{wholeOf}
 use Rattle.machine.proofs.Placing.{idle-places}

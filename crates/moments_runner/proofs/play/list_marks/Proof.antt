@@ -12,7 +12,7 @@ use Rattle.cells.specs.Answers.{said}
 use Rattle.history.specs.History.{Action}
 use Rattle.refinement.specs.Reached.{Reached}
 use Rattle.refinement.proofs.Reaching.{reached-fit, reached-arrays}
-use Rattle.session_reader.specs.Reading.{actAt}
+use Rattle.session_reading.specs.Reading.{actAt}
 use Rattle.machine.specs.Actions.{actOf}
 use Rattle.machine.specs.Places.{wholeOf}
 use Rattle.machine.proofs.Placing.{records-length, idle-places}

@@ -1,7 +1,7 @@
 use borrow.Author.Needs.{needs}
 use native.Mathlib.Omega.{arith}
 use mathlib.Core.List.{map}
-use Rattle.session_reader.specs.Reading.{actAt}
+use Rattle.session_reading.specs.Reading.{actAt}
 use Rattle.machine.proofs.Placing.{places-length}
 use Rattle.moments_runner.proofs.Starting.{printed}
 use Rattle.moments_runner.proofs.play.play.Statement.{statement}

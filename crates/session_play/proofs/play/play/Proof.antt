@@ -10,7 +10,7 @@ use Rattle.pool.specs.Words.{recordsOf}
 use Rattle.questions.specs.declared.State.{State}
 use Rattle.refinement.specs.Reached.{Reached}
 use Rattle.refinement.proofs.Reaching.{reached-fit, reached-arrays}
-use Rattle.session_reader.specs.Reading.{actAt}
+use Rattle.session_reading.specs.Reading.{actAt}
 use Rattle.session_text.specs.Printed.{totals, played}
 use Rattle.session_play.specs.Loop.{playedOn, Few}
 use Rattle.machine.specs.Actions.{actOf}

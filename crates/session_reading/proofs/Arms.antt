@@ -1,0 +1,85 @@
+-- What an arm of a match on an answer knows, and the readers that follow one another in a form's head and in open.
+use mathlib.Core.Path.{_≡_, subst}
+use mathlib.Core.List.{List}
+use mathlib.Core.Option.{none}
+use Prim.Native.Nat.{ℕ, _*_, _≤_}
+use native.Mathlib.Omega.{arith}
+use lib.ListN.{take, drop, getD}
+use lib.Seq.{getD-take}
+use Rattle.text.specs.Bytes.{bytes}
+use Rattle.text.specs.Readers.{Reads, word}
+use Rattle.text.specs.Answers.{PlaceIs}
+use Rattle.text.specs.declared.Place.{Place}
+use Rattle.text.specs.declared.Place.the-variants as place
+use Rattle.session_file.specs.Session.{Kind, reading, swapping, stepping, repeating, arity, keyword, head, numbers, values, opening}
+use Rattle.session_reading.specs.Answers.{kindNumber, KeywordIs, NumbersAre, ValuesAre, Led, LeadIs}
+use Rattle.session_reading.specs.declared.Word.{Word}
+use Rattle.session_reading.specs.declared.Word.the-variants as key
+use Rattle.session_reading.specs.declared.Listed.{Listed}
+use Rattle.session_reading.specs.declared.Listed.the-variants as listed
+
+module _ (s : List ℕ) (at : ℕ) where
+  pub keyword-at : {r : Word} {n k next : ℕ} → r ≡ key.Known n k next → KeywordIs s at r → (kind : Kind) × (n ≡ kindNumber kind) × (k ≡ arity kind) × Reads keyword s at 5 kind next
+  keyword-at q x = subst (KeywordIs s at) q x
+
+  pub keyword-no : {r : Word} → r ≡ key.Unknown → KeywordIs s at r → keyword (drop at s) ≡ none
+  keyword-no q x = subst (KeywordIs s at) q x
+
+  pub numbers-at : (k : ℕ) (out : List ℕ) {r : Place} {next : ℕ} → r ≡ place.At next → NumbersAre s at k out r → Reads (numbers k) s at (2 * k) (take k out) next
+  numbers-at k out q x = subst (NumbersAre s at k out) q x
+
+  pub numbers-no : (k : ℕ) (out : List ℕ) {r : Place} → r ≡ place.Nowhere → NumbersAre s at k out r → numbers k (drop at s) ≡ none
+  numbers-no k out q x = subst (NumbersAre s at k out) q x
+
+  pub values-at : (out : List ℕ) {r : Listed} {n next : ℕ} → r ≡ listed.Read n next → ValuesAre s at out r → Reads values s at 1 (take n out) next
+  values-at out q x = subst (ValuesAre s at out) q x
+
+  pub values-no : (out : List ℕ) {r : Listed} → r ≡ listed.Wrong → ValuesAre s at out r → values (drop at s) ≡ none
+  values-no out q x = subst (ValuesAre s at out) q x
+
+pub few-numbers : (k : Kind) → (1 ≤ arity k) × (arity k ≤ 4)
+few-numbers reading = (omega arith, omega arith)
+few-numbers swapping = (omega arith, omega arith)
+few-numbers stepping = (omega arith, omega arith)
+few-numbers repeating = (omega arith, omega arith)
+
+-- a form's word, and then its numbers
+module _ (s : List ℕ) (at : ℕ) {kind : Kind} {a : ℕ} (x : Reads keyword s at 5 kind a) where
+  pub head-no : numbers (arity kind) (drop a s) ≡ none → head (drop at s) ≡ none
+  unfolding head
+  head-no e = rw (x .finds, e)
+
+  pub head-at : {l : List ℕ} {next : ℕ} → Reads (numbers (arity kind)) s a (2 * arity kind) l next → Reads head s at 7 (kind, l) next
+  unfolding head
+  head-at y = record { finds = rw (x .finds, y .finds); past = omega (arith, x .past, y .past, few-numbers kind .0); within = y .within }
+
+-- the parts of open, one after another
+module _ (s n : List ℕ) where
+  pub lead-at : {r : Place} {next : ℕ} → r ≡ place.At next → LeadIs s n r → Led s n next
+  lead-at q x = subst (LeadIs s n) q x
+
+  pub lead-no : {r : Place} → r ≡ place.Nowhere → LeadIs s n r → opening s ≡ none
+  lead-no q x = subst (LeadIs s n) q x
+
+  pub lead-ends : {a b : ℕ} → Reads (word (bytes "(open")) s 0 5 tt a → Reads (numbers 3) s a 6 (take 3 n) b → (r : Place) → PlaceIs (word (bytes " (")) s b 2 r → LeadIs s n r
+  unfolding opening
+  lead-ends x y place.Nowhere e = rw (x .finds, y .finds, e)
+  lead-ends {a} {b} x y (place.At next) z = record { a = a; b = b; opens = x; three = y; starts = z }
+
+  module _ {c : ℕ} (x : Led s n c) where
+    pub values-wrong : values (drop c s) ≡ none → opening s ≡ none
+    unfolding opening
+    values-wrong e = rw (x .opens .finds, x .three .finds, x .starts .finds, e)
+
+    module _ {d : ℕ} {v : List ℕ} (y : Reads values s c 1 v d) where
+      pub end-wrong : word (bytes ")\n") (drop d s) ≡ none → opening s ≡ none
+      unfolding opening
+      end-wrong e = rw (x .opens .finds, x .three .finds, x .starts .finds, y .finds, e)
+
+      pub opening-at : {e : ℕ} → Reads (word (bytes ")\n")) s d 2 tt e → Reads opening s 0 0 (record { tasks = getD n 0 0; cells = getD n 1 0; blocks = getD n 2 0; values = v }) e
+      unfolding opening
+      opening-at z = record {
+        finds = rw (x .opens .finds, x .three .finds, x .starts .finds, y .finds, z .finds, getD-take 3 n 0 0 (omega arith), getD-take 3 n 1 0 (omega arith), getD-take 3 n 2 0 (omega arith));
+        past = omega arith;
+        within = z .within;
+      }

@@ -1,0 +1,72 @@
+-- The cases of a form, at a place of the text.
+use mathlib.Core.Path.{_≡_, refl, sym, ap, subst, _∙_}
+use mathlib.Core.List.{List}
+use mathlib.Core.Option.{none}
+use Prim.Native.Nat.{ℕ, zero, suc, _-_}
+use native.Mathlib.Omega.{arith}
+use lib.ListN.{take, drop, getD}
+use lib.Seq.{getD-take}
+use Rattle.text.specs.Readers.{Reader, Reads, pure, _>>=_, _>>_}
+use Rattle.session_file.specs.Session.{Kind, reading, swapping, stepping, repeating, arity, head, close, Form, Forms, act, again, body, list, form, actions, actionsOf, times}
+use Rattle.session_reading.specs.Reading.{acted}
+use Rattle.session_reading.specs.Answers.{kindNumber, HeadIs}
+use Rattle.session_reading.specs.declared.Start.{Start}
+use Rattle.session_reading.specs.declared.Start.the-variants as start
+use Rattle.session_reading.proofs.Repeated.{times-none}
+
+pub head-at : (s : List ℕ) (at : ℕ) (out : List ℕ) {r : Start} {n next : ℕ} → r ≡ start.Known n next → HeadIs s at out r → (kind : Kind) × (n ≡ kindNumber kind) × Reads head s at 7 (kind, take (arity kind) out) next
+head-at s at out q x = subst (HeadIs s at out) q x
+
+pub head-no : (s : List ℕ) (at : ℕ) (out : List ℕ) {r : Start} → r ≡ start.Unknown → HeadIs s at out r → head (drop at s) ≡ none
+head-no s at out q x = subst (HeadIs s at out) q x
+
+-- again c makes its forms' actions c times
+pub actions-again : (c : ℕ) (l : Forms) → actions (again c l) ≡ times c (actionsOf l)
+unfolding actions
+actions-again zero l = sym (times-none (actionsOf l))
+actions-again (suc c) l = refl
+
+again-body : (k : Kind) (out : List ℕ) (inner : Reader Forms) → kindNumber k ≡ 4 → body inner k (take (arity k) out) ≡ (inner >>= λ l. pure (again (getD out 0 0) l))
+unfolding body
+again-body reading out inner e = absurd (let z : _≡_ {A = ℕ} 0 1 = omega arith in omega arith)
+again-body swapping out inner e = absurd (omega arith)
+again-body stepping out inner e = absurd (omega arith)
+again-body repeating out inner e = rw (getD-take 1 out 0 0 (omega arith))
+
+act-body : (k : Kind) (out : List ℕ) (inner : Reader Forms) → (kindNumber k ≡ 4 → ⊥) → body inner k (take (arity k) out) ≡ (close >> pure (act (acted (kindNumber k) out)))
+unfolding body
+act-body reading out inner e = rw (getD-take 2 out 0 0 (omega arith), getD-take 2 out 1 0 (omega arith))
+act-body swapping out inner e = rw (getD-take 4 out 0 0 (omega arith), getD-take 4 out 1 0 (omega arith), getD-take 4 out 2 0 (omega arith), getD-take 4 out 3 0 (omega arith))
+act-body stepping out inner e = rw (getD-take 1 out 0 0 (omega arith))
+act-body repeating out inner e = absurd (e refl)
+
+pub form-none : (d : ℕ) (t : List ℕ) → d ≡ 0 → form d t ≡ none
+unfolding form
+form-none d t e = rw e
+
+module _ (s : List ℕ) (at d : ℕ) (h : d ≡ 0 → ⊥) where
+  deep : d ≡ suc (d - 1)
+  deep = omega arith
+
+  pub form-no : head (drop at s) ≡ none → form d (drop at s) ≡ none
+  unfolding form
+  form-no e = ap (λ (i : ℕ). form i (drop at s)) deep ∙ rw e
+
+  module _ {k : Kind} (out : List ℕ) {a : ℕ} (x : Reads head s at 7 (k, take (arity k) out) a) where
+    goes : form d (drop at s) ≡ body (list (form (d - 1))) k (take (arity k) out) (drop a s)
+    unfolding form
+    goes = ap (λ (i : ℕ). form i (drop at s)) deep ∙ rw (x .finds)
+
+    module _ (e : kindNumber k ≡ 4) where
+      pub again-no : list (form (d - 1)) (drop a s) ≡ none → form d (drop at s) ≡ none
+      again-no f = goes ∙ rw (again-body k out (list (form (d - 1))) e, f)
+
+      pub again-at : {l : Forms} {next : ℕ} → Reads (list (form (d - 1))) s a 1 l next → Reads (form d) s at 8 (again (getD out 0 0) l) next
+      again-at y = record { finds = goes ∙ rw (again-body k out (list (form (d - 1))) e, y .finds); past = omega (arith, x .past, y .past); within = y .within }
+
+    module _ (e : kindNumber k ≡ 4 → ⊥) where
+      pub act-no : close (drop a s) ≡ none → form d (drop at s) ≡ none
+      act-no f = goes ∙ rw (act-body k out (list (form (d - 1))) e, f)
+
+      pub act-at : {next : ℕ} → Reads close s a 1 tt next → Reads (form d) s at 8 (act (acted (kindNumber k) out)) next
+      act-at y = record { finds = goes ∙ rw (act-body k out (list (form (d - 1))) e, y .finds); past = omega (arith, x .past, y .past); within = y .within }

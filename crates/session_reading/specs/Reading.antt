@@ -1,0 +1,30 @@
+-- What the reader answers, as a verdict.
+use mathlib.Core.Bool.{cond, _&&_}
+use mathlib.Core.List.{List, map}
+use Prim.Native.Nat.{ℕ, _+_, _*_}
+use lib.Dec.{eqb}
+use lib.ListN.{take, drop, getD}
+use Rattle.session_file.specs.Session.{Verdict, bad, session, verdict}
+use Rattle.history.specs.History.{Action, read, swap, step, begin}
+use Rattle.session_reading.specs.declared.Reading.{Reading}
+use Rattle.session_reading.specs.declared.Reading.the-variants as reading
+
+-- an action by its kind, 1 read, 2 swap, 3 step, and its numbers
+abbrev pub acted : ℕ → List ℕ → Action
+acted kind n =
+    cond (eqb kind 1) (begin (getD n 0 0) (read (getD n 1 0)))
+    (cond (eqb kind 2) (begin (getD n 0 0) (swap (getD n 1 0) (getD n 2 0) (getD n 3 0)))
+    (step (getD n 0 0)))
+
+-- form i of a table of five words each
+unfoldable pub actAt : List ℕ → ℕ → Action
+actAt table i = acted (getD table (5 * i) 0) (take 4 (drop (5 * i + 1) table))
+
+abbrev pub verdictOf : Reading → (values forms actions : List ℕ) → Verdict
+verdictOf (reading.Bad n) v f a = bad n
+verdictOf (reading.Session t c b i n) v f a =
+    session (record { tasks = t; cells = c; blocks = b; values = take i v }) (map (actAt f) (take n a))
+
+-- buffers of other sizes: 0, the number of no question
+unfoldable pub judged : (values forms actions : ℕ) → List ℕ → Verdict
+judged v f a s = cond (eqb v 32768 && (eqb f 40960 && eqb a 65535)) (verdict s) (bad 0)
