@@ -22,9 +22,9 @@ use Rattle.refinement.proofs.Refines.{together}
 use Rattle.refinement.proofs.Reaching.{reached-next, reached-fit, reached-20}
 use Rattle.generator.specs.Generator.{next, below}
 use Rattle.drawing.specs.Drawn.{Drawn, drawn, drawnBegin, drawnAction}
-use Rattle.shaker.specs.Actions.{drawnActions, startOf}
+use Rattle.shaken_actions.specs.Actions.{drawnActions, startOf}
 use Rattle.shaker.specs.Shaken.{shakeQuestions, shakenActions}
-use Rattle.shaker.proofs.Writing.{below-lt}
+use Rattle.shaken_actions.proofs.Writing.{below-lt}
 use Rattle.shaker.proofs.Allowed.{sizes-ok, start-reached}
 
 -- the sizes stay those of the opening

@@ -14,7 +14,7 @@ use Rattle.questions.proofs.Tests.{all-yes, nth}
 use Rattle.cells.specs.Answers.{Acted}
 use Rattle.cells.specs.Open.{opened}
 use Rattle.session_text.specs.Printed.{blank, poolWords}
-use Rattle.shaker.specs.Actions.{startOf}
+use Rattle.shaken_actions.specs.Actions.{startOf}
 use Rattle.shaker.specs.Shaken.{shakeQuestions}
 use Rattle.shaker.proofs.Shaking.{sizes}
 use Rattle.refinement.specs.Reached.{Reached}

@@ -1,5 +1,3 @@
-mod Acting
-mod Writing
 mod Starting
 mod Shaking
 pub mod Allowed

@@ -17,9 +17,9 @@ use Rattle.cells.specs.Machine.{Pool}
 use Rattle.session_file.specs.Session.{act}
 use Rattle.session_file.specs.Written.{writtenValues, openingLine, formLines, fileText}
 use Rattle.session_text.specs.Printed.{blank}
-use Rattle.shaker.specs.Actions.{drawnActions, startOf}
+use Rattle.shaken_actions.specs.Actions.{drawnActions, startOf}
 use Rattle.shaker.specs.Shaken.{zeroOpening, sessionText}
-use Rattle.shaker.proofs.Acting.{moves}
+use Rattle.shaken_actions.proofs.Acting.{moves}
 
 -- A PART OF MANY ZEROS
 

@@ -14,7 +14,7 @@ use Rattle.cells.specs.Step.{ran, stepped}
 use Rattle.session_file.specs.Written.{written, writtenValues, openingLine, formLines, fileText}
 use Rattle.generator.specs.Generator.{next, below}
 use Rattle.drawing.specs.Drawn.{drawnBegin, drawnAction}
-use Rattle.shaker.specs.Actions.{drawnActions, startOf}
+use Rattle.shaken_actions.specs.Actions.{drawnActions, startOf}
 use Rattle.shaker.specs.Shaken.{shakeQuestions, shaken}
 
 -- five numbers, and what they print

@@ -11,7 +11,7 @@ use Rattle.questions.specs.Questions.{Question, refusal, tasksOk, cellsOk, bloc
 use Rattle.text.specs.Lines.{badLine}
 use Rattle.session_file.specs.Session.{Opening, act}
 use Rattle.session_file.specs.Written.{fileText}
-use Rattle.shaker.specs.Actions.{drawnActions, startOf}
+use Rattle.shaken_actions.specs.Actions.{drawnActions, startOf}
 
 -- document 01's questions on N, V and B, whose pool has five words for each block; then 17. Is the length 1 to 3,000 actions?
 unfoldable pub shakeQuestions : (tasks cells blocks length : ℕ) → List Question

@@ -1,9 +1,9 @@
 use native.Mathlib.Omega.{arith}
 use Rattle.history.specs.History.{read, swap, begin, step}
-use Rattle.shaker.proofs.Writing.{step-room, read-room, swap-room, puts}
+use Rattle.shaken_actions.proofs.Writing.{step-room, read-room, swap-room, puts}
 use borrow.Author.Needs.{needs}
-use Rattle.shaker.proofs.actions.put_action.Statement.{statement}
-use Rattle.shaker.proofs.actions.put_action.Tie as tie
+use Rattle.shaken_actions.proofs.put_action.Statement.{statement}
+use Rattle.shaken_actions.proofs.put_action.Tie as tie
 
 put-line-requires : tie.Need-put-line-requires
 put-line-requires c κs = let w = c .before .before .wide in let w2 = c .before .wide2 in omega (arith, read-room (w .result) (w2 .result) (w .ensures .1) (w2 .ensures .1))

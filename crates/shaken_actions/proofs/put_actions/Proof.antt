@@ -9,10 +9,10 @@ use Rattle.text.proofs.Toward.{Toward, toward-start, toward-more, toward-end}
 use Rattle.session_file.specs.Session.{act}
 use Rattle.session_file.specs.Written.{formLines}
 use Rattle.drawing.specs.Drawn.{Drawn}
-use Rattle.shaker.specs.Actions.{drawnActions, Short}
-use Rattle.shaker.proofs.Writing.{short-drawn, one-line, no-line}
-use Rattle.shaker.proofs.actions.put_actions.Statement.{statement}
-use Rattle.shaker.proofs.actions.put_actions.Tie as tie
+use Rattle.shaken_actions.specs.Actions.{drawnActions, Short}
+use Rattle.shaken_actions.proofs.Writing.{short-drawn, one-line, no-line}
+use Rattle.shaken_actions.proofs.put_actions.Statement.{statement}
+use Rattle.shaken_actions.proofs.put_actions.Tie as tie
 
 abbrev Inv-loop : tie.InvT-loop
 Inv-loop out₀ from pool₀ seed tasks cells count i₀ at₀ s₀ g₀ out pool i at s g =

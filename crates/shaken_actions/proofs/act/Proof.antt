@@ -1,7 +1,7 @@
-use Rattle.shaker.proofs.Acting.{moves}
+use Rattle.shaken_actions.proofs.Acting.{moves}
 use borrow.Author.Needs.{needs}
-use Rattle.shaker.proofs.actions.act.Statement.{statement}
-use Rattle.shaker.proofs.actions.act.Tie as tie
+use Rattle.shaken_actions.proofs.act.Statement.{statement}
+use Rattle.shaken_actions.proofs.act.Tie as tie
 
 returns : tie.Need-returns
 returns c = rw (c .before .before .before .before .a .given .1) (moves (c .before .begin-read .ensures))

@@ -8,7 +8,7 @@ ghost use Rattle.cells.specs.Machine.{pool as «machine»};
 ghost use Rattle.session_file.specs.Session.{act as «actForm»};
 ghost use Rattle.session_file.specs.Written.{formLine, formLines};
 ghost use Rattle.drawing.specs.Answers.{actionOf};
-ghost use Rattle.shaker.specs.Actions.{drawnActions, Short};
+ghost use Rattle.shaken_actions.specs.Actions.{drawnActions, Short};
 use drawing::Action;
 use drawing::draw_action;
 use questions::State;

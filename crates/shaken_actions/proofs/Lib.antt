@@ -1,0 +1,2 @@
+pub mod Acting
+pub mod Writing
