@@ -1,7 +1,6 @@
 pub mod Counted
 pub mod Arms
 pub mod Turns
-pub mod Listed
 pub mod Denoting
 pub mod Growing
 pub mod Standing

@@ -1,7 +1,7 @@
 use borrow.Author.Needs.{needs}
 use native.Mathlib.Omega.{arith}
 use lib.ListN.{length, take, drop, length-set}
-use Rattle.session_reading.proofs.Listed.{values-none, values-wrong, values-first}
+use Rattle.session_opening.proofs.Listed.{values-none, values-wrong, values-first}
 use Rattle.session_reading.proofs.Turns.{Turn, turn-start, turn-end, turn-stop, turn-more}
 use Rattle.session_file.specs.Session as specs
 use Rattle.text.proofs.Reading.{place-at, place-no, number-at, number-no}
