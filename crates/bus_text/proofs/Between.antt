@@ -14,7 +14,8 @@ use Rattle.questions.specs.Questions.{refusal, openQuestions}
 use Rattle.cells.specs.Machine.{pool}
 use Rattle.history.specs.Basics.{_∈_}
 use Rattle.history.specs.History.{Action, Report, history, callsOf}
-use Rattle.figure.specs.Paths.{count, Traced}
+use Rattle.figure_cell.specs.Paths.{count}
+use Rattle.figure.specs.Traces.{Traced}
 use Rattle.refinement.specs.Terms.{start}
 use Rattle.refinement.specs.Traces.{trace}
 use Rattle.refinement.proofs.Demand3.{cells-meet-demand-3}

@@ -6,7 +6,7 @@ use Prim.Native.Nat.{ℕ}
 use Rattle.history.specs.Basics.{upd}
 use Rattle.history.specs.History.{Op, Action, begin, step, Attempt, Report, Event, refused, accepted, answered, Call, FinishedCall, Calls, noCalls, called, advanced, closed, passed, enter, enterAll, callsOf, IsBusy, WellFormed}
 use Rattle.history.proofs.Basics.{upd-cases}
-use Rattle.figure.specs.Paths.{Traced, finishedReport, tracedReport}
+use Rattle.figure.specs.Traces.{Traced, finishedReport, tracedReport}
 use Rattle.bus_text.specs.Bus.{finishedCalls}
 use Rattle.bus_text.specs.Choices.{taskAndReport}
 

@@ -14,7 +14,7 @@ use Rattle.lines.specs.Basics.{ands}
 use Rattle.lines.specs.Record.{idle}
 use Rattle.lines.specs.Lines.{Line, accessAt, loads, stores, hardware}
 use Rattle.questions.proofs.Tests.{nth}
-use Rattle.figure.proofs.LineLaws.{loads-alike, stores-alike, hardware-alike}
+use Rattle.figure_cell.proofs.LineLaws.{loads-alike, stores-alike, hardware-alike}
 use Rattle.bus_text.specs.Bus.{PerKind, perKind, Times, ordered, down, up, total}
 use Rattle.bus_text.specs.Choices.{accesses, did, ofKind, sum, EachWithin, KindsWithin, byKind, Between}
 

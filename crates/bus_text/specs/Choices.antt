@@ -8,7 +8,8 @@ use Rattle.lines.specs.declared.Access.{Access}
 use Rattle.lines.specs.declared.Access.the-variants.{LoadCell, Load, Store, DecideCas, InstallCas, Allocate, Nothing}
 use Rattle.lines.specs.Record.{idle}
 use Rattle.lines.specs.Lines.{Line, accessAt, loads, stores, hardware}
-use Rattle.figure.specs.Paths.{count, Traced}
+use Rattle.figure_cell.specs.Paths.{count}
+use Rattle.figure.specs.Traces.{Traced}
 use Rattle.history.specs.History.{Action, Report, FinishedCall}
 use Rattle.cells.specs.Machine.{Pool}
 use Rattle.refinement.specs.Traces.{trace}

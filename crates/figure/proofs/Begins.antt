@@ -21,10 +21,10 @@ use Rattle.figure.specs.Figure.{World, withTask, opening, figure, firstO
 use Rattle.figure.specs.Moments.{Notes, nothingNoted, names, sees}
 use Rattle.figure.proofs.Records.{AllOnPath, OnPath, Accepted, not-idle, opening-on-path}
 use Rattle.figure.proofs.Tallies.{tallyOf}
-use Rattle.figure.proofs.Classes.{busy, stored, lies-in}
-use Rattle.figure.proofs.Invariant.{none, View, Knowledge, line, Inv}
-use Rattle.figure.proofs.Frame.{moved, Mine, quiet}
-use Rattle.figure.proofs.Looking.{off, idle-task, settled≢late}
+use Rattle.figure_cell.proofs.Classes.{busy, stored, lies-in}
+use Rattle.figure_cell.proofs.Invariant.{none, View, Knowledge, line, Inv}
+use Rattle.figure_cell.proofs.Frame.{moved, Mine, quiet}
+use Rattle.figure_cell.proofs.Looking.{off, idle-task, settled≢late}
 use Rattle.figure.proofs.Views.{on, on-idle, on-changed, on-elsewhere, view, placed-changed}
 use Rattle.figure.proofs.Worlds.{Good, doingIn, clock, known, knows-more, doing-on}
 

@@ -20,20 +20,21 @@ use Rattle.history.specs.Moments.{before, after, C3, C4, Rule, Spot, changes}
 use Rattle.history.proofs.Basics.{either, upd-at, upd-same, upd-off, upd-cases}
 use Rattle.history.proofs.Simulation as Sim
 use Rattle.history.proofs.Simulation.{Phase, settled, frozen, late, Ghost, unplaced, Tally, Why, Sided, Named}
-use Rattle.figure.specs.Figure.{Cell, World, withTask, recordAfter, accessCell, figureAnswers, triedIn, figure}
+use Rattle.figure_cell.specs.Memory.{Cell, accessCell}
+use Rattle.figure.specs.Figure.{World, withTask, recordAfter, figureAnswers, triedIn, figure}
 use Rattle.figure.specs.Moments.{Notes, nothingNoted, noted, Sight, holdsBlock, sees, names, at, effect, lineC6, rules, ruleAt, ruled, stands}
 use Rattle.history.proofs.ListTests.{both, every, by-test}
-use Rattle.figure.proofs.LineLaws.{every-line, lines, same, same-is, extends, Leads, goes, done}
-use Rattle.figure.proofs.LineLaws as Laws
+use Rattle.figure_cell.proofs.LineLaws.{every-line, lines, same, same-is, extends, Leads, goes, done}
+use Rattle.figure_cell.proofs.LineLaws as Laws
 use Rattle.figure.proofs.Records.{Pending, led}
-use Rattle.figure.proofs.AsBegun.{cell-of}
+use Rattle.figure_cell.proofs.AsBegun.{cell-of}
 use Rattle.lines.specs.Record.{opOf}
 use Rattle.figure.proofs.Tallies.{doing}
-use Rattle.figure.proofs.Classes.{is, figureLine, busy, holding, swapping, stored, storing, replacing, lies-in, are-apart}
-use Rattle.figure.proofs.Invariant.{View, Knowledge, Owner, TaskOf, line, held}
-use Rattle.figure.proofs.Looking.{settled≢late, active-settled}
+use Rattle.figure_cell.proofs.Classes.{is, figureLine, busy, holding, swapping, stored, storing, replacing, lies-in, are-apart}
+use Rattle.figure_cell.proofs.Invariant.{View, Knowledge, Owner, TaskOf, line, held}
+use Rattle.figure_cell.proofs.Looking.{settled≢late, active-settled}
 use Rattle.figure.proofs.Notes.{cond-true, cond-false, with, equal, holds-block, figure-line-is, keeps-stored, keeps-inactive, notes-stored, notes-inactive}
-use Rattle.figure.proofs.Steps.{Change, still, act, freeze, delay, settle, land, phaseAfter, Can, Saw, loaded12, decided13, loaded22, decided28, replaced30, Reason, acts, acted, reads, declines}
+use Rattle.figure_cell.proofs.Steps.{Change, still, act, freeze, delay, settle, land, phaseAfter, Can, Saw, loaded12, decided13, loaded22, decided28, replaced30, Reason, acts, acted, reads, declines}
 use Rattle.figure.proofs.Views.{on-in, view}
 use Rattle.figure.proofs.Operations.{busy-line, reads-right, swap-no}
 use Rattle.figure.proofs.Worlds as Worlds

@@ -11,7 +11,8 @@ use Rattle.cells.specs.Answers.{Acted}
 use Rattle.cells.specs.Events.{eventOf, tried}
 use Rattle.history.specs.History.{Op, read, swap, Action, begin, step, taskOf, Event, untried}
 use Rattle.history.proofs.Basics.{either, upd-at, upd-same, upd-off, clash, some-inj}
-use Rattle.figure.specs.Figure.{Cell, World, worldAfter, withTask, unlessRefused, accessCell, recordAfter, outcomeOf, firstOf, figureRan, figureStepped, figureBegun, triedIn, figure}
+use Rattle.figure_cell.specs.Memory.{Cell, accessCell}
+use Rattle.figure.specs.Figure.{World, worldAfter, withTask, unlessRefused, recordAfter, outcomeOf, firstOf, figureRan, figureStepped, figureBegun, triedIn, figure}
 use Rattle.figure.specs.Exchange.{ifAccepted, touches, Apart}
 
 -- WHAT AN ACTION LEAVES AS IT WAS: sizes, the records of other tasks, the cells that it does not touch

@@ -12,11 +12,12 @@ use Rattle.lines.specs.Record.{noValue}
 use Rattle.lines.specs.Lines.{for13, for25, for28, Line, l1, l2, l3, l4, l5, l6, l7, l8, l10, l11, l12, l15, l16, l17, l18, l19, l20, l21, l22, l23, l24, l26, l27, l30, nowhere, lineOf, accessAt, attempt, counted, nextAt}
 use Rattle.history.specs.Basics.{upd}
 use Rattle.history.proofs.Basics.{either, upd-same, upd-off, upd-cases}
-use Rattle.figure.specs.Figure.{Cell, store, install, Accessed, accessed, accessCell, recordAfter}
+use Rattle.figure_cell.specs.Memory.{Cell, store, install, Accessed, accessed, accessCell}
+use Rattle.figure.specs.Figure.{recordAfter}
 use Rattle.history.proofs.ListTests.{by-test}
-use Rattle.figure.proofs.Classes.{busy, contended, taking, marking}
-use Rattle.figure.proofs.Invariant.{View, Knowledge, Inv, line, held}
-use Rattle.figure.proofs.Frame.{was}
+use Rattle.figure_cell.proofs.Classes.{busy, contended, taking, marking}
+use Rattle.figure_cell.proofs.Invariant.{View, Knowledge, Inv, line, held}
+use Rattle.figure_cell.proofs.Frame.{was}
 
 -- a task that set Y of the current block and has not reset it
 pub record Marked (L : ℕ) (f : ℕ → Record) : Type 0 where

@@ -21,16 +21,18 @@ use Rattle.lines.specs.Lines.{Line, for25, for28, l1, l2, l3, l4, l5, l6, l7, l
 use Rattle.history.specs.Basics.{upd, _∈_}
 use Rattle.history.specs.History.{Op, read, swap, Action, begin, step, untried, Response, run}
 use Rattle.history.proofs.Basics.{upd-same, upd-off, upd-cases}
-use Rattle.figure.specs.Figure.{Cell, World, withBoth, WorldAfter, store, install, accessed, Accessed, accessCell, recordAfter, outcomeOf, figureRan, opening, figure, triedIn, firstOf}
+use Rattle.figure_cell.specs.Memory.{Cell, store, install, accessed, Accessed, accessCell}
+use Rattle.figure.specs.Figure.{World, withBoth, WorldAfter, recordAfter, outcomeOf, figureRan, opening, figure, triedIn, firstOf}
 use Rattle.cells.specs.Events.{eventOf}
-use Rattle.figure.specs.Paths.{paths, reached, by25, pathsOf, Traced, Trace, noTrace, didLine, enterLine, figureTraces}
+use Rattle.figure_cell.specs.Paths.{paths, reached, by25, pathsOf}
+use Rattle.figure.specs.Traces.{Traced, Trace, noTrace, didLine, enterLine, figureTraces}
 use Rattle.figure.proofs.Reachable.{trivial, Reachable, next-reachable, opening-reachable}
 use Rattle.history.proofs.ListTests.{every, every-in, has, imp, has-in, by-test}
-use Rattle.figure.proofs.LineLaws.{every-line, same, same-is, before, waysOf}
+use Rattle.figure_cell.proofs.LineLaws.{every-line, same, same-is, before, waysOf}
 use Rattle.figure.proofs.Records.{OnPath, Sound, with-first, upd-both, Begun, starts, begin-cases, Stepped, runs, step-cases, act-sound}
 use Rattle.figure.proofs.Paths.{start-sound, last-line}
-use Rattle.figure.proofs.Classes.{is, holding, swapping, taking, lies-in}
-use Rattle.figure.proofs.Invariant.{none, TaskOf}
+use Rattle.figure_cell.proofs.Classes.{is, holding, swapping, taking, lies-in}
+use Rattle.figure_cell.proofs.Invariant.{none, TaskOf}
 use Rattle.figure.proofs.Views.{on-in, view}
 use Rattle.figure.proofs.Worlds.{known, facts}
 

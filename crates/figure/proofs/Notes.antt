@@ -11,11 +11,12 @@ use Rattle.lines.specs.Record.{noValue}
 use Rattle.lines.specs.Lines.{Line, lineOf}
 use Rattle.questions.specs.Questions.{lineFit}
 use Rattle.questions.proofs.Numbers.{number, at-number}
-use Rattle.figure.specs.Figure.{Cell, World}
+use Rattle.figure_cell.specs.Memory.{Cell}
+use Rattle.figure.specs.Figure.{World}
 use Rattle.figure.specs.Moments.{Notes, holdsBlock, noted, sees}
 use Rattle.history.proofs.ListTests.{every, both}
-use Rattle.figure.proofs.LineLaws.{lines, wantedBy, wanted-is}
-use Rattle.figure.proofs.Classes.{is, figureLine, holding, stored, viewing, lies-in, are-apart}
+use Rattle.figure_cell.proofs.LineLaws.{lines, wantedBy, wanted-is}
+use Rattle.figure_cell.proofs.Classes.{is, figureLine, holding, stored, viewing, lies-in, are-apart}
 
 pub cond-true : {A : Type 0} (b : Bool) (x y : A) → T b → cond b x y ≡ x
 cond-true true x y h = refl

@@ -14,10 +14,10 @@ use Rattle.history.specs.History.{Op, cellOf, Yes, No}
 use Rattle.history.specs.Linearization.{reply, valueLeft, apply}
 use Rattle.history.specs.Demand3.{Unequal}
 use Rattle.history.proofs.ListTests.{imp}
-use Rattle.figure.proofs.LineLaws.{every-line}
-use Rattle.figure.proofs.AsBegun.{swap-op, Reads, read-op}
+use Rattle.figure_cell.proofs.LineLaws.{every-line}
+use Rattle.figure_cell.proofs.AsBegun.{swap-op, Reads, read-op}
 use Rattle.figure.proofs.Tallies.{tally, tallyOf}
-use Rattle.figure.proofs.Classes.{busy, swapping, are-apart}
+use Rattle.figure_cell.proofs.Classes.{busy, swapping, are-apart}
 
 -- a line that fits a kind is a line
 pub busy-line : (q : Record) → lineFit q ≡ true → T (busy (lineOf q))

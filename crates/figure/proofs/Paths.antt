@@ -11,12 +11,14 @@ use Rattle.lines.specs.Lines.{Line, for13, for25, for28, l2, l3, l30, nowhere, 
 use Rattle.lines.specs.Record.{firstSwap}
 use Rattle.history.specs.Basics.{_∈_}
 use Rattle.history.specs.History.{Op, Action, begin, step, untried, No}
-use Rattle.figure.specs.Figure.{World, WorldAfter, outcomeOf, figureRan, opening, figure, accessCell, triedIn}
+use Rattle.figure_cell.specs.Memory.{accessCell}
+use Rattle.figure.specs.Figure.{World, WorldAfter, outcomeOf, figureRan, opening, figure, triedIn}
 use Rattle.cells.specs.Events.{eventOf}
 use Rattle.lines.specs.Paths.{table}
-use Rattle.figure.specs.Paths.{paths, by25, counts, countsOf, Traced, Trace, noTrace, enterLine, figureTraces}
+use Rattle.figure_cell.specs.Paths.{paths, by25, counts, countsOf}
+use Rattle.figure.specs.Traces.{Traced, Trace, noTrace, enterLine, figureTraces}
 use Rattle.history.proofs.ListTests.{has}
-use Rattle.figure.proofs.LineLaws.{every-line, same, Leads, goes, done}
+use Rattle.figure_cell.proofs.LineLaws.{every-line, same, Leads, goes, done}
 use Rattle.figure.proofs.Records.{Pending, Complete, Then, led, one-line, Begun, starts, begin-cases, Stepped, runs, step-cases, Sound, its-op, with-first, act-sound}
 
 -- FINISHED CALLS

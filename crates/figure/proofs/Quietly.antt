@@ -18,19 +18,20 @@ use Rattle.history.specs.History.{Op, read, swap, cellOf, untried}
 use Rattle.history.specs.Demand3.{Unequal}
 use Rattle.history.proofs.Basics.{either, upd-at, upd-same, upd-off}
 use Rattle.history.proofs.Simulation.{Ghost, Tally, QuietStarts, QuietSteps, Free}
-use Rattle.figure.specs.Figure.{Cell, World, withTask, recordAfter, accessCell, clear, figureAnswers, triedIn, firstOf}
-use Rattle.figure.proofs.LineLaws.{Leads, goes, done}
+use Rattle.figure_cell.specs.Memory.{Cell, accessCell}
+use Rattle.figure.specs.Figure.{World, withTask, recordAfter, clear, figureAnswers, triedIn, firstOf}
+use Rattle.figure_cell.proofs.LineLaws.{Leads, goes, done}
 use Rattle.figure.proofs.Records.{Pending, OnPath, AllOnPath, Accepted, led}
-use Rattle.figure.proofs.AsBegun.{cell-of}
+use Rattle.figure_cell.proofs.AsBegun.{cell-of}
 use Rattle.figure.proofs.Tallies.{tally, tallyOf, doing}
-use Rattle.figure.proofs.Classes.{busy, swapping, marking, lies-in, holding, uncontended}
-use Rattle.figure.proofs.Invariant.{none, Knowledge, line}
+use Rattle.figure_cell.proofs.Classes.{busy, swapping, marking, lies-in, holding, uncontended}
+use Rattle.figure_cell.proofs.Invariant.{none, Knowledge, line}
 use Rattle.figure.proofs.Views.{on, on-in, on-it, on-changed, on-elsewhere, view, on-others}
 use Rattle.figure.proofs.Operations.{busy-line, busy-doing, is-unequal}
 use Rattle.figure.proofs.Worlds.{Good, cellAfter, nextAfter, stepAfter, pending-at}
 use Rattle.figure.proofs.Begins.{was-idle, idle-to, its-cell}
 use Rattle.figure.proofs.Marks.{Marks, marks-kept}
-use Rattle.figure.proofs.Quiet.{signed, Quiet, quiet-step, no-attempt, others-step, others-begin}
+use Rattle.figure_cell.proofs.Quiet.{signed, Quiet, quiet-step, no-attempt, others-step, others-begin}
 
 -- a task is quiet on its own cell
 abbrev pub QuietIn : World → ℕ → Type 0

@@ -13,17 +13,19 @@ use Rattle.cells.specs.Answers.{Refused, Acted}
 use Rattle.lines.specs.Answers.{Next, Go, Done}
 use Rattle.lines.specs.Record.{idle, isIdle, opOf}
 use Rattle.lines.specs.Lines.{Line, lineAt, lineOf, accessAt, accessOf, attempt, counted, nextOf, hardware}
-use Rattle.figure.proofs.Tries.{tries}
+use Rattle.figure_cell.proofs.Tries.{tries}
 use Rattle.questions.specs.Questions.{Question, refusal, ofKind, reads, swaps, lineFit, valuesFit, beginQuestions, swapQuestions, stepQuestions}
 use Rattle.history.specs.Basics.{upd, _∈_}
 use Rattle.history.specs.History.{Op, read, swap, cellOf, Action, begin, step, Report, untried, wins, losses, run}
 use Rattle.history.proofs.Basics.{either, upd-at, upd-off, upd-cases}
-use Rattle.figure.specs.Figure.{Cell, World, withTask, withBoth, WorldAfter, worldAfter, unlessRefused, recordAfter, outcomeOf, figureRan, figureStepped, figureBegun, opening, figure, accessCell, triedIn, firstOf}
+use Rattle.figure_cell.specs.Memory.{Cell, accessCell}
+use Rattle.figure.specs.Figure.{World, withTask, withBoth, WorldAfter, worldAfter, unlessRefused, recordAfter, outcomeOf, figureRan, figureStepped, figureBegun, opening, figure, triedIn, firstOf}
 use Rattle.cells.specs.Events.{reportOf, eventOf}
-use Rattle.figure.specs.Paths.{count, Trace, didLine, enterLine}
-use Rattle.figure.specs.Paths as Paths
+use Rattle.figure_cell.specs.Paths.{count}
+use Rattle.figure.specs.Traces.{Trace, didLine, enterLine}
+use Rattle.figure_cell.specs.Paths as Paths
 use Rattle.history.proofs.ListTests.{every, every-in, both, imp}
-use Rattle.figure.proofs.LineLaws.{every-line, lines, before, extends-in, waysOf, hardware-alike, Leads, goes, done, leads}
+use Rattle.figure_cell.proofs.LineLaws.{every-line, lines, before, extends-in, waysOf, hardware-alike, Leads, goes, done, leads}
 
 -- A CALL AND THE LINES THAT IT DID
 

@@ -24,10 +24,10 @@ use Rattle.figure.specs.Moments.{Notes, noNotes, nothingNoted, noted, no
 use Rattle.figure.proofs.Records.{Pending, AllOnPath, Begun, starts, begin-cases, Stepped, runs, step-cases, act-on-path}
 use Rattle.figure.proofs.Tallies.{tally, doing, follows, within}
 use Rattle.history.proofs.ListTests.{by-test}
-use Rattle.figure.proofs.Classes.{storing}
-use Rattle.figure.proofs.Invariant.{none, View}
-use Rattle.figure.proofs.Invariant as Local
-use Rattle.figure.proofs.Steps.{Step, Reason, Out}
+use Rattle.figure_cell.proofs.Classes.{storing}
+use Rattle.figure_cell.proofs.Invariant.{none, View}
+use Rattle.figure_cell.proofs.Invariant as Local
+use Rattle.figure_cell.proofs.Steps.{Step, Reason, Out}
 use Rattle.figure.proofs.Views.{on, view}
 use Rattle.figure.proofs.Operations.{busy-line, busy-doing}
 use Rattle.figure.proofs.Worlds.{Good, Noted, doingIn, clock, known, pending-at, cellAfter, nextAfter, stepAfter, κ⁺, out, moveOf, may, kept-all}

@@ -18,12 +18,13 @@ use Rattle.history.specs.History.{Op, read, swap, Action, begin, step, untried,
 use Rattle.history.specs.Demand3.{most, mostHard}
 use Rattle.history.proofs.Basics.{either, upd-at, upd-off}
 use Rattle.history.proofs.Simulation.{Tally, first, Follows}
-use Rattle.figure.specs.Figure.{Cell, World, WorldAfter, withBoth, recordAfter, outcomeOf, figureRan, figure, accessCell, triedIn, firstOf}
+use Rattle.figure_cell.specs.Memory.{Cell, accessCell}
+use Rattle.figure.specs.Figure.{World, WorldAfter, withBoth, recordAfter, outcomeOf, figureRan, figure, triedIn, firstOf}
 use Rattle.cells.specs.Events.{eventOf}
-use Rattle.figure.specs.Paths.{readPaths, paths, count}
-use Rattle.figure.proofs.AsBegun.{kind-of, cell-of}
+use Rattle.figure_cell.specs.Paths.{readPaths, paths, count}
+use Rattle.figure_cell.proofs.AsBegun.{kind-of, cell-of}
 use Rattle.history.proofs.ListTests.{every-in, by-test}
-use Rattle.figure.proofs.LineLaws.{waysOf, on-paths, on-read-paths, Leads, goes, done}
+use Rattle.figure_cell.proofs.LineLaws.{waysOf, on-paths, on-read-paths, Leads, goes, done}
 use Rattle.figure.proofs.Records.{Pending, not-idle, led, Then, one-line, pending-bounds, read-bounds, Begun, starts, begin-cases, Stepped, runs, step-cases, OnPath, AllOnPath}
 
 abbrev pub tally : Record → Tally

@@ -7,7 +7,7 @@ use Rattle.lines.specs.Lines.{Line}
 use Rattle.history.specs.Basics.{upd}
 use Rattle.history.specs.History.{Op, Action, begin, step, Attempt, Event, refused, accepted, answered, history, Call, Calls, noCalls, called, advanced, closed, enter, enterAll, callsOf, IsBusy, Allowed, WellFormed}
 use Rattle.history.proofs.Basics.{upd-cases}
-use Rattle.figure.specs.Paths.{Trace, noTrace, enterLine, traces, finishedReport, tracedReport}
+use Rattle.figure.specs.Traces.{Trace, noTrace, enterLine, traces, finishedReport, tracedReport}
 use Rattle.figure.proofs.Records.{upd-both}
 
 -- a pending call is the one that the trace has as begun

@@ -12,10 +12,10 @@ use Rattle.history.proofs.Basics.{either}
 use Rattle.history.proofs.OnCell as OnCell
 use Rattle.history.proofs.Simulation.{late, Ghost}
 use Rattle.figure.specs.Figure.{World}
-use Rattle.figure.proofs.LineLaws.{same, same-is}
-use Rattle.figure.proofs.Classes.{busy, lies-in}
-use Rattle.figure.proofs.Invariant.{View, Knowledge, Task, line, Inv}
-use Rattle.figure.proofs.Looking.{idle-task}
+use Rattle.figure_cell.proofs.LineLaws.{same, same-is}
+use Rattle.figure_cell.proofs.Classes.{busy, lies-in}
+use Rattle.figure_cell.proofs.Invariant.{View, Knowledge, Task, line, Inv}
+use Rattle.figure_cell.proofs.Looking.{idle-task}
 
 -- the tasks on cell k; the others are idle to it
 abbrev pub on : (ℕ → Record) → ℕ → ℕ → Record

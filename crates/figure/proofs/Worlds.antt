@@ -16,19 +16,20 @@ use Rattle.history.specs.Linearization.{reply, apply}
 use Rattle.history.proofs.Basics.{either, upd-at, upd-same, upd-off}
 use Rattle.history.proofs.Simulation as Sim
 use Rattle.history.proofs.Simulation.{Phase, settled, frozen, late, Ghost, Tally, Move, shift, Grown, May}
-use Rattle.figure.specs.Figure.{Cell, World, withBoth, recordAfter, accessCell, figure}
+use Rattle.figure_cell.specs.Memory.{Cell, accessCell}
+use Rattle.figure.specs.Figure.{World, withBoth, recordAfter, figure}
 use Rattle.figure.specs.Moments.{Notes, noted, names, sees}
 use Rattle.history.proofs.ListTests.{every}
-use Rattle.figure.proofs.LineLaws.{lines}
+use Rattle.figure_cell.proofs.LineLaws.{lines}
 use Rattle.figure.proofs.Records.{Pending, AllOnPath, OnPath}
-use Rattle.figure.proofs.AsBegun.{cell-of}
+use Rattle.figure_cell.proofs.AsBegun.{cell-of}
 use Rattle.figure.proofs.Tallies.{tally, tallyOf, doing}
-use Rattle.figure.proofs.Classes.{busy, holding, swapping, stored, viewing, lies-in}
-use Rattle.figure.proofs.Invariant.{none, View, Knowledge, TaskOf, line, held, Inv}
-use Rattle.figure.proofs.Frame as Frame
-use Rattle.figure.proofs.Frame.{Grows}
+use Rattle.figure_cell.proofs.Classes.{busy, holding, swapping, stored, viewing, lies-in}
+use Rattle.figure_cell.proofs.Invariant.{none, View, Knowledge, TaskOf, line, held, Inv}
+use Rattle.figure_cell.proofs.Frame as Frame
+use Rattle.figure_cell.proofs.Frame.{Grows}
 use Rattle.figure.proofs.Notes.{Holder, keeps-loaded, keeps-stored, keeps-decided, keeps-replaced, notes-held, notes-loaded, notes-stored, notes-decided, notes-replaced}
-use Rattle.figure.proofs.Steps.{Change, still, act, freeze, delay, settle, land, valueAfter, placedAfter, phaseAfter, viewAfter, Can, Future, Out, each}
+use Rattle.figure_cell.proofs.Steps.{Change, still, act, freeze, delay, settle, land, valueAfter, placedAfter, phaseAfter, viewAfter, Can, Future, Out, each}
 use Rattle.figure.proofs.Views.{on, on-in, on-it, on-changed, view, placed-changed, on-others}
 use Rattle.figure.proofs.Operations.{busy-line, busy-doing, swap-yes, apply-here, apply-there}
 

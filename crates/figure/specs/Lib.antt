@@ -1,5 +1,5 @@
 pub mod Figure
-pub mod Paths
+pub mod Traces
 pub mod Moments
 pub mod Attempts
 pub mod Exchange

@@ -14,7 +14,7 @@ use Rattle.history.specs.History.{Op, read, swap, aRead, aSwap, kindOf, Respons
 use Rattle.history.specs.Moments as Moments
 use Rattle.history.specs.Moments.{Rule, C1, changes}
 use Rattle.figure.specs.Moments.{at, Notes, stands}
-use Rattle.figure.proofs.AsBegun.{kind-of, cell-of}
+use Rattle.figure_cell.proofs.AsBegun.{kind-of, cell-of}
 use Rattle.refinement.specs.Moments.{seesPool}
 use Rattle.moments_notes.specs.declared.Sight.{Sight}
 use Rattle.moments_notes.specs.declared.Own.{Own}

@@ -27,7 +27,7 @@ use Rattle.cells.specs.Turn.{ending, turn}
 use Rattle.cells.specs.Events.{eventOf}
 use Rattle.cells.specs.Machine.{does}
 use Rattle.cells.proofs.Stepping.{Acting, own-acting}
-use Rattle.figure.proofs.LineLaws.{Leads, goes, done, leads}
+use Rattle.figure_cell.proofs.LineLaws.{Leads, goes, done, leads}
 use Rattle.figure.proofs.Records.{not-idle}
 use Rattle.history.specs.Basics.{upd}
 use Rattle.history.specs.History.{Op, read, swap, Action, begin, step, Attempt, Event, Call, Calls, called, advance, advanced, enter}

@@ -16,7 +16,8 @@ use Rattle.blocks.specs.Blocks.{unused}
 use Rattle.pool.specs.Memory.{Touched, touched, performed}
 use Rattle.cells.specs.Step.{current, withBlocks}
 use Rattle.blocks.proofs.Unused.{Found}
-use Rattle.figure.specs.Figure.{World, install, Accessed, accessCell, accessed, store as storeWord}
+use Rattle.figure_cell.specs.Memory.{install, Accessed, accessCell, accessed, store as storeWord}
+use Rattle.figure.specs.Figure.{World}
 use Rattle.refinement.proofs.Agree.{Links, Whole, Agree}
 use Rattle.refinement.proofs.Memory.{withCell, Stored, was, now, stays, stores, stores-again, installs, names}
 use Rattle.refinement.proofs.Allocation.{Link, new, allocates}

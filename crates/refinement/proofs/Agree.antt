@@ -26,7 +26,8 @@ use Rattle.cells.proofs.Words.{fields}
 use Rattle.history.specs.Basics.{upd}
 use Rattle.history.proofs.Basics.{either, upd-at, upd-off, upd-cases}
 use Rattle.history.proofs.ListTests.{both}
-use Rattle.figure.specs.Figure.{Cell, World, wordOf, withTask}
+use Rattle.figure_cell.specs.Memory.{Cell, wordOf}
+use Rattle.figure.specs.Figure.{World, withTask}
 use Rattle.refinement.specs.Terms.{named}
 
 -- R k i b f: block i of cell k in the figure is block b of the pool, and its word f is stored

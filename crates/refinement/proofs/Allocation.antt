@@ -15,7 +15,8 @@ use Rattle.cells.specs.Step.{current, withBlocks}
 use Rattle.cells.proofs.Words.{fields, set-here, set-else}
 use Rattle.history.specs.Basics.{upd}
 use Rattle.history.proofs.Basics.{upd-same, upd-at, upd-off, upd-cases}
-use Rattle.figure.specs.Figure.{Cell, World, wordOf, allocate}
+use Rattle.figure_cell.specs.Memory.{Cell, wordOf, allocate}
+use Rattle.figure.specs.Figure.{World}
 use Rattle.refinement.proofs.Agree.{Links, Agree, keeps}
 use Rattle.refinement.proofs.Memory.{withCell, words-change, in-pool}
 use Rattle.refinement.proofs.Fits.{not-current, other-blocks}

@@ -12,8 +12,9 @@ use Rattle.questions.specs.Questions.{refusal, openQuestions}
 use Rattle.history.specs.Basics.{_∈_}
 use Rattle.history.specs.History.{Action, history, callsOf}
 use Rattle.figure.specs.Figure.{opening}
-use Rattle.figure.specs.Paths.{reached, count, steps, Traced, Trace, noTrace, Counted, finishedReport, tracedReport, figureTraces}
-use Rattle.figure.proofs.LineLaws.{on-paths}
+use Rattle.figure_cell.specs.Paths.{reached, count, steps}
+use Rattle.figure.specs.Traces.{Traced, Trace, noTrace, Counted, finishedReport, tracedReport, figureTraces}
+use Rattle.figure_cell.proofs.LineLaws.{on-paths}
 use Rattle.figure.proofs.Paths.{calls-on-paths, row}
 use Rattle.figure.proofs.Ninth.{never-ninth, own-path, one-of-twelve}
 use Rattle.figure.proofs.TracedCalls.{same-calls}

@@ -31,8 +31,8 @@ use Rattle.cells.specs.Machine.{Pool}
 use Rattle.cells.proofs.Words.{fields, set-else}
 use Rattle.history.proofs.ListTests.{by-test}
 use Rattle.figure.specs.Figure.{recordAfter}
-use Rattle.figure.proofs.LineLaws.{same, same-is}
-use Rattle.figure.proofs.Classes.{lies-in}
+use Rattle.figure_cell.proofs.LineLaws.{same, same-is}
+use Rattle.figure_cell.proofs.Classes.{lies-in}
 use Rattle.refinement.proofs.Stepped.{set-either, touchedAt, triesAt, following, ranAt, Runs, Stepped, refuses, runs, Began, declines, starts}
 
 pub record Kept (x : Pool) (b : ℕ) : Type 0 where

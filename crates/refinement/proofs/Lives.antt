@@ -28,10 +28,10 @@ use Rattle.history.specs.Basics.{_∈_}
 use Rattle.history.specs.History.{Action, begin, step, untried, wins, run}
 use Rattle.history.proofs.ListTests.{has, has-in, by-test}
 use Rattle.figure.specs.Figure.{World, recordAfter, figure, opening}
-use Rattle.figure.proofs.LineLaws.{same, same-is}
-use Rattle.figure.proofs.Classes.{is, taking, holding, lies-in}
+use Rattle.figure_cell.proofs.LineLaws.{same, same-is}
+use Rattle.figure_cell.proofs.Classes.{is, taking, holding, lies-in}
 use Rattle.figure.proofs.Records.{WellRecord}
-use Rattle.figure.proofs.Invariant as Invariant
+use Rattle.figure_cell.proofs.Invariant as Invariant
 use Rattle.figure.proofs.Views.{on-in}
 use Rattle.figure.proofs.Worlds.{known, facts}
 use Rattle.figure.proofs.Reachable.{trivial, Reachable, next-reachable, opening-reachable}

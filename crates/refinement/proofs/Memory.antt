@@ -18,8 +18,9 @@ use Rattle.questions.proofs.Tests.{blocks-true}
 use Rattle.cells.proofs.Words.{fields, set-here, set-else}
 use Rattle.history.specs.Basics.{upd}
 use Rattle.history.proofs.Basics.{either, upd-at, upd-cases}
-use Rattle.figure.specs.Figure.{Cell, World, wordOf, store, install}
-use Rattle.figure.proofs.Stores.{store-here, store-else, store-next, store-current}
+use Rattle.figure_cell.specs.Memory.{Cell, wordOf, store, install}
+use Rattle.figure.specs.Figure.{World}
+use Rattle.figure_cell.proofs.Stores.{store-here, store-else, store-next, store-current}
 use Rattle.refinement.proofs.Agree.{Links, Whole, Blocks, Agree, set-cases, keeps, upd-own}
 
 -- ONE BLOCK CHANGES

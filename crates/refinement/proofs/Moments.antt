@@ -22,7 +22,8 @@ use Rattle.history.specs.History.{Action, begin, step, Response, Value, Yes, No
 use Rattle.history.specs.Basics.{_∈_}
 use Rattle.history.specs.Linearization.{replies, Linearizes}
 use Rattle.history.specs.Moments.{before, Spot, Mark, pointOf, replyOf, markOf, markOfPending, marked, pendingMarks, marks, sort}
-use Rattle.figure.specs.Figure.{World, wordOf, figure, opening}
+use Rattle.figure_cell.specs.Memory.{wordOf}
+use Rattle.figure.specs.Figure.{World, figure, opening}
 use Rattle.figure.specs.Moments.{holdsBlock, Sight, Notes, noNotes, nothingNoted, noteStep, note, noting, names, ruled, stands, sees, moments}
 use Rattle.figure.proofs.Records.{WellRecord}
 use Rattle.figure.proofs.Simulation.{moments-linearize, moments-answers, never-before}

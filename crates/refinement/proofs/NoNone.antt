@@ -20,13 +20,14 @@ use Rattle.cells.specs.Step.{current}
 use Rattle.cells.specs.Look.{looked, shown, shownValue}
 use Rattle.history.specs.Basics.{_∈_}
 use Rattle.history.specs.History.{Op, Action, begin, step, Attempt, untried, Response, Value, Yes, No, Report, Event, refused, accepted, answered, history, run, Call, Calls, FinishedCall, noCalls, advanced, closed, enter, enterAll, callsOf}
-use Rattle.figure.specs.Figure.{Cell, World, WorldAfter, accessCell, outcomeOf, triedIn, figureRan, figure, opening, figureLooked}
+use Rattle.figure_cell.specs.Memory.{Cell, accessCell}
+use Rattle.figure.specs.Figure.{World, WorldAfter, outcomeOf, triedIn, figureRan, figure, opening, figureLooked}
 use Rattle.cells.specs.Events.{eventOf}
 use Rattle.history.proofs.ListTests.{by-test}
 use Rattle.figure.proofs.Records.{Begun, starts, begin-cases, Stepped, runs, step-cases, with-first}
-use Rattle.figure.proofs.Invariant as Invariant
-use Rattle.figure.proofs.Invariant.{View, Knowledge}
-use Rattle.figure.proofs.Steps.{Change, Reason, acts, acted, reads, declines, Out}
+use Rattle.figure_cell.proofs.Invariant as Invariant
+use Rattle.figure_cell.proofs.Invariant.{View, Knowledge}
+use Rattle.figure_cell.proofs.Steps.{Change, Reason, acts, acted, reads, declines, Out}
 use Rattle.figure.proofs.Views.{view}
 use Rattle.figure.proofs.Worlds.{known, κ⁺, out}
 use Rattle.figure.proofs.Reachable.{trivial, Reachable, next-reachable, opening-reachable, reachable}

@@ -15,7 +15,8 @@ use Rattle.questions.specs.Questions.{refusal, openQuestions, answers}
 use Rattle.cells.specs.Open.{openState, openPool}
 use Rattle.questions.proofs.Tests.{nth, all-yes, all-at, within-true, blocks-true}
 use Rattle.cells.proofs.Words.{fields, length-filled, filled-word}
-use Rattle.figure.specs.Figure.{wordOf, opening}
+use Rattle.figure_cell.specs.Memory.{wordOf}
+use Rattle.figure.specs.Figure.{opening}
 use Rattle.refinement.proofs.Agree.{Agree, no-blocks}
 
 -- every word of it is stored

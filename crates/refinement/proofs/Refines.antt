@@ -19,7 +19,8 @@ use Rattle.cells.specs.Open.{opened}
 use Rattle.cells.specs.Step.{current}
 use Rattle.cells.specs.Look.{looked, shown, shownValue}
 use Rattle.history.specs.History.{Action, begin, step, Event, history, run}
-use Rattle.figure.specs.Figure.{World, figure, opening, wordOf, figureLooked}
+use Rattle.figure_cell.specs.Memory.{wordOf}
+use Rattle.figure.specs.Figure.{World, figure, opening, figureLooked}
 use Rattle.cells.specs.Machine.{Pool, pool}
 use Rattle.cells.proofs.Counted.{Arrays, counts-stay}
 use Rattle.cells.proofs.CountedOpen.{open-counts, open-arrays, arrays-stay}

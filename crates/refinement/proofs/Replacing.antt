@@ -28,10 +28,10 @@ use Rattle.cells.specs.Machine.{Pool, pool}
 use Rattle.history.specs.History.{Action, begin, step, success, Attempt, Report, Event, answered, run}
 use Rattle.history.proofs.ListTests.{by-test}
 use Rattle.figure.specs.Figure.{World, outcomeOf}
-use Rattle.figure.proofs.LineLaws.{same, same-is}
-use Rattle.figure.proofs.Classes.{is, lies-in}
+use Rattle.figure_cell.proofs.LineLaws.{same, same-is}
+use Rattle.figure_cell.proofs.Classes.{is, lies-in}
 use Rattle.figure.proofs.Records.{WellRecord}
-use Rattle.figure.proofs.Invariant.{TaskOf}
+use Rattle.figure_cell.proofs.Invariant.{TaskOf}
 use Rattle.figure.proofs.Views.{view}
 use Rattle.figure.proofs.Worlds.{known, facts}
 use Rattle.figure.proofs.Reachable.{trivial, Reachable, reachable}

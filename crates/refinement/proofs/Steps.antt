@@ -27,7 +27,8 @@ use Rattle.questions.proofs.Tests.{nth, all-yes, implied}
 use Rattle.questions.proofs.Numbers.{number, at-number}
 use Rattle.blocks.proofs.Unused.{Found, one-is-unused}
 use Rattle.history.specs.History.{Op, read, swap, begin, step, Attempt, untried, Event}
-use Rattle.figure.specs.Figure.{Cell, World, withBoth, worldAfter, recordAfter, outcomeOf, figure, WorldAfter, accessCell, figureBegun, figureRan, figureStepped, unlessRefused, withTask, triedIn}
+use Rattle.figure_cell.specs.Memory.{Cell, accessCell}
+use Rattle.figure.specs.Figure.{World, withBoth, worldAfter, recordAfter, outcomeOf, figure, WorldAfter, figureBegun, figureRan, figureStepped, unlessRefused, withTask, triedIn}
 use Rattle.cells.specs.Events.{eventOf}
 use Rattle.cells.specs.Machine.{Pool, pool}
 use Rattle.refinement.specs.Terms.{named}

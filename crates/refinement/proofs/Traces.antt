@@ -12,7 +12,7 @@ use Rattle.lines.specs.Lines.{Line, lineOf}
 use Rattle.questions.specs.Questions.{refusal, openQuestions}
 use Rattle.history.specs.History.{Action, begin, step, untried, Event, refused, accepted, answered, run}
 use Rattle.figure.specs.Figure.{World, figure, opening, figureStepped}
-use Rattle.figure.specs.Paths.{Trace, noTrace, enterLine, traces, figureTraces}
+use Rattle.figure.specs.Traces.{Trace, noTrace, enterLine, traces, figureTraces}
 use Rattle.cells.specs.Machine.{Pool, pool}
 use Rattle.refinement.specs.Terms.{start}
 use Rattle.refinement.specs.Traces.{nextLine, trace}

@@ -4,7 +4,7 @@ use Prim.Native.Nat.{ℕ}
 use Rattle.lines.specs.Record.{recordAt}
 use Rattle.lines.specs.Lines.{Line, lineOf}
 use Rattle.history.specs.History.{Action}
-use Rattle.figure.specs.Paths.{Trace, noTrace, traces}
+use Rattle.figure.specs.Traces.{Trace, noTrace, traces}
 use Rattle.cells.specs.Machine.{Pool, pool}
 
 -- the line that a task's next step runs

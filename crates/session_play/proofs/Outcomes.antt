@@ -10,7 +10,7 @@ use Rattle.lines.specs.declared.Record.{Record}
 use Rattle.lines.specs.Answers.{Next}
 use Rattle.lines.specs.Record.{recordAt, firstRead, firstSwap}
 use Rattle.lines.specs.Lines.{Line, lineOf, accessAt, accessOf, nextOf, attempt, counted, hardware}
-use Rattle.figure.proofs.Tries.{tries}
+use Rattle.figure_cell.proofs.Tries.{tries}
 use Rattle.questions.specs.declared.State.{State}
 use Rattle.questions.specs.Questions.{refusal, lineFit, fit, beginQuestions, swapQuestions}
 use Rattle.blocks.specs.Blocks.{unused}
@@ -20,7 +20,7 @@ use Rattle.cells.specs.Step.{current, ran, stepAsks, stepped}
 use Rattle.pool.specs.Memory.{Touched, performed}
 use Rattle.cells.specs.Turn.{ending, turn}
 use Rattle.cells.proofs.Stepping.{Acting, own-acting}
-use Rattle.figure.proofs.LineLaws.{every-line, Leads, goes, done as ends, leads}
+use Rattle.figure_cell.proofs.LineLaws.{every-line, Leads, goes, done as ends, leads}
 use Rattle.history.specs.History.{read, swap, Action, begin, step, taskOf, untried}
 use Rattle.cells.specs.Events.{eventOf}
 use Rattle.cells.specs.Machine.{does}

@@ -1,16 +1,12 @@
--- The complete paths of figure 2, and the lines that a call did.
-use mathlib.Core.Path.{_≡_}
+-- The complete paths of figure 2, and their counts.
 use mathlib.Core.Bool.{cond}
 use mathlib.Core.List.{List, [], _∷_, _++_}
 use Prim.Native.Nat.{ℕ, _+_}
 use lib.Dec.{eqb}
 use Rattle.lines.specs.declared.Access.{Access}
 use Rattle.lines.specs.Record.{idle}
-use Rattle.lines.specs.Paths.{table}
-use Rattle.lines.specs.Lines.{Line, Wanted, for13, for25, for28, l1, l2, l3, l4, l5, l6, l7, l8, l10, l11, l12, l15, l16, l17, l18, l19, l20, l21, l22, l23, l24, l26, l27, l30, lineOf, accessAt, loads, stores, hardware}
-use Rattle.history.specs.Basics.{upd, _∈_}
-use Rattle.figure.specs.Figure.{World, figure}
-use Rattle.history.specs.History.{Op, read, swap, Action, begin, step, Response, Value, Yes, No, Report, Event, refused, accepted, answered, FinishedCall}
+use Rattle.lines.specs.Lines.{Line, Wanted, for13, for25, for28, l1, l2, l3, l4, l5, l6, l7, l8, l10, l11, l12, l15, l16, l17, l18, l19, l20, l21, l22, l23, l24, l26, l27, l30, accessAt, loads, stores, hardware}
+use Rattle.history.specs.History.{Op, read, swap, Response, Value, Yes, No}
 
 -- THE THIRTEEN PATHS
 
@@ -108,59 +104,3 @@ counts p = steps p ∷ count loads p ∷ count stores p ∷ count hardware p ∷
 abbrev pub countsOf : List (List Line) → List (List ℕ)
 countsOf [] = []
 countsOf (p ∷ ps) = counts p ∷ countsOf ps
-
--- THE LINES THAT A CALL DID, in any machine that takes actions and gives events
-
--- a finished call: what it is as begun, its lines in order, and what its last step reported
-pub record Traced : Type 0 where
-  pub op : Op
-  pub lines : List Line
-  pub report : Report
-
--- of each task its last call as begun, and the lines of its pending one so far; the finished calls
-pub record Trace : Type 0 where
-  pub op : ℕ → Op
-  pub did : ℕ → List Line
-  pub done : List Traced
-
-abbrev pub noTrace : Trace
-noTrace = record { op = λ t. read 0; did = λ t. []; done = [] }
-
--- `next`: the line that each task's next step runs
-module _ (next : ℕ → Line) (r : Trace) where
-  abbrev pub didLine : ℕ → List Line
-  didLine t = r .did t ++ (next t ∷ [])
-
-  -- a begin that is accepted starts with no line; an accepted step adds its line; a refused action changes nothing
-  abbrev pub enterLine : Action → Event → Trace
-  enterLine a (refused n) = r
-  enterLine (begin t op) (accepted x) = record { op = upd (r .op) t op; did = upd (r .did) t []; done = r .done }
-  enterLine (begin t op) (answered x y) = r
-  enterLine (step t) (accepted x) = record { op = r .op; did = upd (r .did) t (didLine t); done = r .done }
-  enterLine (step t) (answered x y) = record { op = r .op; did = upd (r .did) t []; done = record { op = r .op t; lines = didLine t; report = y } ∷ r .done }
-
--- the trace of a list of actions, from a state and what is traced already
-module _ {S : Type 0} (act : S → Action → S × Event) (next : S → ℕ → Line) where
-  abbrev pub traces : S → Trace → List Action → Trace
-  traces s r [] = r
-  traces s r (a ∷ l) = traces (act s a .0) (enterLine (next s) r a (act s a .1)) l
-
--- of the figure
-abbrev pub figureTraces : World → Trace → List Action → Trace
-figureTraces = traces figure (λ w t. lineOf (w .records t))
-
--- a finished call on a path that is its own, whose counts are the lines that it did
-pub record Counted (x : Traced) : Type 0 where
-  pub path : x .lines ∈ reached
-  -- a path of what the call is as begun, that ends in what it answered
-  pub its-path : x .lines ∈ pathsOf (x .op) (x .report .answer)
-  pub all-steps : x .report .steps ≡ steps (x .lines)
-  pub all-hard : x .report .won + x .report .lost ≡ count hardware (x .lines)
-  pub row : counts (x .lines) ∈ table
-
--- what a call is as begun, and what its last step reported: of a history, and of a trace
-abbrev pub finishedReport : FinishedCall → Op × Report
-finishedReport f = (f .call .start .op, f .report)
-
-abbrev pub tracedReport : Traced → Op × Report
-tracedReport x = (x .op, x .report)

@@ -16,8 +16,8 @@ use Rattle.questions.specs.Questions.{ofKind, reads, swaps}
 use Rattle.history.specs.Basics.{_∈_}
 use Rattle.history.proofs.ListTests.{every, has, both, every-in, every-at, by-test, has-in}
 use Rattle.history.specs.History.{Op, read, swap, Response, Value, Yes, No}
-use Rattle.figure.specs.Paths.{decision, readPaths, paths, by25, pathsOf}
-use Rattle.figure.proofs.AsBegun.{swap-op, Reads, read-op}
+use Rattle.figure_cell.specs.Paths.{decision, readPaths, paths, by25, pathsOf}
+use Rattle.figure_cell.proofs.AsBegun.{swap-op, Reads, read-op}
 
 -- THE LIST OF ALL LINES
 

@@ -11,11 +11,11 @@ use Rattle.history.specs.History.{Attempt}
 use Rattle.history.specs.Basics.{upd}
 use Rattle.history.proofs.Basics.{upd-at, upd-same, upd-off, upd-cases}
 use Rattle.history.proofs.Simulation.{Phase, settled, frozen, late}
-use Rattle.figure.specs.Figure.{store}
-use Rattle.figure.proofs.Classes.{is, busy, holding, swapping, won, loaded, stored, replacing, lies-in, are-apart}
-use Rattle.figure.proofs.Invariant.{none, View, Knowledge, Decided, Seen, Store, Owner, TaskOf, PhaseIs, line, held, Inv}
-use Rattle.figure.proofs.Frame.{moved, Rest, Mine, finish, was, undecided, one-winner, decided-with}
-use Rattle.figure.proofs.Looking.{off, same-wins, same-loses, settled≢late}
+use Rattle.figure_cell.specs.Memory.{store}
+use Rattle.figure_cell.proofs.Classes.{is, busy, holding, swapping, won, loaded, stored, replacing, lies-in, are-apart}
+use Rattle.figure_cell.proofs.Invariant.{none, View, Knowledge, Decided, Seen, Store, Owner, TaskOf, PhaseIs, line, held, Inv}
+use Rattle.figure_cell.proofs.Frame.{moved, Rest, Mine, finish, was, undecided, one-winner, decided-with}
+use Rattle.figure_cell.proofs.Looking.{off, same-wins, same-loses, settled≢late}
 
 -- whose swap took effect when t decides its block for what it loaded
 pub record Placing (s : View) (t : ℕ) (placed : ℕ → Bool) : Type 0 where

@@ -11,11 +11,11 @@ use Rattle.history.specs.History.{Attempt}
 use Rattle.history.specs.Basics.{upd}
 use Rattle.history.proofs.Basics.{upd-at, upd-same, upd-off, upd-cases}
 use Rattle.history.proofs.Simulation.{Phase, settled, late}
-use Rattle.figure.specs.Figure.{store}
-use Rattle.figure.proofs.Classes.{is, holding, won, loaded, stored, contended, taking, lies-in, are-apart}
-use Rattle.figure.proofs.Invariant.{none, View, Knowledge, Value, Fresh, Owner, Rival, PhaseIs, line, held, Inv}
-use Rattle.figure.proofs.Frame.{moved, Rest, Mine, finish, was, undecided, active-undecided, active-current, one-winner, decided-with}
-use Rattle.figure.proofs.Looking.{off, same-wins, same-loses, active-settled, active-value}
+use Rattle.figure_cell.specs.Memory.{store}
+use Rattle.figure_cell.proofs.Classes.{is, holding, won, loaded, stored, contended, taking, lies-in, are-apart}
+use Rattle.figure_cell.proofs.Invariant.{none, View, Knowledge, Value, Fresh, Owner, Rival, PhaseIs, line, held, Inv}
+use Rattle.figure_cell.proofs.Frame.{moved, Rest, Mine, finish, was, undecided, active-undecided, active-current, one-winner, decided-with}
+use Rattle.figure_cell.proofs.Looking.{off, same-wins, same-loses, active-settled, active-value}
 
 module _ (s : View) (κ : Knowledge) (t : ℕ) (i : Inv s κ) (e : line s t ≡ l23) (a : Attempt) (n w : ℕ) where
   abbrev q : Record

@@ -10,8 +10,8 @@ use Rattle.lines.specs.Lines.{Line, lineOf}
 use Rattle.history.specs.Basics.{upd}
 use Rattle.history.proofs.Basics.{either, upd-cases}
 use Rattle.history.proofs.Simulation.{Phase, late}
-use Rattle.figure.proofs.Classes.{is, busy, holding, taking, stored, won, checking, viewing, lies-in}
-use Rattle.figure.proofs.Invariant.{none, View, Knowledge, Decided, TaskOf, Rival, CurrentOf, line, held, RivalOf, Inv}
+use Rattle.figure_cell.proofs.Classes.{is, busy, holding, taking, stored, won, checking, viewing, lies-in}
+use Rattle.figure_cell.proofs.Invariant.{none, View, Knowledge, Decided, TaskOf, Rival, CurrentOf, line, held, RivalOf, Inv}
 
 abbrev pub moved : View → ℕ → Record → View
 moved s t q = record { cell = s .cell; task = upd (s .task) t q; value = s .value; placed = s .placed; phase = s .phase }

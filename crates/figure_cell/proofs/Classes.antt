@@ -9,8 +9,8 @@ use Rattle.questions.specs.Questions.{ofKind}
 use Rattle.history.specs.Basics.{_∈_}
 use Rattle.questions.proofs.Numbers.{number}
 use Rattle.history.proofs.ListTests.{every, has, has-in, implies, excludes}
-use Rattle.figure.proofs.LineLaws.{every-line, lines, same, same-is}
-use Rattle.figure.proofs.LineLaws as Laws
+use Rattle.figure_cell.proofs.LineLaws.{every-line, lines, same, same-is}
+use Rattle.figure_cell.proofs.LineLaws as Laws
 
 abbrev pub wantedBy : Wanted → ℕ
 wantedBy for13 = 13

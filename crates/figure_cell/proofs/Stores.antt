@@ -9,7 +9,7 @@ use Rattle.pool.specs.Pool.{offset}
 use Rattle.cells.proofs.Words.{fields}
 use Rattle.history.specs.Basics.{upd}
 use Rattle.history.proofs.Basics.{upd-same, upd-off}
-use Rattle.figure.specs.Figure.{Cell, wordOf, store}
+use Rattle.figure_cell.specs.Memory.{Cell, wordOf, store}
 
 stored : (m : Cell) (i x i′ : ℕ) (f g : Field) → wordOf (store m i f x) i′ g ≡ cond (eqb (offset g) (offset f)) (upd (λ j. wordOf m j g) i x i′) (wordOf m i′ g)
 stored m i x i′ =

@@ -14,12 +14,12 @@ use Rattle.history.specs.History.{Attempt}
 use Rattle.history.specs.Basics.{upd, _∈_}
 use Rattle.history.proofs.Basics.{either, upd-same, upd-off}
 use Rattle.history.proofs.Simulation.{Phase, settled, late}
-use Rattle.figure.specs.Figure.{Cell, wordOf, store, install, allocate}
-use Rattle.figure.proofs.Classes.{is, holding, racing, won, stored, taking, lies-in, holds-not}
-use Rattle.figure.proofs.Stores.{store-else, store-next, store-current}
-use Rattle.figure.proofs.Invariant.{none, View, Knowledge, Store, Split, Value, Decided, Seen, Planned, Fresh, Owner, TaskOf, line, held, Inv}
-use Rattle.figure.proofs.Frame.{moved, Rest, Mine, finish, was, undecided, decided-with}
-use Rattle.figure.proofs.Looking.{off, same-unheld, idle-mine, not-late, settled≢late, decided-settled}
+use Rattle.figure_cell.specs.Memory.{Cell, wordOf, store, install, allocate}
+use Rattle.figure_cell.proofs.Classes.{is, holding, racing, won, stored, taking, lies-in, holds-not}
+use Rattle.figure_cell.proofs.Stores.{store-else, store-next, store-current}
+use Rattle.figure_cell.proofs.Invariant.{none, View, Knowledge, Store, Split, Value, Decided, Seen, Planned, Fresh, Owner, TaskOf, line, held, Inv}
+use Rattle.figure_cell.proofs.Frame.{moved, Rest, Mine, finish, was, undecided, decided-with}
+use Rattle.figure_cell.proofs.Looking.{off, same-unheld, idle-mine, not-late, settled≢late, decided-settled}
 
 -- LINE 30, where the held block is the current one
 

@@ -11,11 +11,11 @@ use Rattle.history.specs.History.{Attempt}
 use Rattle.history.specs.Basics.{upd}
 use Rattle.history.proofs.Basics.{upd-same, upd-off, upd-cases}
 use Rattle.history.proofs.Simulation.{Phase, late}
-use Rattle.figure.specs.Figure.{Cell, store}
-use Rattle.figure.proofs.Classes.{is, holding, racing, won, taking, lies-in}
-use Rattle.figure.proofs.Invariant.{View, Knowledge, Split, PhaseIs, line, held, Inv}
-use Rattle.figure.proofs.Frame.{moved, Rest, finish, forget, was, decided-with}
-use Rattle.figure.proofs.Looking.{off, same-loses, idle-mine, not-late}
+use Rattle.figure_cell.specs.Memory.{Cell, store}
+use Rattle.figure_cell.proofs.Classes.{is, holding, racing, won, taking, lies-in}
+use Rattle.figure_cell.proofs.Invariant.{View, Knowledge, Split, PhaseIs, line, held, Inv}
+use Rattle.figure_cell.proofs.Frame.{moved, Rest, finish, forget, was, decided-with}
+use Rattle.figure_cell.proofs.Looking.{off, same-loses, idle-mine, not-late}
 
 -- the view with other memory and another phase
 abbrev pub inMemory : View → Cell → Phase → View

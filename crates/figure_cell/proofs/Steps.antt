@@ -16,17 +16,17 @@ use Rattle.history.specs.Basics.{upd}
 use Rattle.history.specs.History.{Response, Yes, No, Attempt, success, failure, untried}
 use Rattle.history.proofs.Basics.{either, upd-at, upd-off}
 use Rattle.history.proofs.Simulation.{Phase, settled, frozen, late}
-use Rattle.figure.specs.Figure.{Cell, store, install, Accessed, accessCell}
-use Rattle.figure.proofs.Classes.{is, figureLine, busy, holding, swapping, stored, lies-in}
+use Rattle.figure_cell.specs.Memory.{Cell, store, install, Accessed, accessCell}
+use Rattle.figure_cell.proofs.Classes.{is, figureLine, busy, holding, swapping, stored, lies-in}
 use Rattle.history.proofs.ListTests.{by-test}
-use Rattle.figure.proofs.LineLaws.{wanted-is}
-use Rattle.figure.proofs.Invariant.{none, View, Knowledge, PhaseIs, line, held, Inv}
-use Rattle.figure.proofs.Frame.{Mine, quiet, was, Grows, grow, undecided, active-current, active-undecided}
-use Rattle.figure.proofs.Looking.{idle-mine, not-late, T-of, settled≢late, active-settled, value-of, decided-not-late, from1, from2, from3-25, from3-28, from10, from11, from12, from15, from17-18, from17-27, from19-20, from19-27, from20, from21-1, from21-22, from21-23, from24-1, from24-26}
-use Rattle.figure.proofs.Splitter.{keeps16, keeps18, keeps-leaving, keeps27, not-zero}
-use Rattle.figure.proofs.Storing as Storing
-use Rattle.figure.proofs.Deciding as Deciding
-use Rattle.figure.proofs.Replacing as Replacing
+use Rattle.figure_cell.proofs.LineLaws.{wanted-is}
+use Rattle.figure_cell.proofs.Invariant.{none, View, Knowledge, PhaseIs, line, held, Inv}
+use Rattle.figure_cell.proofs.Frame.{Mine, quiet, was, Grows, grow, undecided, active-current, active-undecided}
+use Rattle.figure_cell.proofs.Looking.{idle-mine, not-late, T-of, settled≢late, active-settled, value-of, decided-not-late, from1, from2, from3-25, from3-28, from10, from11, from12, from15, from17-18, from17-27, from19-20, from19-27, from20, from21-1, from21-22, from21-23, from24-1, from24-26}
+use Rattle.figure_cell.proofs.Splitter.{keeps16, keeps18, keeps-leaving, keeps27, not-zero}
+use Rattle.figure_cell.proofs.Storing as Storing
+use Rattle.figure_cell.proofs.Deciding as Deciding
+use Rattle.figure_cell.proofs.Replacing as Replacing
 
 -- in the deciding part the wanted line stays
 same-wanted : (q : Record) (x : Wanted) → (lineOf q ≡ l1 x → lineAt 2 (q .wanted) ≡ l2 x) × (lineOf q ≡ l2 x → lineAt 3 (q .wanted) ≡ l3 x)

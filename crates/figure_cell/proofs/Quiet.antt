@@ -16,14 +16,14 @@ use Rattle.lines.specs.Answers.{Next, Go, Done}
 use Rattle.lines.specs.Basics.{within}
 use Rattle.lines.specs.Record.{noValue}
 use Rattle.lines.specs.Lines.{Line, l1, l2, l3, l4, l5, l6, l7, l8, l10, l11, l12, l15, l16, l17, l18, l19, l20, l21, l22, l23, l24, l26, l27, l30, nowhere, lineOf, accessAt, counted, nextAt, hardware, attempt}
-use Rattle.figure.proofs.Tries.{none-tried}
+use Rattle.figure_cell.proofs.Tries.{none-tried}
 use Rattle.questions.proofs.Numbers.{number}
 use Rattle.history.specs.Basics.{upd}
 use Rattle.history.specs.History.{untried}
 use Rattle.history.proofs.Basics.{upd-at, upd-same, upd-off, upd-cases}
-use Rattle.figure.specs.Figure.{Cell, store, Accessed, accessed, accessCell}
+use Rattle.figure_cell.specs.Memory.{Cell, store, Accessed, accessed, accessCell}
 use Rattle.history.proofs.ListTests.{by-test}
-use Rattle.figure.proofs.Classes.{holding, swapping, uncontended, lies-in}
+use Rattle.figure_cell.proofs.Classes.{holding, swapping, uncontended, lies-in}
 
 -- has not set Y yet; has written X and not yet looked at it
 abbrev pub entering : Line → Bool

@@ -1,0 +1,14 @@
+pub mod AsBegun
+pub mod LineLaws
+pub mod Tries
+pub mod Classes
+pub mod Stores
+pub mod Invariant
+pub mod Frame
+pub mod Looking
+pub mod Splitter
+pub mod Storing
+pub mod Deciding
+pub mod Replacing
+pub mod Steps
+pub mod Quiet
