@@ -11,6 +11,7 @@ use lines::records::first_swap;
 use pool::words::put;
 use pool::words::record_of;
 use refusals::begin_refusal;
+use turns::Move;
 use turns::counts::recount;
 use turns::make_move;
 ghost use mathlib.Core.Path.{_≡_};
@@ -24,6 +25,11 @@ ghost use Rattle.cells.specs.Open.{leaving};
 ghost use Rattle.cells.specs.Begin.{begun};
 ghost use Rattle.cells.specs.Counts.{recounted, Countable};
 ghost use Rattle.cells.specs.Machine.{does};
+ghost use Rattle.cells.specs.Step.{stepped};
+ghost use Rattle.cells.specs.Turn.{Turned, turned, turn, Ready};
+ghost use Rattle.pool.specs.Memory.{There};
+ghost use Rattle.pool.specs.Words.{recordOf};
+ghost use Rattle.blocks.specs.Blocks.{foundOf};
 ghost use Rattle.machine.specs.Actions.{actOf};
 ghost use Rattle.machine.specs.Places.{stateOf, renames};
 
@@ -56,38 +62,70 @@ pub fn advance(
             let outcome = begin(records, tasks, cells, task, first_swap(k, e, w));
             Advanced { last, outcome }
         }
-        Action::Step(task) => {
-            if tasks <= task {
-                return refuse(last, 7);
-            }
-            let from = 12 * task as usize;
-            let to = from + 12;
-            let r = record_of(&records[from..to]);
-            if r.line == 0 {
-                return refuse(last, 11);
-            }
-            let k = r.cell as usize;
-            let c = current[k];
-            // Only line 4 asks for a block.
-            let free = if r.line == 4 {
-                unused_block(counts, blocks, last)
-            } else {
-                Found::Nowhere
-            };
-            if (r.line == 4) & !is_found(free) {
-                return refuse(last, 20);
-            }
-            let n = make_move(pool, &mut records[from..to], task, c, last, free);
-            current[k] = n.current;
-            let q = record_of(&records[from..to]);
-            recount_changed(counts, r, q, c, n.current);
-            let outcome = n.outcome;
-            Advanced {
-                last: n.last,
-                outcome,
-            }
-        }
+        Action::Step(task) => step(pool, records, current, counts, tasks, blocks, last, task),
     }
+}
+
+fn step(
+    pool: &mut [u32],
+    records: &mut [u32],
+    current: &mut [u32; 16],
+    counts: &mut [u8; 128],
+    tasks: u32,
+    blocks: u32,
+    last: u32,
+    task: u32,
+) -> Advanced
+    requires { ⌜ (length (now records) ≡ 384) × ((v : ℕ) × (fit (stateOf tasks v blocks last (now current) (now records) (now counts)) (now pool) ≡ true)) × (length (now current) ≡ 16) × (length (now counts) ≡ 128) ⌝ }
+    ensures { λ u. ⌜ ((v : ℕ) → fit (stateOf tasks v blocks last (now (current .entry)) (now (records .entry)) (now (counts .entry))) (now (pool .entry)) ≡ true → leaving (stateOf tasks v blocks (u .last) (now (current .exit)) (now (records .exit)) (now (counts .exit))) (now (pool .exit)) (said (u .outcome)) ≡ stepped (stateOf tasks v blocks last (now (current .entry)) (now (records .entry)) (now (counts .entry))) (now (pool .entry)) task) ⌝ }
+{
+    if tasks <= task {
+        return refuse(last, 7);
+    }
+    let from = 12 * task as usize;
+    let to = from + 12;
+    let r = record_of(&records[from..to]);
+    if r.line == 0 {
+        return refuse(last, 11);
+    }
+    let k = r.cell as usize;
+    let c = current[k];
+    // Only line 4 asks for a block.
+    let free = if r.line == 4 {
+        unused_block(counts, blocks, last)
+    } else {
+        Found::Nowhere
+    };
+    if (r.line == 4) & !is_found(free) {
+        return refuse(last, 20);
+    }
+    let n = move_on(pool, &mut records[from..to], counts, r, task, c, last, free);
+    current[k] = n.current;
+    let outcome = n.outcome;
+    Advanced {
+        last: n.last,
+        outcome,
+    }
+}
+
+// A busy task's next line on its twelve words, whose record is r, and the counts after it.
+fn move_on(
+    pool: &mut [u32],
+    rec: &mut [u32],
+    counts: &mut [u8; 128],
+    r: Record,
+    task: u32,
+    c: u32,
+    last: u32,
+    free: Found,
+) -> Move
+    requires { ⌜ (length (now rec) ≡ 12) × (r ≡ recordOf (now rec)) × Ready (length (now pool)) r × There (length (now pool)) (foundOf free) × ((u : Turned) → u ≡ turn (now pool) task r c last (foundOf free) → Countable (now counts) r (u .record) c (u .current) × (renames (r .line) (u .record .line) ≡ false → now counts ≡ recounted (now counts) r (u .record) c (u .current))) ⌝ }
+    ensures { λ n. ⌜ (turned (recordOf (now (rec .exit))) (n .current) (n .last) (now (pool .exit)) (said (n .outcome)) ≡ turn (now (pool .entry)) task r c last (foundOf free)) × (now (counts .exit) ≡ recounted (now (counts .entry)) r (recordOf (now (rec .exit))) c (n .current)) ⌝ }
+{
+    let n = make_move(pool, rec, task, c, last, free);
+    let q = record_of(rec);
+    recount_changed(counts, r, q, c, n.current);
+    n
 }
 
 // Most lines change nothing that is counted.
