@@ -11,7 +11,6 @@ use lines::records::first_swap;
 use pool::words::put;
 use pool::words::record_of;
 use refusals::begin_refusal;
-use turns::Move;
 use turns::counts::recount;
 use turns::make_move;
 ghost use mathlib.Core.Path.{_≡_};
@@ -99,33 +98,43 @@ fn step(
     if (r.line == 4) & !is_found(free) {
         return refuse(last, 20);
     }
-    let n = move_on(pool, &mut records[from..to], counts, r, task, c, last, free);
-    current[k] = n.current;
-    let outcome = n.outcome;
-    Advanced {
-        last: n.last,
-        outcome,
-    }
+    move_on(
+        pool,
+        &mut records[from..to],
+        &mut current[k],
+        counts,
+        r,
+        task,
+        c,
+        last,
+        free,
+    )
 }
 
-// A busy task's next line on its twelve words, whose record is r, and the counts after it.
+// A busy task's next line on its twelve words, whose record is r, its cell's block, which was c, and the counts after it.
 fn move_on(
     pool: &mut [u32],
     rec: &mut [u32],
+    block: &mut u32,
     counts: &mut [u8; 128],
     r: Record,
     task: u32,
     c: u32,
     last: u32,
     free: Found,
-) -> Move
+) -> Advanced
     requires { ⌜ (length (now rec) ≡ 12) × (r ≡ recordOf (now rec)) × Ready (length (now pool)) r × There (length (now pool)) (foundOf free) × ((u : Turned) → u ≡ turn (now pool) task r c last (foundOf free) → Countable (now counts) r (u .record) c (u .current) × (renames (r .line) (u .record .line) ≡ false → now counts ≡ recounted (now counts) r (u .record) c (u .current))) ⌝ }
-    ensures { λ n. ⌜ (turned (recordOf (now (rec .exit))) (n .current) (n .last) (now (pool .exit)) (said (n .outcome)) ≡ turn (now (pool .entry)) task r c last (foundOf free)) × (now (counts .exit) ≡ recounted (now (counts .entry)) r (recordOf (now (rec .exit))) c (n .current)) ⌝ }
+    ensures { λ n. ⌜ (turned (recordOf (now (rec .exit))) (now (block .exit)) (n .last) (now (pool .exit)) (said (n .outcome)) ≡ turn (now (pool .entry)) task r c last (foundOf free)) × (now (counts .exit) ≡ recounted (now (counts .entry)) r (recordOf (now (rec .exit))) c (now (block .exit))) ⌝ }
 {
     let n = make_move(pool, rec, task, c, last, free);
+    *block = n.current;
     let q = record_of(rec);
     recount_changed(counts, r, q, c, n.current);
-    n
+    let outcome = n.outcome;
+    Advanced {
+        last: n.last,
+        outcome,
+    }
 }
 
 // Most lines change nothing that is counted.
