@@ -1,7 +1,6 @@
 // Steps 32 tasks on 16 cells 60,000 times by a fixed random schedule, and prints one line of totals. bench/cells has the
 // same loop in plain Rust.
 use cells::Outcome;
-use cells::Reply;
 use libc::STDOUT_FILENO;
 use lines::Answer;
 use lines::Finished;

@@ -2,7 +2,7 @@
 -- the one that a search of the table would.
 use mathlib.Core.Path.{_≡_, refl, sym, _∙_}
 use mathlib.Core.Logic.{_⊎_, inl, inr, ⊎-elim}
-use mathlib.Core.Bool.{Bool, true, false, _&&_, _||_, not, cond, and-eq-true-iff, false≢true}
+use mathlib.Core.Bool.{Bool, true, false, _&&_, _||_, not, cond, false≢true}
 use mathlib.Core.Option.{Option, none, some}
 use mathlib.Core.List.{List}
 use Prim.Native.Nat.{ℕ, zero, suc, _+_, _*_, _≤_, _<_}
@@ -10,12 +10,12 @@ use native.Mathlib.Omega.{arith}
 use native.Mathlib.Decide.{decLe}
 use lib.Dec.{eqb, leb, ltb}
 use lib.ListN.{getD, length}
-use borrow.Author.Tests.{eqb-true, eqb-false, eq-eqb, ne-eqb, leb-true, ltb-true, le-leb, lt-ltb}
+use borrow.Author.Tests.{eqb-true, eqb-false, eq-eqb, ne-eqb, ltb-true, le-leb, lt-ltb}
 use Rattle.lines.specs.declared.Record.{Record}
 use Rattle.questions.specs.declared.State.{State}
 use Rattle.lines.specs.Basics.{sumFrom, anyFrom}
 use Rattle.lines.specs.Record.{isIdle, recordAt}
-use Rattle.questions.specs.Questions.{holds, hasTaken, blocksOk, recordUses, namesOf, uses, countsTrue, fit, fitTests}
+use Rattle.questions.specs.Questions.{holds, hasTaken, recordUses, namesOf, uses, countsTrue, fit, fitTests}
 use Rattle.blocks.specs.Blocks.{isCurrent, usedByTask, used, usesBlock, Spare, blockAfter, unusedFrom, found, unused, readFrom}
 use Rattle.questions.proofs.Tests.{nth, none-of, blocks-true, blocks-most}
 use Rattle.questions.proofs.Sums.{once}

@@ -1,6 +1,6 @@
 // Which block is handed out: the first whose count is 0.
 ghost use mathlib.Core.Path.{_≡_};
-ghost use Prim.Native.Nat.{_≤_, _<_};
+ghost use Prim.Native.Nat.{_<_};
 ghost use Rattle.blocks.specs.Blocks.{blockAfter, found, foundOf, isFound};
 
 pub enum Found {

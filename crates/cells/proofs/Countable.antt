@@ -1,6 +1,6 @@
 -- What 8 bits need, in a fit state: each count is what its block is used, so at least what one record and one cell name of it, and at most 80.
 -- And two changes that leave the counts as they are.
-use mathlib.Core.Path.{_≡_, refl, sym, ap, _∙_}
+use mathlib.Core.Path.{_≡_, refl, _∙_}
 use mathlib.Core.Bool.{Bool, true, false, _&&_, not, cond}
 use mathlib.Core.List.{List}
 use Prim.Native.Nat.{ℕ, _+_, _≤_, _<_}

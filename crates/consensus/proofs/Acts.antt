@@ -23,7 +23,7 @@ use Rattle.consensus.specs.declared.OnceState.{OnceState}
 use Rattle.consensus.specs.Figure.{stageOf, GoesOn, idleOffer, Leaves, withStep, leaves}
 use Rattle.consensus.specs.Questions.{offerAt, freshCell, onceAt, hasOffered, isIdleOffer, isStep, offerTests, offerFit, offersFit, onceFit, offerQuestions, turnQuestions}
 use Rattle.consensus.specs.Entries.{OnceAfter, onceAfter, orRefused, replaced, noted, firstOffer, offerBegun, storedBack, onceStepped}
-use Rattle.consensus.specs.History.{Move, offer, step, MoveEvent, refused, admitted, offerEvent, stepEvent, once, OnceCall, OnceCalls, tallied, tally}
+use Rattle.consensus.specs.History.{Move, offer, step, MoveEvent, admitted, offerEvent, stepEvent, once, OnceCall, OnceCalls, tallied, tally}
 use Rattle.consensus.specs.Consensus.{May}
 use Rattle.consensus.proofs.Classes.{busy, lies-in}
 use Rattle.consensus.proofs.Invariant as I

@@ -11,16 +11,15 @@ use Rattle.lines.specs.declared.Field.{Field}
 use Rattle.lines.specs.declared.Field.the-variants.{D}
 use Rattle.lines.specs.declared.Access.{Access}
 use Rattle.lines.specs.declared.Access.the-variants.{DecideCas, InstallCas}
-use Rattle.lines.specs.Record.{noValue, idle}
+use Rattle.lines.specs.Record.{noValue}
 use Rattle.lines.specs.Lines.{Line, for13, for25, for28, l2, l30, lineOf, accessAt, accessOf, hardware, found, attempt}
 use Rattle.figure_cell.proofs.Tries.{none-tried}
 use Rattle.questions.specs.Questions.{lineFit}
 use Rattle.questions.proofs.Numbers.{number, at-number}
 use Rattle.cells.specs.Events.{tried}
-use Rattle.history.specs.History.{Attempt, success, failure, untried, Action, run}
+use Rattle.history.specs.History.{success, failure, untried, Action, run}
 use Rattle.history.proofs.Basics.{either}
-use Rattle.history.proofs.ListTests.{by-test}
-use Rattle.figure_cell.specs.Memory.{Cell, wordOf, store, install, accessed, Accessed, accessCell}
+use Rattle.figure_cell.specs.Memory.{Cell, wordOf, store, install, accessed}
 use Rattle.figure.specs.Figure.{World, figureAnswers, triedIn, opening, figure}
 use Rattle.figure.specs.Moments.{sight, sees}
 use Rattle.figure.specs.Attempts.{judged}

@@ -1,5 +1,5 @@
 -- What becomes of a step's hardware CAS, by the memory before the step.
-use mathlib.Core.Bool.{Bool, cond}
+use mathlib.Core.Bool.{cond}
 use lib.Dec.{eqb}
 use Rattle.history.specs.History.{Attempt, success, failure, untried}
 use Rattle.figure.specs.Moments.{Sight}

@@ -7,7 +7,7 @@ use lib.Dec.{eqb}
 use Rattle.lines.specs.declared.Access.{Access}
 use Rattle.lines.specs.declared.Access.the-variants.{LoadCell, Load, Store, DecideCas, InstallCas, Allocate, Nothing}
 use Rattle.lines.specs.Lines.{hardware, attempt}
-use Rattle.history.specs.History.{Attempt, success, failure, untried, wins, losses}
+use Rattle.history.specs.History.{success, failure, untried, wins, losses}
 
 one : (b : Bool) → wins (cond b success failure) + losses (cond b success failure) ≡ 1
 one true = refl

@@ -6,7 +6,7 @@ use mathlib.Core.List.{_∷_}
 use Prim.Native.Nat.{ℕ, suc, _+_, _≤_}
 use native.Mathlib.Omega.{arith}
 use Rattle.history.specs.Basics.{_∈_}
-use Rattle.history.specs.History.{cellOf, Action, begin, step, Attempt, wins, losses, untried, Event, accepted, answered, CallId, Call, attempts, FinishedCall, Calls, called, advance, advanced, enter, CallOf, finished, pending}
+use Rattle.history.specs.History.{cellOf, Action, begin, step, Attempt, untried, Event, accepted, answered, CallId, Call, attempts, FinishedCall, Calls, called, advance, advanced, enter, CallOf, finished, pending}
 use Rattle.history.specs.History.{run}
 use Rattle.history.specs.Demand3.{Unequal, Alone, NoHardware, clearAfter}
 use Rattle.history.proofs.Basics.{upd-same, clash, some-inj}

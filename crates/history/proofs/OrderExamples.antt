@@ -1,6 +1,6 @@
 -- The order of marks at one action: before, itself, after; who changes its cell first; then lower tasks. Computed.
 use mathlib.Core.Path.{_≡_, refl}
-use mathlib.Core.List.{List, [], _∷_}
+use mathlib.Core.List.{[], _∷_}
 use Prim.Native.Nat.{ℕ}
 use Rattle.history.specs.History.{Op, read, swap, Response, Value, Yes}
 use Rattle.history.specs.Moments.{Side, before, itself, after, C4, Mark, sort}

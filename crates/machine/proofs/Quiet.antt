@@ -3,10 +3,9 @@ use mathlib.Core.Path.{_≡_, refl, sym, ap, _∙_}
 use mathlib.Core.Bool.{Bool, true, false, cond, _&&_, _||_, not, false≢true}
 use mathlib.Core.Option.{Option, none, some}
 use mathlib.Core.List.{List}
-use Prim.Native.Nat.{ℕ, _+_, _≤_, _<_}
+use Prim.Native.Nat.{ℕ}
 use native.Mathlib.Omega.{arith}
 use lib.Dec.{eqb}
-use lib.ListN.{length, getD}
 use Rattle.lines.specs.declared.Record.{Record}
 use Rattle.lines.specs.declared.Access.{Access}
 use Rattle.lines.specs.declared.Access.the-variants.{LoadCell, Load, Store, DecideCas, InstallCas, Allocate, Nothing}
@@ -17,7 +16,7 @@ use Rattle.lines.specs.Lines.{Line, for13, for25, for28, l1, l2, l3, l4, l5, l6
 use Rattle.history.specs.History.{Yes, No}
 use Rattle.pool.specs.Pool.{word}
 use Rattle.pool.specs.Memory.{Touched, performed}
-use Rattle.questions.specs.Questions.{reads, swaps, ofKind, lineFit, holdsBefore, takenBefore, recordUses}
+use Rattle.questions.specs.Questions.{reads, swaps, ofKind, lineFit, holdsBefore, takenBefore}
 use Rattle.questions.specs.Counts.{claimed}
 use Rattle.questions.proofs.Numbers.{number, at-number}
 use Rattle.cells.specs.Counts.{released, renamed, recounted, Countable}

@@ -13,7 +13,6 @@ use moments_spots::stands;
 use moments_words::enter;
 use questions::State;
 ghost use mathlib.Core.Path.{_≡_};
-ghost use mathlib.Core.Bool.{Bool};
 ghost use Prim.Native.Nat.{ℕ, _+_, _≤_, _<_};
 ghost use lib.ListN.{length, take};
 ghost use Rattle.lines.specs.Answers.{answerOf};
@@ -21,7 +20,7 @@ ghost use Rattle.lines.specs.Record.{recordAt, opOf};
 ghost use Rattle.cells.specs.Answers.{said};
 ghost use Rattle.machine.specs.Actions.{actOf};
 ghost use Rattle.moments_notes.specs.Words.{wordOf, insertWord, SortedWords};
-ghost use Rattle.moments_notes.specs.Notes.{notesOf, Sized};
+ghost use Rattle.moments_notes.specs.Notes.{notesOf};
 ghost use Rattle.moments_notes.specs.Loop.{endingSpot, endedWords, endedCount, EndFits, Sided, standingWords, MomentFits, lineIf, notedLine, spreads as «spreadsOf», closing, Closing};
 
 // The word of task t's call, which ends with that answer.

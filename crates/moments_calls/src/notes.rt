@@ -11,7 +11,7 @@ ghost use Prim.Native.Nat.{ℕ, _+_, _≤_, _<_};
 ghost use lib.Dec.{eqb};
 ghost use lib.ListN.{getD, length};
 ghost use Rattle.lines.specs.Record.{idle, recordAt};
-ghost use Rattle.figure.specs.Moments.{noteFor, noted};
+ghost use Rattle.figure.specs.Moments.{noted};
 ghost use Rattle.pool.specs.Words.{recordsOf};
 ghost use Rattle.moments_notes.specs.Notes.{slot as «slotOf», seen, holdsWith, sightOf, notesOf, ownOf, Sized};
 

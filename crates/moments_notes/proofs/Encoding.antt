@@ -1,5 +1,5 @@
 -- A mark and its word: the words' order is the marks' order, and a word's line is its mark's.
-use mathlib.Core.Path.{_≡_, refl, sym, ap, ap₂, subst, _∙_}
+use mathlib.Core.Path.{_≡_, refl, sym, ap, ap₂, _∙_}
 use mathlib.Core.Bool.{Bool, true, false, cond}
 use mathlib.Core.List.{List, [], _∷_, _++_, map}
 use Prim.Native.Nat.{ℕ, _+_, _*_, _/_, _%_, _≤_, _<_}
@@ -7,8 +7,8 @@ use native.Mathlib.Omega.{arith}
 use native.Mathlib.Decide.{decLe}
 use lib.Dec.{eqb, leb}
 use borrow.Author.Tests.{le-leb, lt-leb, leb-true, leb-false, eqb-true, eqb-false}
-use Rattle.history.specs.History.{Op, read, swap, cellOf, Kind, aRead, aSwap, kindOf, Response}
-use Rattle.history.specs.Moments.{Side, before, itself, after, Rule, R1, R2, C1, C2, C3, C4, C5, C6, Spot, Mark, changing, sideNumber, key, notAfter, insert, sort}
+use Rattle.history.specs.History.{cellOf, Kind, aRead, aSwap, kindOf}
+use Rattle.history.specs.Moments.{Side, before, itself, after, Rule, R1, R2, C1, C2, C3, C4, C5, C6, Mark, changing, sideNumber, key, notAfter, insert, sort}
 use Rattle.moments_text.specs.Lines.{atLine, markLine, markLines}
 use Rattle.moments_notes.specs.Words.{ruleNumber, kindNumber, rank, joined, encode, insertWord, Small, AllSmall, Listed, sideAt, kindBit, ruleAt, wordLine, wordLines}
 use Rattle.moments_notes.proofs.Sorting.{insert-sorted}

@@ -1,24 +1,24 @@
 -- What an action does to the records, and so to the pending calls: each is of the operation that its task's record has.
-use mathlib.Core.Path.{_≡_, refl, sym, ap, subst, _∙_}
+use mathlib.Core.Path.{_≡_, refl, sym, _∙_}
 use mathlib.Core.Logic.{_≢_, _⊎_, inl, inr}
-use mathlib.Core.Bool.{Bool, true, false, not, _&&_, false≢true}
+use mathlib.Core.Bool.{true, false, not, _&&_, false≢true}
 use mathlib.Core.Option.{Option, none, some}
 use mathlib.Core.List.{List, [], _∷_}
 use Prim.Native.Nat.{ℕ, _≤_, _<_}
 use native.Mathlib.Omega.{arith}
-use lib.ListN.{length, getD, set}
+use lib.ListN.{length, set}
 use lib.Seq.{getD-set-same, getD-set-other}
 use lib.Dec.{eqb, ltb}
 use borrow.Author.Tests.{ltb-true}
 use Rattle.lines.specs.declared.Record.{Record}
-use Rattle.lines.specs.Answers.{Result, Next, Go, Done}
+use Rattle.lines.specs.Answers.{Result, Next}
 use Rattle.lines.specs.Record.{noValue, idle, isIdle, recordAt, firstRead, firstSwap, opOf}
 use Rattle.lines.specs.Lines.{Line, lineOf, accessOf, attempt, counted, nextOf}
 use Rattle.questions.specs.declared.State.{State}
 use Rattle.questions.specs.Questions.{Question, refusal, answers, fit, beginQuestions, swapQuestions}
 use Rattle.questions.proofs.Tests.{all-yes, nth, yes-to}
 use Rattle.blocks.specs.Blocks.{unused}
-use Rattle.cells.specs.Answers.{Said, Refused, Acted, Ended}
+use Rattle.cells.specs.Answers.{Refused, Acted, Ended}
 use Rattle.cells.specs.Open.{After, leaving, unless}
 use Rattle.cells.specs.Begin.{started, readBegun, swapBegun}
 use Rattle.cells.specs.Step.{current, putBack, ran, stepAsks, stepped}
@@ -30,7 +30,7 @@ use Rattle.cells.proofs.Stepping.{Acting, own-acting}
 use Rattle.figure_cell.proofs.LineLaws.{Leads, goes, done, leads}
 use Rattle.figure.proofs.Records.{not-idle}
 use Rattle.history.specs.Basics.{upd}
-use Rattle.history.specs.History.{Op, read, swap, Action, begin, step, Attempt, Event, Call, Calls, called, advance, advanced, enter}
+use Rattle.history.specs.History.{Op, read, swap, Action, begin, step, Attempt, Call, Calls, called, advance, advanced, enter}
 use Rattle.history.proofs.Basics.{either, upd-at, upd-off}
 
 -- a step that is done

@@ -1,7 +1,6 @@
 -- The loop over the actions: the words are those of the marks so far, and what is left from here on makes the whole.
 use mathlib.Core.Path.{_≡_, refl, sym, ap, subst, _∙_}
-use mathlib.Core.Logic.{_⊎_, inl, inr}
-use mathlib.Core.Bool.{Bool, true, false, cond, false≢true}
+use mathlib.Core.Bool.{Bool, true, false, false≢true}
 use mathlib.Core.Option.{Option, none, some}
 use mathlib.Core.List.{List, [], _∷_, _++_, append-assoc}
 use Prim.Native.Nat.{ℕ, zero, suc, _≤_, _<_}
@@ -17,19 +16,19 @@ use Rattle.cells.specs.Open.{After, leaving}
 use Rattle.cells.specs.Step.{current}
 use Rattle.cells.specs.Events.{eventOf}
 use Rattle.cells.specs.Machine.{Pool, does, triedBy, pool}
-use Rattle.history.specs.History.{Op, cellOf, Action, begin, step, taskOf, Response, Value, Yes, No, Attempt, Call, Calls, noCalls, enter}
+use Rattle.history.specs.History.{cellOf, Action, begin, step, taskOf, Response, Value, Yes, No, Attempt, Call, Calls, noCalls, enter}
 use Rattle.history.specs.Moments.{Spot, Mark, marks, marked, markOf, markOfPending, pendingMarks}
 use Rattle.figure.specs.Moments.{Notes, noNotes, noted, note, noting, names, ruled, stands}
 use Rattle.figure_cell.proofs.AsBegun.{cell-of}
 use Rattle.refinement.specs.Moments.{seesPool}
 use Rattle.moments_notes.specs.declared.Sight.{Sight}
 use Rattle.moments_notes.specs.declared.Own.{Own}
-use Rattle.moments_notes.specs.Words.{wordOf, encode, insertWord, Small, Listed}
-use Rattle.moments_notes.specs.Notes.{slot, seen, holdsWith, sightOf, notesOf, ownOf, ownNotes}
+use Rattle.moments_notes.specs.Words.{wordOf, insertWord, Listed}
+use Rattle.moments_notes.specs.Notes.{slot, seen, holdsWith, sightOf, notesOf, ownOf}
 use Rattle.moments_notes.specs.Loop.{endingSpot, endedWords, EndFits, notedLine, spreads, standWords, StandFits, closing, Closing}
 use Rattle.moments_notes.proofs.Encoding.{none-listed, one-listed}
 use Rattle.moments_notes.proofs.Noting.{zeros-at}
-use Rattle.moments_runner.proofs.Doing.{Steps, Did, refuses, begins, moves, ends, did, BegunAs, AllBegun, begun-next}
+use Rattle.moments_runner.proofs.Doing.{Steps, Did, refuses, begins, moves, ends, did, AllBegun, begun-next}
 use Rattle.moments_runner.proofs.Seeing.{Who, same-noted}
 
 abbrev left : ℕ → Pool → Notes → Calls → List Mark → List Action → List Mark

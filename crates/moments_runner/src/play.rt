@@ -18,7 +18,7 @@ use moments_words::put_marks;
 use questions::State;
 ghost use mathlib.Core.Path.{_≡_};
 ghost use mathlib.Core.List.{map};
-ghost use Prim.Native.Nat.{ℕ, _≤_};
+ghost use Prim.Native.Nat.{_≤_};
 ghost use lib.ListN.{length, take, replicate};
 ghost use Rattle.lines.specs.Record.{idle};
 ghost use Rattle.refinement.specs.Reached.{Reached};

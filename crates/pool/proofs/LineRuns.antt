@@ -2,7 +2,7 @@
 use mathlib.Core.Path.{_≡_, refl, sym, ap, subst, _∙_}
 use mathlib.Core.Option.{Option}
 use mathlib.Core.List.{List}
-use Prim.Native.Nat.{ℕ, _+_, _*_, _<_}
+use Prim.Native.Nat.{ℕ}
 use Rattle.lines.specs.declared.Record.{Record}
 use Rattle.lines.specs.declared.Field.{Field}
 use Rattle.lines.specs.declared.Access.{Access}

@@ -1,9 +1,9 @@
 -- A table into which the cells and the first t tasks are counted: that there is room for the next, what the next makes of it, and what a
 -- comparison with it says at the end.
-use mathlib.Core.Path.{_≡_, refl, sym, ap, _∙_}
-use mathlib.Core.Bool.{Bool, true, false, _&&_, _||_, not, cond, and-eq-true-iff, false≢true}
+use mathlib.Core.Path.{_≡_, refl, ap, _∙_}
+use mathlib.Core.Bool.{Bool, true, false, _&&_, _||_, not, and-eq-true-iff, false≢true}
 use mathlib.Core.List.{List}
-use Prim.Native.Nat.{ℕ, suc, _+_, _*_, _≤_, _<_}
+use Prim.Native.Nat.{ℕ, suc, _+_, _≤_, _<_}
 use native.Mathlib.Omega.{arith}
 use lib.Dec.{eqb, ltb}
 use lib.ListN.{getD, length}
@@ -12,7 +12,7 @@ use Rattle.lines.specs.declared.Record.{Record}
 use Rattle.questions.specs.declared.State.{State}
 use Rattle.lines.specs.Basics.{allFrom, sumFrom}
 use Rattle.lines.specs.Record.{isIdle, recordAt}
-use Rattle.questions.specs.Questions.{holds, hasTaken, blocksFit, recordFit, recordUses, namesOf, uses, countsTrue}
+use Rattle.questions.specs.Questions.{holds, hasTaken, blocksFit, recordFit, recordUses, uses, countsTrue}
 use Rattle.questions.specs.Counts.{claimed, Roomy, Room}
 use Rattle.questions.proofs.Tests.{all-alike}
 use Rattle.questions.proofs.Fits.{busy-test}

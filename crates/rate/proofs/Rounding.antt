@@ -7,7 +7,7 @@ use native.Mathlib.Omega.{arith}
 use borrow.Author.Tests.{ltb-true, ltb-false, eqb-true, eqb-false, ne-eqb}
 use lib.Dec.{eqb, ltb}
 use Rattle.rate.specs.Rate.{rate}
-use Rattle.rate.specs.Nearest.{distance, Nearest}
+use Rattle.rate.specs.Nearest.{Nearest}
 
 -- A QUOTIENT, ROUNDED
 

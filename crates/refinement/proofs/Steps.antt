@@ -14,7 +14,7 @@ use Rattle.cells.specs.Answers.{Said, Refused, Acted}
 use Rattle.lines.specs.Answers.{Next}
 use Rattle.lines.specs.Basics.{ands}
 use Rattle.lines.specs.Record.{noValue, idle, isIdle, recordAt}
-use Rattle.lines.specs.Lines.{lineOf, accessOf, attempt, counted}
+use Rattle.lines.specs.Lines.{lineOf, accessOf, counted}
 use Rattle.questions.specs.Questions.{Question, refusal, reads, swaps, countsTrue, fit, answers}
 use Rattle.cells.specs.Open.{After, unless}
 use Rattle.lines.specs.Record.{firstRead, firstSwap}

@@ -8,9 +8,9 @@ use native.Mathlib.Omega.{arith}
 use lib.ListN.{length, length-append}
 use Rattle.text.specs.Bytes.{decimal}
 use Rattle.text.specs.Lines.{numbers as spaced}
-use Rattle.text.specs.Readers.{word, number}
+use Rattle.text.specs.Readers.{word}
 use Rattle.text.proofs.ReadBack.{startsDigit, number-back}
-use Rattle.session_file.specs.Session.{close, item, numbers, manyWithin, many, snoc}
+use Rattle.session_file.specs.Session.{close, item, numbers, manyWithin, snoc}
 use Rattle.session_file.specs.Proper.{Small}
 
 -- a space is no digit

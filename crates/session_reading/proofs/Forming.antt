@@ -7,7 +7,7 @@ use native.Mathlib.Omega.{arith}
 use lib.ListN.{take, drop, getD}
 use lib.Seq.{getD-take}
 use Rattle.text.specs.Readers.{Reader, Reads, pure, _>>=_, _>>_}
-use Rattle.session_file.specs.Session.{Kind, reading, swapping, stepping, repeating, arity, head, close, Form, Forms, act, again, body, list, form, actions, actionsOf, times}
+use Rattle.session_file.specs.Session.{Kind, reading, swapping, stepping, repeating, arity, head, close, Forms, act, again, body, list, form, actions, actionsOf, times}
 use Rattle.session_reading.specs.Reading.{acted}
 use Rattle.session_reading.specs.Answers.{kindNumber, HeadIs}
 use Rattle.session_reading.specs.declared.Start.{Start}

@@ -13,7 +13,6 @@ use Rattle.text.proofs.Appending.{nothing, entire}
 use Rattle.questions.specs.declared.State.{State}
 use Rattle.questions.specs.Questions.{refusal, openQuestions}
 use Rattle.lines.specs.Answers.{Result}
-use Rattle.lines.specs.Record.{idle}
 use Rattle.cells.specs.Answers.{Said, Refused, Acted, Ended, acts}
 use Rattle.cells.specs.Open.{After, leaving, unless, openState, openPool, opened}
 use Rattle.cells.specs.Machine.{Pool}

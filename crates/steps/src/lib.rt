@@ -7,7 +7,6 @@ use blocks::Found;
 use cells::Outcome;
 use cells::Reply;
 use fitness::is_fit;
-use lines::Record;
 use lines::records;
 use questions::State;
 use refusals::step_refusal;

@@ -1,11 +1,11 @@
 -- The loop: what is left from this block on answers for all.
-use mathlib.Core.Path.{_≡_, sym, ap, _∙_}
+use mathlib.Core.Path.{_≡_, sym}
 use mathlib.Core.Bool.{true, _&&_}
-use Prim.Native.Nat.{ℕ, _≤_, _<_}
+use Prim.Native.Nat.{_≤_, _<_}
 use lib.Dec.{leb, ltb}
 use denote.Ref.{now}
 use borrow.Author.Tests.{not-true, not-false}
-use Rattle.blocks.specs.Blocks.{blockAfter, unusedFrom, found}
+use Rattle.blocks.specs.Blocks.{unusedFrom, found}
 use Rattle.blocks.proofs.Unused.{after-below}
 use Rattle.blocks.proofs.Search.{starts, finds, finds-none, here, onward, nowhere}
 use borrow.Author.Needs.{needs}

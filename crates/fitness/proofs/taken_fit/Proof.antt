@@ -1,6 +1,5 @@
 use mathlib.Core.Bool.{or-true, or-false}
 use borrow.Author.Tests.{lt-ltb, le-ltb}
-use borrow.Author.Needs.{needs}
 use Rattle.fitness.proofs.taken_fit.Statement.{statement}
 use Rattle.fitness.proofs.taken_fit.Tie as tie
 

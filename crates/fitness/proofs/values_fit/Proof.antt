@@ -1,5 +1,4 @@
 use borrow.Author.Tests.{eq-eqb, ne-eqb}
-use borrow.Author.Needs.{needs}
 use Rattle.fitness.proofs.values_fit.Statement.{statement}
 use Rattle.fitness.proofs.values_fit.Tie as tie
 

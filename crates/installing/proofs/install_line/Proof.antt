@@ -1,5 +1,5 @@
 use borrow.Author.Needs.{needs}
-use mathlib.Core.Path.{_≡_, refl}
+use mathlib.Core.Path.{refl}
 use lib.ListN.{getD}
 use Rattle.lines.specs.declared.Field.the-variants.{Y, C}
 use Rattle.lines.specs.Lines.{l26, l27}

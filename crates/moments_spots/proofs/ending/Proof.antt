@@ -1,8 +1,7 @@
 use Rattle.moments_notes.proofs.Ruling.{read-spot}
 use Rattle.history.specs.Moments.{R1, R2}
 use borrow.Author.Needs.{needs}
-use native.Mathlib.Omega.{arith}
-use borrow.Author.Tests.{eq-eqb, ne-eqb, not-true, not-false}
+use borrow.Author.Tests.{ne-eqb}
 use mathlib.Core.Path.{sym, ap, _∙_}
 use mathlib.Core.List.{[]}
 use Prim.Native.Nat.{ℕ}
@@ -11,13 +10,6 @@ use Rattle.figure.specs.Moments.{rules, ruleAt}
 use Rattle.moments_notes.specs.Notes.{sightOf, ownNotes, numbered}
 use Rattle.moments_spots.proofs.ending.Statement.{statement}
 use Rattle.moments_spots.proofs.ending.Tie as tie
-use Rattle.moments_spots.proofs.ending.Reads as reads
-use Rattle.moments_spots.proofs.ending.Lts as lts
-use Rattle.moments_spots.proofs.effect.Reads as effect-reads
-use Rattle.moments_spots.proofs.figure_line.Reads as figure-line-reads
-use Rattle.moments_spots.proofs.itself.Reads as itself-reads
-use Rattle.moments_spots.proofs.line_c6.Reads as line-c6-reads
-use Rattle.moments_spots.proofs.read_rule.Reads as read-rule-reads
 
 figure-line-requires : tie.Need-figure-line-requires
 figure-line-requires c κs = search needs

@@ -1,10 +1,5 @@
-use borrow.Author.Needs.{needs}
-use native.Mathlib.Omega.{arith}
-use borrow.Author.Tests.{eq-eqb, ne-eqb, not-true, not-false}
 use Rattle.moments_spots.proofs.figure_line.Statement.{statement}
 use Rattle.moments_spots.proofs.figure_line.Tie as tie
-use Rattle.moments_spots.proofs.figure_line.Reads as reads
-use Rattle.moments_spots.proofs.figure_line.Lts as lts
 
 returns : tie.Need-returns
 returns c = rw (c .if1 .taken)

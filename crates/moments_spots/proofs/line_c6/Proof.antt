@@ -1,11 +1,6 @@
 use borrow.Author.Needs.{needs}
-use native.Mathlib.Omega.{arith}
-use borrow.Author.Tests.{eq-eqb, ne-eqb, not-true, not-false}
 use Rattle.moments_spots.proofs.line_c6.Statement.{statement}
 use Rattle.moments_spots.proofs.line_c6.Tie as tie
-use Rattle.moments_spots.proofs.line_c6.Reads as reads
-use Rattle.moments_spots.proofs.line_c6.Lts as lts
-use Rattle.moments_spots.proofs.itself.Reads as itself-reads
 
 enum-told : tie.Need-enum-told
 enum-told c = search needs

@@ -1,13 +1,8 @@
 use borrow.Author.Needs.{needs}
-use native.Mathlib.Omega.{arith}
 use borrow.Author.Tests.{eq-eqb, ne-eqb, not-true, not-false}
 use Rattle.lines.specs.Basics.{within}
 use Rattle.moments_spots.proofs.stands.Statement.{statement}
 use Rattle.moments_spots.proofs.stands.Tie as tie
-use Rattle.moments_spots.proofs.stands.Reads as reads
-use Rattle.moments_spots.proofs.stands.Lts as lts
-use Rattle.moments_spots.proofs.figure_line.Reads as figure-line-reads
-use Rattle.moments_spots.proofs.itself.Reads as itself-reads
 
 figure-line-requires : tie.Need-figure-line-requires
 figure-line-requires c κs = search needs

@@ -1,10 +1,7 @@
 use borrow.Author.Needs.{needs}
-use native.Mathlib.Omega.{arith}
 use Rattle.moments_notes.proofs.Ruling.{changes-yes, changes-no, changes-value}
 use Rattle.moments_words.proofs.changes.Statement.{statement}
 use Rattle.moments_words.proofs.changes.Tie as tie
-use Rattle.moments_words.proofs.changes.Reads as reads
-use Rattle.moments_words.proofs.changes.Lts as lts
 
 enum-told : tie.Need-enum-told
 enum-told c = search needs

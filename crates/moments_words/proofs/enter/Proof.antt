@@ -1,15 +1,10 @@
 use borrow.Author.Needs.{needs}
-use native.Mathlib.Omega.{arith}
 use mathlib.Core.Path.{ap, _∙_}
 use Prim.Native.Nat.{ℕ}
 use lib.ListN.{take}
 use Rattle.moments_notes.specs.Words.{insertWord}
 use Rattle.moments_words.proofs.enter.Statement.{statement}
 use Rattle.moments_words.proofs.enter.Tie as tie
-use Rattle.moments_words.proofs.enter.Reads as reads
-use Rattle.moments_words.proofs.enter.Lts as lts
-use Rattle.moments_words.proofs.insert.Reads as insert-reads
-use Rattle.moments_words.proofs.word_of.Reads as word-of-reads
 
 word-of-requires : tie.Need-word-of-requires
 word-of-requires c κs = search needs

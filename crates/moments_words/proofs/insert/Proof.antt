@@ -1,6 +1,5 @@
 use borrow.Author.Needs.{needs}
 use native.Mathlib.Omega.{arith}
-use borrow.Author.Tests.{eq-eqb, ne-eqb, le-ltb, lt-ltb}
 use Prim.Native.Nat.{_≤_}
 use mathlib.Core.Path.{_≡_}
 use lib.ListN.{length, take}
@@ -8,8 +7,6 @@ use lib.Seq.{length-take-le}
 use Rattle.moments_notes.proofs.Sorting.{Opened, opened, goes-behind, goes-down, goes-first}
 use Rattle.moments_words.proofs.insert.Statement.{statement}
 use Rattle.moments_words.proofs.insert.Tie as tie
-use Rattle.moments_words.proofs.insert.Reads as reads
-use Rattle.moments_words.proofs.insert.Lts as lts
 
 abbrev Inv-loop : tie.InvT-loop
 Inv-loop list₀ n w j₀ list j = Opened (take n list₀) w list j × (length list ≡ length list₀) × (j ≤ n)

@@ -1,12 +1,8 @@
 use borrow.Author.Needs.{needs}
 use native.Mathlib.Omega.{arith}
-use borrow.Author.Tests.{eq-eqb, ne-eqb, le-ltb, lt-ltb}
 use mathlib.Core.Path.{_≡_}
 use Rattle.moments_words.proofs.put_low_rule.Statement.{statement}
 use Rattle.moments_words.proofs.put_low_rule.Tie as tie
-use Rattle.moments_words.proofs.put_low_rule.Reads as reads
-use Rattle.moments_words.proofs.put_low_rule.Lts as lts
-use Rattle.text.proofs.put.Reads as put-reads
 
 slice-aggregate-put : tie.Need-slice-aggregate-put
 slice-aggregate-put c = search needs

@@ -1,17 +1,9 @@
 use borrow.Author.Needs.{needs}
 use native.Mathlib.Omega.{arith}
-use borrow.Author.Tests.{eq-eqb, ne-eqb, le-ltb, lt-ltb}
 use Rattle.text.proofs.Appending.{then}
 use Rattle.moments_text.specs.Lines.{atLine}
 use Rattle.moments_words.proofs.put_mark.Statement.{statement}
 use Rattle.moments_words.proofs.put_mark.Tie as tie
-use Rattle.moments_words.proofs.put_mark.Reads as reads
-use Rattle.moments_words.proofs.put_mark.Lts as lts
-use Rattle.moments_words.proofs.put_kind.Reads as put-kind-reads
-use Rattle.moments_words.proofs.put_rule.Reads as put-rule-reads
-use Rattle.moments_words.proofs.put_side.Reads as put-side-reads
-use Rattle.moments_words.proofs.put_small.Reads as put-small-reads
-use Rattle.text.proofs.put.Reads as put-reads
 
 slice-aggregate-put : tie.Need-slice-aggregate-put
 slice-aggregate-put c = search needs

@@ -1,16 +1,12 @@
 use borrow.Author.Needs.{needs}
 use native.Mathlib.Omega.{arith}
-use borrow.Author.Tests.{eq-eqb, ne-eqb, le-ltb, lt-ltb}
-use Prim.Native.Nat.{_+_, _-_, _*_, _≤_}
+use Prim.Native.Nat.{_-_, _*_, _≤_}
 use lib.ListN.{take, drop}
 use Rattle.text.proofs.Toward.{Toward, toward-start, toward-more, toward-end}
 use Rattle.moments_notes.specs.Words.{wordLines}
 use Rattle.moments_words.proofs.Printing.{word-at, word-end}
 use Rattle.moments_words.proofs.put_marks.Statement.{statement}
 use Rattle.moments_words.proofs.put_marks.Tie as tie
-use Rattle.moments_words.proofs.put_marks.Reads as reads
-use Rattle.moments_words.proofs.put_marks.Lts as lts
-use Rattle.moments_words.proofs.put_mark.Reads as put-mark-reads
 
 abbrev Inv-loop : tie.InvT-loop
 Inv-loop out₀ list n i₀ at₀ out i at = Toward out₀ out 0 at (wordLines (drop i (take n list))) (wordLines (take n list)) × (i ≤ n) × (at ≤ 32 * i)

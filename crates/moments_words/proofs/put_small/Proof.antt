@@ -1,13 +1,8 @@
 use borrow.Author.Needs.{needs}
 use native.Mathlib.Omega.{arith}
-use borrow.Author.Tests.{eq-eqb, ne-eqb, le-ltb, lt-ltb}
 use Rattle.text.proofs.Decimal.{decimal-short}
 use Rattle.moments_words.proofs.put_small.Statement.{statement}
 use Rattle.moments_words.proofs.put_small.Tie as tie
-use Rattle.moments_words.proofs.put_small.Reads as reads
-use Rattle.moments_words.proofs.put_small.Lts as lts
-use Rattle.text.proofs.numbered.wide.Reads as wide-reads
-use Rattle.text.proofs.put_number.Reads as put-number-reads
 
 wide-requires : tie.Need-wide-requires
 wide-requires c κs = search needs

@@ -4,11 +4,6 @@ use Rattle.moments_notes.proofs.Ruling.{word-same}
 use Rattle.lines.specs.Answers.{answerOf}
 use Rattle.moments_words.proofs.word_of.Statement.{statement}
 use Rattle.moments_words.proofs.word_of.Tie as tie
-use Rattle.moments_words.proofs.word_of.Reads as reads
-use Rattle.moments_words.proofs.word_of.Lts as lts
-use Rattle.moments_words.proofs.bit.Reads as bit-reads
-use Rattle.moments_words.proofs.changes.Reads as changes-reads
-use Rattle.moments_words.proofs.moment.Reads as moment-reads
 
 moment-requires : tie.Need-moment-requires
 moment-requires c κs = search needs

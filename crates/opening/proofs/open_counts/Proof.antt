@@ -1,9 +1,8 @@
 -- The loop: ones up to here, the rest zeros.
-use mathlib.Core.Path.{_≡_, refl, sym, ap, _∙_}
+use mathlib.Core.Path.{_≡_, refl, _∙_}
 use mathlib.Core.List.{_++_}
-use Prim.Native.Nat.{ℕ, zero, suc, _≤_, _<_, _-_}
-use native.Mathlib.Nat.{le-of-suc-le-suc}
-use lib.ListN.{length, drop, replicate, length-replicate}
+use Prim.Native.Nat.{ℕ, zero, suc, _≤_, _-_}
+use lib.ListN.{drop, replicate, length-replicate}
 use borrow.Author.Fill.{fill-more}
 use borrow.Author.Needs.{needs}
 use native.Mathlib.Omega.{arith}

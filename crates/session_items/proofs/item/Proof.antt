@@ -1,6 +1,6 @@
 use borrow.Author.Needs.{needs}
 use Rattle.session_reading.proofs.Counted.{number-after}
-use Rattle.session_file.specs.Session.{space, item}
+use Rattle.session_file.specs.Session.{space}
 use Rattle.text.proofs.Reading.{place-at, place-no}
 use Rattle.text.specs.Readers.{number}
 use Rattle.session_items.proofs.item.Statement.{statement}

@@ -15,7 +15,7 @@ use Rattle.questions.specs.Questions.{Question, refusal, fit}
 use Rattle.blocks.specs.Blocks.{unused, isFound, foundOf}
 use Rattle.cells.specs.Counts.{Countable}
 use Rattle.cells.specs.Step.{current, putBack, stepAsks, stepped}
-use Rattle.cells.specs.Turn.{Turned, turn, turned}
+use Rattle.cells.specs.Turn.{Turned}
 use Rattle.questions.proofs.Refusals.{is-refused, is-allowed}
 use Rattle.cells.proofs.Replies.{asked-of, task-below}
 use Rattle.cells.proofs.Arrays.{has-16, has-32, has-128}

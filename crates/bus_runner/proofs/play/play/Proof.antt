@@ -1,4 +1,4 @@
-use mathlib.Core.Path.{_≡_, refl, sym, ap, subst, _∙_}
+use mathlib.Core.Path.{_≡_, sym, ap, subst, _∙_}
 use native.Mathlib.Omega.{arith}
 use borrow.Author.Needs.{needs}
 use mathlib.Core.List.{List, [], map}
@@ -20,7 +20,7 @@ use Rattle.text.proofs.Toward.{Toward, toward-start, toward-more, toward-last}
 use Rattle.bus_text.specs.Bus.{busCalls, callsText}
 use Rattle.bus_text.proofs.Fits.{Within, within-fits}
 use Rattle.bus_calls.specs.Structs.{timesOf, sumsIn}
-use Rattle.bus_runner.specs.Loop.{addedCalls, Ends, Numbered, busOn}
+use Rattle.bus_runner.specs.Loop.{addedCalls, Numbered, busOn}
 use Rattle.bus_runner.proofs.Playing.{none-numbered, numbers-more, ends-now, calls-few, counts-length, sums-more, one-action, no-action, start-text}
 use Rattle.bus_runner.proofs.play.play.Statement.{statement}
 use Rattle.bus_runner.proofs.play.play.Tie as tie

@@ -15,12 +15,6 @@ use Rattle.moments_notes.specs.Loop.{standWords, Sided, MomentFits, standingWor
 use Rattle.moments_notes.proofs.Ruling.{standing-small, standing-words, standing-fits, stand-sorted, closing-next, fits-next, stands-at}
 use Rattle.moments_calls.proofs.calls.close.Statement.{statement}
 use Rattle.moments_calls.proofs.calls.close.Tie as tie
-use Rattle.moments_calls.proofs.calls.close.Reads as reads
-use Rattle.moments_calls.proofs.calls.close.Lts as lts
-use Rattle.moments_calls.proofs.calls.enter_standing.Reads as enter-standing-reads
-use Rattle.moments_calls.proofs.notes.own_notes.Reads as own-notes-reads
-use Rattle.moments_calls.proofs.notes.see.Reads as see-reads
-use Rattle.moments_spots.proofs.stands.Reads as stands-reads
 
 abbrev Inv-loop : tie.InvT-loop
 Inv-loop list₀ n tasks pool loaded stored active inactive decided replaced s t₀ m₀ list t m = (take m list ≡ closing (s, pool) (notesOf 0 loaded stored active inactive decided replaced) t (take n list₀)) × Closing (s, pool) (notesOf 0 loaded stored active inactive decided replaced) t × SortedWords (take m list) × (t ≤ tasks) × (m ≤ n + t) × (length list ≡ length list₀)

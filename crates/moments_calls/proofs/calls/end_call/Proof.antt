@@ -3,9 +3,6 @@ use native.Mathlib.Omega.{arith}
 use mathlib.Core.Path.{refl}
 use Rattle.moments_calls.proofs.calls.end_call.Statement.{statement}
 use Rattle.moments_calls.proofs.calls.end_call.Tie as tie
-use Rattle.moments_calls.proofs.calls.end_call.Reads as reads
-use Rattle.moments_calls.proofs.calls.end_call.Lts as lts
-use Rattle.moments_calls.proofs.calls.end_with.Reads as end-with-reads
 
 enum-told : tie.Need-enum-told
 enum-told c = search needs

@@ -1,5 +1,4 @@
 use borrow.Author.Needs.{needs}
-use native.Mathlib.Omega.{arith}
 use lib.ListN.{take}
 use Rattle.lines.specs.Answers.{answerOf}
 use Rattle.lines.specs.Record.{opOf}
@@ -7,10 +6,6 @@ use Rattle.moments_notes.specs.Loop.{endingSpot}
 use Rattle.moments_notes.proofs.Ruling.{numbered-small, entered, moment-fits}
 use Rattle.moments_calls.proofs.calls.end_with.Statement.{statement}
 use Rattle.moments_calls.proofs.calls.end_with.Tie as tie
-use Rattle.moments_calls.proofs.calls.end_with.Reads as reads
-use Rattle.moments_calls.proofs.calls.end_with.Lts as lts
-use Rattle.moments_spots.proofs.ending.Reads as ending-reads
-use Rattle.moments_words.proofs.enter.Reads as enter-reads
 
 ending-requires : tie.Need-ending-requires
 ending-requires c κs = search needs

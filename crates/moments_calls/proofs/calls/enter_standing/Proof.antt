@@ -3,9 +3,6 @@ use native.Mathlib.Omega.{arith}
 use mathlib.Core.Path.{refl}
 use Rattle.moments_calls.proofs.calls.enter_standing.Statement.{statement}
 use Rattle.moments_calls.proofs.calls.enter_standing.Tie as tie
-use Rattle.moments_calls.proofs.calls.enter_standing.Reads as reads
-use Rattle.moments_calls.proofs.calls.enter_standing.Lts as lts
-use Rattle.moments_words.proofs.enter.Reads as enter-reads
 
 enum-told : tie.Need-enum-told
 enum-told c = search needs

@@ -1,10 +1,6 @@
 use borrow.Author.Needs.{needs}
-use native.Mathlib.Omega.{arith}
 use Rattle.moments_calls.proofs.calls.noted_line.Statement.{statement}
 use Rattle.moments_calls.proofs.calls.noted_line.Tie as tie
-use Rattle.moments_calls.proofs.calls.noted_line.Reads as reads
-use Rattle.moments_calls.proofs.calls.noted_line.Lts as lts
-use Rattle.moments_calls.proofs.calls.line_if.Reads as line-if-reads
 
 enum-told : tie.Need-enum-told
 enum-told c = search needs

@@ -1,5 +1,4 @@
 use borrow.Author.Needs.{needs}
-use native.Mathlib.Omega.{arith}
 use mathlib.Core.Path.{ap, _∙_}
 use mathlib.Core.Bool.{_&&_, _||_, cond}
 use Prim.Native.Nat.{ℕ}
@@ -9,11 +8,6 @@ use lib.ListN.{getD}
 use Rattle.moments_notes.proofs.Noting.{as-flag, either-noted}
 use Rattle.moments_calls.proofs.notes.note.Statement.{statement}
 use Rattle.moments_calls.proofs.notes.note.Tie as tie
-use Rattle.moments_calls.proofs.notes.note.Reads as reads
-use Rattle.moments_calls.proofs.notes.note.Lts as lts
-use Rattle.moments_calls.proofs.notes.flag.Reads as flag-reads
-use Rattle.moments_calls.proofs.notes.note_held.Reads as note-held-reads
-use Rattle.moments_calls.proofs.notes.note_own.Reads as note-own-reads
 
 note-own-requires : tie.Need-note-own-requires
 note-own-requires c κs = search needs

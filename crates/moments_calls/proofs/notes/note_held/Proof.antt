@@ -9,8 +9,6 @@ use borrow.Author.Tests.{eq-eqb, ne-eqb, not-true, not-false}
 use Rattle.moments_notes.proofs.Noting.{Spread, none-noted, spread-start, spread-yes, spread-no, spread-end}
 use Rattle.moments_calls.proofs.notes.note_held.Statement.{statement}
 use Rattle.moments_calls.proofs.notes.note_held.Tie as tie
-use Rattle.moments_calls.proofs.notes.note_held.Reads as reads
-use Rattle.moments_calls.proofs.notes.note_held.Lts as lts
 
 abbrev Inv-loop : tie.InvT-loop
 Inv-loop notes₀ on who v u₀ notes u = Spread (λ k. eqb (getD who k 0) 1) v notes₀ notes u × (u ≤ 32)

@@ -6,8 +6,6 @@ use lib.ListN.{getD, length-set}
 use Rattle.moments_notes.proofs.Noting.{own-noted, none-noted}
 use Rattle.moments_calls.proofs.notes.note_own.Statement.{statement}
 use Rattle.moments_calls.proofs.notes.note_own.Tie as tie
-use Rattle.moments_calls.proofs.notes.note_own.Reads as reads
-use Rattle.moments_calls.proofs.notes.note_own.Lts as lts
 
 mul-notes : tie.Need-mul-notes
 mul-notes c = search needs

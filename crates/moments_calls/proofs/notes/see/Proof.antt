@@ -1,11 +1,6 @@
 use borrow.Author.Needs.{needs}
-use native.Mathlib.Omega.{arith}
 use Rattle.moments_calls.proofs.notes.see.Statement.{statement}
 use Rattle.moments_calls.proofs.notes.see.Tie as tie
-use Rattle.moments_calls.proofs.notes.see.Reads as reads
-use Rattle.moments_calls.proofs.notes.see.Lts as lts
-use Rattle.moments_calls.proofs.notes.word.Reads as word-reads
-use Rattle.counting.proofs.is_holding.Reads as is-holding-reads
 
 is-holding-requires : tie.Need-is-holding-requires
 is-holding-requires c κs = search needs

@@ -1,11 +1,8 @@
 use borrow.Author.Needs.{needs}
-use native.Mathlib.Omega.{arith}
 use mathlib.Core.Path.{sym}
 use lib.ListN.{List·getD-eq-default}
 use Rattle.moments_calls.proofs.notes.word.Statement.{statement}
 use Rattle.moments_calls.proofs.notes.word.Tie as tie
-use Rattle.moments_calls.proofs.notes.word.Reads as reads
-use Rattle.moments_calls.proofs.notes.word.Lts as lts
 
 mul-result : tie.Need-mul-result
 mul-result c = search needs

@@ -2,7 +2,6 @@
 use mathlib.Core.Path.{sym, _∙_}
 use denote.Ref.{now}
 use borrow.Author.Needs.{needs}
-use native.Mathlib.Omega.{arith}
 use Rattle.cells.proofs.Recount.{held-counted, taken-counted}
 use Rattle.turns.proofs.counts.release.Statement.{statement}
 use Rattle.turns.proofs.counts.release.Tie as tie

@@ -1,10 +1,8 @@
 -- Another block loses the cell, and this one gains it.
 use mathlib.Core.Path.{sym, _∙_}
-use lib.ListN.{getD}
 use lib.Seq.{getD-set-other}
 use denote.Ref.{now}
 use borrow.Author.Tests.{eq-eqb, ne-eqb}
-use native.Mathlib.Omega.{arith}
 use Rattle.turns.proofs.counts.rename.Statement.{statement}
 use Rattle.turns.proofs.counts.rename.Tie as tie
 
