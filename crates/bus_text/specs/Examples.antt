@@ -18,7 +18,7 @@ use Rattle.session_text.specs.Tools.{toolAfterOpen, toolPrinted}
 use Rattle.bus_text.specs.Bus.{Times, times, callLines, busText, busPrinted}
 
 -- with these times, of the session s: r is printed
-abbrev Prints : List (Times × (String × String)) → Type 0
+abbrev pub Prints : List (Times × (String × String)) → Type 0
 Prints [] = Unit {0}
 Prints ((w, (s, r)) ∷ l) = (busPrinted w (bytes s) ≡ bytes r) × Prints l
 

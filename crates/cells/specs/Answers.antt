@@ -1,6 +1,10 @@
--- What the entries answer: for each case of the code's enums document 01's number and values. The promises use these.
+-- What the entries answer, and the actions: for each case of the code's enums document 01's number and values. The promises use these.
 use mathlib.Core.Bool.{Bool, true, false}
 use Prim.Native.Nat.{ℕ}
+use Rattle.history.specs.History as History
+use Rattle.history.specs.History.{read, swap, begin, step}
+use Rattle.cells.specs.declared.Action.{Action}
+use Rattle.cells.specs.declared.Action.the-variants as action
 use Rattle.cells.specs.declared.Outcome.{Outcome}
 use Rattle.cells.specs.declared.Outcome.the-variants as outcome
 use Rattle.cells.specs.declared.Looked.{Looked}
@@ -35,3 +39,9 @@ seen (look.Shown v) = Shown v
 abbrev pub shows : Seen → Bool
 shows (NotShown n) = false
 shows (Shown v) = true
+
+-- an action of the code is the history's
+abbrev pub actOf : Action → History.Action
+actOf (action.Read t k) = begin t (read k)
+actOf (action.Swap t k e n) = begin t (swap k e n)
+actOf (action.Step t) = step t

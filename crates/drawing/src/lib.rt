@@ -3,15 +3,10 @@ ghost use mathlib.Core.Path.{_≡_};
 ghost use Prim.Native.Nat.{_≤_, _<_};
 ghost use Rattle.drawing.specs.Drawn.{drawnBegin, drawnAction};
 ghost use Rattle.drawing.specs.Answers.{drawnOf};
+use cells::Action;
 use generator::below;
 use generator::next;
 use questions::State;
-
-pub enum Action {
-    Read(u32, u32),
-    Swap(u32, u32, u32, u32),
-    Step(u32),
-}
 
 // An action, and the generator's state after its draws.
 pub struct Draw {

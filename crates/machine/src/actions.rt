@@ -1,16 +1,11 @@
 // The actions that the reader kept.
+use cells::Action;
 ghost use mathlib.Core.Path.{_≡_};
 ghost use Prim.Native.Nat.{_+_, _*_, _≤_};
 ghost use lib.ListN.{length};
 ghost use Rattle.session_reading.specs.Reading.{actAt};
 ghost use Rattle.history.specs.History.{taskOf};
-ghost use Rattle.machine.specs.Actions.{actOf};
-
-pub enum Action {
-    Read(u32, u32),
-    Swap(u32, u32, u32, u32),
-    Step(u32),
-}
+ghost use Rattle.cells.specs.Answers.{actOf};
 
 // Form f of the reader's table.
 pub fn action_at(forms: &[u32], f: u32) -> Action

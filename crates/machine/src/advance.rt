@@ -1,9 +1,9 @@
 // One action, in place: the tasks' records stand as words, twelve for each, and with the other parts of the state they are lent. For the
 // session runner, and for the tools that run the same actions. Of a fit state, so question 6 is not asked: what an opening left stays fit.
-use crate::actions::Action;
 use blocks::Found;
 use blocks::is_found;
 use blocks::unused_block;
+use cells::Action;
 use cells::Outcome;
 use lines::Record;
 use lines::records::first_read;
@@ -19,7 +19,7 @@ ghost use mathlib.Core.List.{List};
 ghost use Prim.Native.Nat.{ℕ, _≤_};
 ghost use lib.ListN.{length};
 ghost use Rattle.questions.specs.Questions.{fit};
-ghost use Rattle.cells.specs.Answers.{said, Refused};
+ghost use Rattle.cells.specs.Answers.{said, Refused, actOf};
 ghost use Rattle.cells.specs.Open.{leaving};
 ghost use Rattle.cells.specs.Begin.{begun};
 ghost use Rattle.cells.specs.Counts.{recounted, Countable};
@@ -29,7 +29,6 @@ ghost use Rattle.cells.specs.Turn.{Turned, turned, turn, Ready};
 ghost use Rattle.pool.specs.Memory.{There};
 ghost use Rattle.pool.specs.Words.{recordOf};
 ghost use Rattle.blocks.specs.Blocks.{foundOf};
-ghost use Rattle.machine.specs.Actions.{actOf};
 ghost use Rattle.machine.specs.Places.{stateOf, renames};
 
 // What an action leaves besides what is lent.

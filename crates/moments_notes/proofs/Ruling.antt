@@ -20,8 +20,9 @@ use Rattle.moments_notes.specs.declared.Sight.{Sight}
 use Rattle.moments_notes.specs.declared.Own.{Own}
 use Rattle.moments_notes.specs.declared.Spot.{Spot}
 use Rattle.moments_notes.specs.declared.Standing.{Standing}
+use Rattle.moments_notes.specs.declared.Standing.the-variants as standing
 use Rattle.moments_notes.specs.Words.{ruleNumber, kindNumber, rank, joined, wordWith, wordOf, insertWord, SortedWords}
-use Rattle.moments_notes.specs.Notes.{seen, sightOf, notesOf, ownOf, ownNotes, numbered, standingAt}
+use Rattle.moments_notes.specs.Notes.{seen, sightOf, notesOf, ownOf, ownNotes, numbered, numberedAt, standingOf}
 use Rattle.moments_notes.specs.Loop.{standWords, StandFits, Sided, MomentFits, standingWords, closing, Closing}
 use Rattle.moments_notes.proofs.Sorting.{insert-sorted}
 use Rattle.moments_notes.proofs.Encoding.{side-small, rule-small}
@@ -81,6 +82,18 @@ module _ (p : Moments.Spot) {q : Spot} (e : q ≡ numbered p) where
 
 -- PENDING SWAPS
 
+-- the enum of a spot, or of none
+abbrev pub withSpot : Option Spot → Standing
+withSpot none = standing.Nowhere
+withSpot (some q) = standing.At q
+
+same-standing : (q : Standing) → q ≡ withSpot (standingOf q)
+same-standing standing.Nowhere = refl
+same-standing (standing.At q) = refl
+
+abbrev pub standingAt : Option Moments.Spot → Standing
+standingAt o = withSpot (numberedAt o)
+
 pub standing-small : (o : Option Moments.Spot) → Sided (standingAt o)
 standing-small none = tt
 standing-small (some p) = (side-small (p .side), rule-small (p .rule))
@@ -111,6 +124,6 @@ module _ (s : State) (p : List ℕ) (t : ℕ) (loaded stored active inactive dec
   abbrev own-at : Own
   own-at = ownOf t loaded stored active inactive decided replaced
 
-  pub stands-at : {x : Sight} {o : Own} {q : Standing} → x ≡ seen p (recordAt (s .records) t) 0 → o ≡ own-at → q ≡ standingAt (stands (ownNotes 0 o) 0 (sightOf 0 (recordAt (s .records) t) x []))
+  pub stands-at : {x : Sight} {o : Own} {q : Standing} → x ≡ seen p (recordAt (s .records) t) 0 → o ≡ own-at → standingOf q ≡ numberedAt (stands (ownNotes 0 o) 0 (sightOf 0 (recordAt (s .records) t) x []))
       → q ≡ standingAt (stands (notesOf 0 loaded stored active inactive decided replaced) t (seesPool (s, p) t))
-  stands-at ex eo eq = eq ∙ λ i. standingAt (stands (ownNotes 0 (eo i)) 0 (sightOf 0 (recordAt (s .records) t) (ex i) []))
+  stands-at {q = q} ex eo eq = same-standing q ∙ ap withSpot eq ∙ λ i. standingAt (stands (ownNotes 0 (eo i)) 0 (sightOf 0 (recordAt (s .records) t) (ex i) []))

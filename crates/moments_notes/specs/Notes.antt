@@ -95,6 +95,11 @@ ownNotes n o = record {
 abbrev pub numbered : Moments.Spot → Spot
 numbered p = record { moment = p .moment; side = sideNumber (p .side); rule = ruleNumber (p .rule) }
 
-abbrev pub standingAt : Option Moments.Spot → Standing
-standingAt none = standing.Nowhere
-standingAt (some p) = standing.At (numbered p)
+abbrev pub numberedAt : Option Moments.Spot → Option Spot
+numberedAt none = none
+numberedAt (some p) = some (numbered p)
+
+-- what the code's enum says of a pending swap: no spot, or one
+abbrev pub standingOf : Standing → Option Spot
+standingOf standing.Nowhere = none
+standingOf (standing.At q) = some q

@@ -13,7 +13,7 @@ ghost use Rattle.lines.specs.Basics.{within};
 ghost use Rattle.lines.specs.declared.Record.{Record};
 ghost use lib.Dec.{eqb};
 ghost use Rattle.figure.specs.Moments.{ruled, stands as «standsOf», lineC6, effect as «effectOf»};
-ghost use Rattle.moments_notes.specs.Notes.{sightOf, ownNotes, numbered, standingAt};
+ghost use Rattle.moments_notes.specs.Notes.{sightOf, ownNotes, numbered, numberedAt, standingOf};
 
 // The line in the figure's list: lines 1 to 3 are run for the one that wanted the decision.
 fn figure_line(r: Record) -> u32
@@ -84,7 +84,7 @@ pub fn ending(r: Record, x: Sight, a: Answer, i: u16, o: Own) -> Spot
 
 // Where a pending swap took effect, if it did.
 pub fn stands(r: Record, x: Sight, o: Own) -> Standing
-    ensures { λ q. ⌜ q ≡ standingAt («standsOf» (ownNotes 0 o) 0 (sightOf 0 r x [])) ⌝ }
+    ensures { λ q. ⌜ standingOf q ≡ numberedAt («standsOf» (ownNotes 0 o) 0 (sightOf 0 r x [])) ⌝ }
 {
     let line = figure_line(r);
     if !((24 <= line) & (line <= 26)) {

@@ -18,7 +18,7 @@ use Rattle.session_text.specs.Tools.{toolAfterOpen, toolPrinted}
 use Rattle.moments_text.specs.Lines.{atLine, markLines}
 use Rattle.moments_text.specs.Printed.{momentsPrinted}
 
-abbrev Prints : List (String × String) → Type 0
+abbrev pub Prints : List (String × String) → Type 0
 Prints [] = Unit {0}
 Prints ((s, r) ∷ l) = (momentsPrinted (bytes s) ≡ bytes r) × Prints l
 

@@ -1,7 +1,7 @@
 // The calls of one task, followed through the actions.
 use cells::Outcome;
 use lines::Answer;
-use machine::actions::Action;
+use cells::Action;
 use machine::actions::action_at;
 use machine::actions::task_of;
 use machine::advance::advance;
@@ -10,11 +10,10 @@ ghost use mathlib.Core.Path.{_≡_};
 ghost use mathlib.Core.List.{List, map};
 ghost use Prim.Native.Nat.{ℕ, _≤_};
 ghost use lib.ListN.{length};
-ghost use Rattle.cells.specs.Answers.{said};
+ghost use Rattle.cells.specs.Answers.{said, actOf};
 ghost use Rattle.cells.specs.Events.{eventOf};
 ghost use Rattle.cells.specs.Machine.{pool as «machine»};
 ghost use Rattle.history.specs.History.{untried, history};
-ghost use Rattle.machine.specs.Actions.{actOf};
 ghost use Rattle.pool.specs.Words.{recordsOf};
 ghost use Rattle.nudge_text.specs.Nudge.{after};
 ghost use Rattle.refinement.specs.Reached.{Reached};

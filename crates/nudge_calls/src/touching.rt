@@ -1,5 +1,5 @@
 // Whether two actions touch the same cell.
-use machine::actions::Action;
+use cells::Action;
 use machine::actions::task_of;
 use pool::words::record_of;
 ghost use mathlib.Core.Path.{_≡_};
@@ -7,7 +7,7 @@ ghost use Prim.Native.Nat.{_≤_};
 ghost use lib.ListN.{length};
 ghost use Rattle.history.specs.History.{step};
 ghost use Rattle.lines.specs.Record.{recordAt};
-ghost use Rattle.machine.specs.Actions.{actOf};
+ghost use Rattle.cells.specs.Answers.{actOf};
 ghost use Rattle.pool.specs.Words.{recordsOf};
 ghost use Rattle.nudge_calls.specs.Exchange.{touchedBy, sameCell, collides as «collidesOf», touched as «touchedOf»};
 

@@ -19,7 +19,7 @@ use Rattle.session_text.specs.Tools.{toolAfterOpen, toolPrinted}
 use Rattle.nudge_text.specs.Nudge.{earliest, nudge, nudged}
 
 -- of task t's call with n finished before it, in the session s: r is printed
-abbrev Prints : List ((ℕ × ℕ) × (String × String)) → Type 0
+abbrev pub Prints : List ((ℕ × ℕ) × (String × String)) → Type 0
 Prints [] = Unit {0}
 Prints (((t, n), (s, r)) ∷ l) = (nudged t n (bytes s) ≡ bytes r) × Prints l
 

@@ -18,7 +18,7 @@ use Rattle.session_file.specs.Session as reader
 use Rattle.session_text.specs.Lines.{doneStart, eventLine}
 use Rattle.session_text.specs.Printed.{eventLines, cellLines, pendingTasks, endText, played, afterOpen, printed}
 
-abbrev Prints : List (String × String) → Type 0
+abbrev pub Prints : List (String × String) → Type 0
 Prints [] = Unit {0}
 Prints ((s, r) ∷ l) = (printed (bytes s) ≡ bytes r) × Prints l
 

@@ -7,9 +7,9 @@ ghost use Rattle.text.specs.Append.{Appended};
 ghost use Rattle.cells.specs.Machine.{pool as «machine»};
 ghost use Rattle.session_file.specs.Session.{act as «actForm»};
 ghost use Rattle.session_file.specs.Written.{formLine, formLines};
-ghost use Rattle.drawing.specs.Answers.{actionOf};
+ghost use Rattle.cells.specs.Answers.{actOf};
 ghost use Rattle.shaken_actions.specs.Actions.{drawnActions, Short};
-use drawing::Action;
+use cells::Action;
 use drawing::draw_action;
 use questions::State;
 use text::numbered::put_line;
@@ -17,8 +17,8 @@ use text::numbered::wide;
 
 fn put_action(out: &mut [u8], at: usize, a: Action) -> usize
     requires { ⌜ at + 51 ≤ length (now out) ⌝ }
-    ensures { λ r. ⌜ Appended (now (out .entry)) (now (out .exit)) at r (formLine («actForm» (actionOf a))) ⌝ }
-    ensures { λ r. ⌜ (Short (actionOf a) → r ≤ at + 17) ⌝ }
+    ensures { λ r. ⌜ Appended (now (out .entry)) (now (out .exit)) at r (formLine («actForm» (actOf a))) ⌝ }
+    ensures { λ r. ⌜ (Short (actOf a) → r ≤ at + 17) ⌝ }
 {
     match a {
         Action::Read(t, k) => put_line(out, at, b"(read", &[wide(t), wide(k)]),
@@ -30,7 +30,7 @@ fn put_action(out: &mut [u8], at: usize, a: Action) -> usize
 }
 
 fn act(s: State, pool: &mut [u32], a: Action) -> State
-    ensures { λ r. ⌜ (r, now (pool .exit)) ≡ «machine» (s, now (pool .entry)) (actionOf a) .0 ⌝ }
+    ensures { λ r. ⌜ (r, now (pool .exit)) ≡ «machine» (s, now (pool .entry)) (actOf a) .0 ⌝ }
 {
     match a {
         Action::Read(t, k) => {

@@ -9,7 +9,7 @@ use Rattle.cells.specs.Machine.{pool as machine}
 use Rattle.history.specs.History.{history}
 use Rattle.lines.specs.Answers.{answerOf}
 use Rattle.machine.specs.Places.{stateOf}
-use Rattle.machine.specs.Actions.{actOf}
+use Rattle.cells.specs.Answers.{actOf}
 use Rattle.machine.proofs.Turning.{reached-then}
 use Rattle.refinement.specs.Reached.{Reached}
 use Rattle.refinement.proofs.Reaching.{reached-fit, reached-arrays}

@@ -9,10 +9,9 @@ use Rattle.pool.specs.Words.{recordsOf}
 use Rattle.questions.specs.declared.State.{State}
 use Rattle.refinement.specs.Reached.{Reached}
 use Rattle.refinement.proofs.Reaching.{reached-fit, reached-arrays}
-use Rattle.cells.specs.Answers.{said}
+use Rattle.cells.specs.Answers.{said, actOf}
 use Rattle.history.specs.History.{Report}
 use Rattle.session_reading.specs.Reading.{actAt}
-use Rattle.machine.specs.Actions.{actOf}
 use Rattle.machine.specs.Places.{wholeOf}
 use Rattle.machine.proofs.Placing.{idle-places}
 use Rattle.machine.proofs.Turning.{reached-then}

@@ -8,12 +8,11 @@ use Rattle.lines.specs.declared.Record.{Record}
 use Rattle.lines.specs.Record.{idle}
 use Rattle.pool.specs.Words.{recordsOf}
 use Rattle.questions.specs.declared.State.{State}
-use Rattle.cells.specs.Answers.{said}
+use Rattle.cells.specs.Answers.{said, actOf}
 use Rattle.history.specs.History.{Action}
 use Rattle.refinement.specs.Reached.{Reached}
 use Rattle.refinement.proofs.Reaching.{reached-fit, reached-arrays}
 use Rattle.session_reading.specs.Reading.{actAt}
-use Rattle.machine.specs.Actions.{actOf}
 use Rattle.machine.specs.Places.{wholeOf}
 use Rattle.machine.proofs.Placing.{records-length, idle-places}
 use Rattle.machine.proofs.Turning.{reached-small, reached-then}

@@ -13,7 +13,7 @@ use Rattle.refinement.proofs.Reaching.{reached-fit, reached-arrays}
 use Rattle.session_reading.specs.Reading.{actAt}
 use Rattle.session_text.specs.Printed.{totals, played}
 use Rattle.session_play.specs.Loop.{playedOn, Few}
-use Rattle.machine.specs.Actions.{actOf}
+use Rattle.cells.specs.Answers.{actOf}
 use Rattle.machine.specs.Places.{wholeOf}
 use Rattle.session_play.specs.Totals.{totalsOf}
 use Rattle.text.proofs.Toward.{Toward, toward-start, toward-more, toward-last}
