@@ -1,7 +1,4 @@
 // Prints the bus times of a session file.
-mod play;
-mod printing;
-
 use buffers::action_space;
 use buffers::form_space;
 use buffers::pool_space;
@@ -10,6 +7,7 @@ use buffers::value_space;
 use bus_calls::times::Kinds;
 use bus_calls::times::Ranges;
 use bus_calls::times::refusal;
+use bus_play::play::play;
 use questions::State;
 use session_start::Opening;
 use session_start::open_session;
@@ -51,7 +49,7 @@ fn start(
     if n != 0 {
         return put_bad(out, 0, n);
     }
-    play::play(out, w, records, tasks, cells, first, pool, forms, kept)
+    play(out, w, records, tasks, cells, first, pool, forms, kept)
 }
 
 // What follows from the opening, on records of its own.

@@ -1,10 +1,10 @@
 // The calls that actions end, and those that are pending after the last.
 use crate::notes::own_notes;
 use crate::notes::see;
+use cells::Action;
 use cells::Outcome;
 use lines::Answer;
 use lines::Record;
-use cells::Action;
 use moments_notes::Own;
 use moments_notes::Sight;
 use moments_notes::Standing;

@@ -1,10 +1,9 @@
 // Prints when each call of a session file took effect.
-mod play;
-
 use buffers::action_space;
 use buffers::form_space;
 use buffers::pool_space;
 use buffers::value_space;
+use moments_play::play;
 use questions::State;
 use session_start::Opening;
 use session_start::open_session;
@@ -39,7 +38,7 @@ fn print(
             cells,
             words,
             actions,
-        } => play::play(
+        } => play(
             out,
             tasks,
             cells,

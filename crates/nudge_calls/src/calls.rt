@@ -1,7 +1,7 @@
 // The calls of one task, followed through the actions.
+use cells::Action;
 use cells::Outcome;
 use lines::Answer;
-use cells::Action;
 use machine::actions::action_at;
 use machine::actions::task_of;
 use machine::advance::advance;

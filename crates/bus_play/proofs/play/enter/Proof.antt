@@ -2,8 +2,8 @@ use mathlib.Core.Path.{refl}
 use Rattle.text.proofs.Appending.{nothing}
 use borrow.Author.Needs.{needs}
 use native.Mathlib.Omega.{arith}
-use Rattle.bus_runner.proofs.play.enter.Statement.{statement}
-use Rattle.bus_runner.proofs.play.enter.Tie as tie
+use Rattle.bus_play.proofs.play.enter.Statement.{statement}
+use Rattle.bus_play.proofs.play.enter.Tie as tie
 
 end-call-requires : tie.Need-end-call-requires
 end-call-requires c κs = let e = rw (c .before .before .before .outcome .given .1) at (c .before .before .before .before .before .before .before .pre .1 .2) in (search needs, (c .before .before .before .before .before .before .before .pre .1 .0, c .before .before .before .before .before .before .before .pre .1 .1, e))

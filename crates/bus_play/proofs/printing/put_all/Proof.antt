@@ -1,6 +1,6 @@
 use borrow.Author.Needs.{needs}
-use Rattle.bus_runner.proofs.printing.put_all.Statement.{statement}
-use Rattle.bus_runner.proofs.printing.put_all.Tie as tie
+use Rattle.bus_play.proofs.printing.put_all.Statement.{statement}
+use Rattle.bus_play.proofs.printing.put_all.Tie as tie
 
 returns : tie.Need-returns
 returns c = rw (c .before .before .before .before .before .enum-told .given .1) (c .before .before .put .ensures)

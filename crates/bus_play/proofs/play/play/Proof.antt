@@ -19,10 +19,10 @@ use Rattle.text.proofs.Toward.{Toward, toward-start, toward-more, toward-last}
 use Rattle.bus_text.specs.Bus.{busCalls, callsText}
 use Rattle.bus_text.proofs.Fits.{Within, within-fits}
 use Rattle.bus_calls.specs.Structs.{timesOf, sumsIn}
-use Rattle.bus_runner.specs.Loop.{addedCalls, Numbered, busOn}
-use Rattle.bus_runner.proofs.Playing.{none-numbered, numbers-more, ends-now, calls-few, counts-length, sums-more, one-action, no-action, start-text}
-use Rattle.bus_runner.proofs.play.play.Statement.{statement}
-use Rattle.bus_runner.proofs.play.play.Tie as tie
+use Rattle.bus_play.specs.Loop.{addedCalls, Numbered, busOn}
+use Rattle.bus_play.proofs.Playing.{none-numbered, numbers-more, ends-now, calls-few, counts-length, sums-more, one-action, no-action, start-text}
+use Rattle.bus_play.proofs.play.play.Statement.{statement}
+use Rattle.bus_play.proofs.play.play.Tie as tie
 
 -- with the calls before
 abbrev Inv-loop : tie.InvT-loop

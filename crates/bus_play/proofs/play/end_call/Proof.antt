@@ -7,8 +7,8 @@ use Rattle.bus_calls.specs.Structs.{timesOf, sumsIn}
 use Rattle.bus_calls.proofs.Laws.{call-known, text-as}
 use borrow.Author.Needs.{needs}
 use native.Mathlib.Omega.{arith}
-use Rattle.bus_runner.proofs.play.end_call.Statement.{statement}
-use Rattle.bus_runner.proofs.play.end_call.Tie as tie
+use Rattle.bus_play.proofs.play.end_call.Statement.{statement}
+use Rattle.bus_play.proofs.play.end_call.Tie as tie
 
 put-call-requires : tie.Need-put-call-requires
 put-call-requires c κs =

@@ -24,7 +24,7 @@ ghost use Rattle.session_reading.specs.Kept.{Named};
 ghost use Rattle.cells.specs.Answers.{said, Ended};
 ghost use Rattle.bus_text.specs.Bus.{short, busCalls, callsText};
 ghost use Rattle.bus_calls.specs.Structs.{timesOf, sumsIn};
-ghost use Rattle.bus_runner.specs.Loop.{Ends, addedText, addedSums, addedCounts};
+ghost use Rattle.bus_play.specs.Loop.{Ends, addedText, addedSums, addedCounts};
 
 // The place after the text, and the totals.
 pub struct Entered {

@@ -28,8 +28,8 @@ use Rattle.moments_notes.specs.Notes.{slot, seen, holdsWith, sightOf, notesOf, 
 use Rattle.moments_notes.specs.Loop.{endingSpot, endedWords, EndFits, notedLine, spreads, standWords, StandFits, closing, Closing}
 use Rattle.moments_notes.proofs.Encoding.{none-listed, one-listed}
 use Rattle.moments_notes.proofs.Noting.{zeros-at}
-use Rattle.moments_runner.proofs.Doing.{Steps, Did, refuses, begins, moves, ends, did, AllBegun, begun-next}
-use Rattle.moments_runner.proofs.Seeing.{Who, same-noted}
+use Rattle.moments_play.proofs.Doing.{Steps, Did, refuses, begins, moves, ends, did, AllBegun, begun-next}
+use Rattle.moments_play.proofs.Seeing.{Who, same-noted}
 
 abbrev left : ℕ → Pool → Notes → Calls → List Mark → List Action → List Mark
 left n x o b l r = marks (noting pool seesPool) (names pool seesPool) n (x, o) b l r

@@ -20,10 +20,10 @@ use Rattle.machine.proofs.Listed.{action-then, no-action}
 use Rattle.moments_notes.specs.Words.{Listed}
 use Rattle.moments_notes.specs.Notes.{slot, notesOf, Sized}
 use Rattle.moments_notes.specs.Loop.{allMarks}
-use Rattle.moments_runner.proofs.Marking.{Marking, marks-start, coded, marks-on, marks-end}
-use Rattle.moments_runner.proofs.Starting.{reached-cell, reached-sizes, task-below, slot-cell}
-use Rattle.moments_runner.proofs.play.list_marks.Statement.{statement}
-use Rattle.moments_runner.proofs.play.list_marks.Tie as tie
+use Rattle.moments_play.proofs.Marking.{Marking, marks-start, coded, marks-on, marks-end}
+use Rattle.moments_play.proofs.Starting.{reached-cell, reached-sizes, task-below, slot-cell}
+use Rattle.moments_play.proofs.list_marks.Statement.{statement}
+use Rattle.moments_play.proofs.list_marks.Tie as tie
 
 abbrev Inv-loop : tie.InvT-loop
 Inv-loop list₀ records₀ tasks cells first pool₀ forms kept i₀ n₀ last₀ current₀ counts₀ loaded₀ stored₀ active₀ inactive₀ decided₀ replaced₀ list records pool i n last current counts loaded stored active inactive decided replaced =

@@ -1,11 +1,11 @@
 use mathlib.Core.List.{[], _∷_}
 use Prim.Native.Nat.{_/_}
 use Rattle.text.specs.Bytes.{bytes}
-use Rattle.bus_runner.proofs.Lengths.{line-room, call-short}
+use Rattle.bus_play.proofs.Lengths.{line-room, call-short}
 use borrow.Author.Needs.{needs}
 use native.Mathlib.Omega.{arith}
-use Rattle.bus_runner.proofs.printing.put_call.Statement.{statement}
-use Rattle.bus_runner.proofs.printing.put_call.Tie as tie
+use Rattle.bus_play.proofs.printing.put_call.Statement.{statement}
+use Rattle.bus_play.proofs.printing.put_call.Tie as tie
 
 put-line-requires : tie.Need-put-line-requires
 put-line-requires c κs =

@@ -3,9 +3,9 @@ use native.Mathlib.Omega.{arith}
 use mathlib.Core.List.{map}
 use Rattle.session_reading.specs.Reading.{actAt}
 use Rattle.machine.proofs.Placing.{places-length}
-use Rattle.moments_runner.proofs.Starting.{printed}
-use Rattle.moments_runner.proofs.play.play.Statement.{statement}
-use Rattle.moments_runner.proofs.play.play.Tie as tie
+use Rattle.moments_play.proofs.Starting.{printed}
+use Rattle.moments_play.proofs.play.Statement.{statement}
+use Rattle.moments_play.proofs.play.Tie as tie
 
 slice-aggregate-list-marks-2 : tie.Need-slice-aggregate-list-marks-2
 slice-aggregate-list-marks-2 c = places-length (c .before .before .record-space .ensures)

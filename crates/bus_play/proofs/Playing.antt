@@ -26,7 +26,7 @@ use Rattle.history.proofs.Basics.{either}
 use Rattle.machine.proofs.Listed.{action-then, no-action as no-more}
 use Rattle.bus_text.specs.Bus.{Times, short, finishedCalls, finishedBy, timed, timedFrom, Sums, noSums, addCall, addCalls, busCalls, callLine, callLines, allLine, callsText}
 use Rattle.bus_text.proofs.Fits.{Within, sums-after}
-use Rattle.bus_runner.specs.Loop.{addedText, addedSums, addedCalls, addedCounts, Ends, Numbered, busOn}
+use Rattle.bus_play.specs.Loop.{addedText, addedSums, addedCalls, addedCounts, Ends, Numbered, busOn}
 
 -- AN ACTION THAT ACTS IS OF A TASK THAT THERE IS
 

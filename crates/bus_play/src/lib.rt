@@ -1,0 +1,3 @@
+// A session's actions in their order, and the lines of their calls' bus times.
+pub mod play;
+pub mod printing;
