@@ -30,7 +30,7 @@ use Rattle.nudge_text.proofs.Ledger.{answers, moved-first, moved-second, moved-
 use Rattle.nudge_text.proofs.Nudge.{apart-no-nudge}
 use Rattle.nudge_calls.specs.Calls.{Summary, summary, calls, answerOfCall, Finishes}
 use Rattle.nudge_calls.specs.Exchange.{Fresh, touchedBy, sameCell, tried}
-use Rattle.nudge_calls.proofs.Following.{Tells, Between, between-start, between-on, BegunAt, followed, unanswered-yet}
+use Rattle.nudge_calls.proofs.Following.{TasksOf, Between, between-start, between-on, BegunAt, followed, unanswered-yet}
 
 -- LISTS WITH TWO ENTRIES EXCHANGED
 
@@ -118,10 +118,10 @@ apart-at (suc i) (c ∷ l) w a b r e p = apart-at i l (figure w c .0) a b r e p
 abbrev pub whoOf : List Action → ℕ → ℕ
 whoOf l n = getD (map taskOf l) n 0
 
-tells : {S : Type 0} (act : S → Action → S × Event) (s : S) (l : List Action) (who : ℕ → ℕ) (n : ℕ) → ((j : ℕ) → who (n + j) ≡ whoOf l j) → Tells who n (history act s l)
-tells act s [] who n h = tt
-tells act s (a ∷ l) who n h =
-    (ap who (sym (add-zero n)) ∙ h 0, tells act (act s a .0) l who (suc n) (λ j. let e : suc n + j ≡ n + suc j = omega arith in ap who e ∙ h (suc j)))
+tasks-of : {S : Type 0} (act : S → Action → S × Event) (s : S) (l : List Action) (who : ℕ → ℕ) (n : ℕ) → ((j : ℕ) → who (n + j) ≡ whoOf l j) → TasksOf who n (history act s l)
+tasks-of act s [] who n h = tt
+tasks-of act s (a ∷ l) who n h =
+    (ap who (sym (add-zero n)) ∙ h 0, tasks-of act (act s a .0) l who (suc n) (λ j. let e : suc n + j ≡ n + suc j = omega arith in ap who e ∙ h (suc j)))
 
 pub enter-all : (b : Calls) (g h : List (Action × Event)) → enterAll b (g ++ h) ≡ enterAll (enterAll b g) h
 enter-all b [] h = refl
@@ -138,7 +138,7 @@ module _ (old : State) (words : List ℕ) (tasks cells blocks : ℕ) (values : L
   x₀ = start old words tasks cells blocks values
 
   pub between : (m : List Action) → Between (whoOf m) cells noCalls (history pool x₀ m)
-  between m = between-start (history pool x₀ m) (cells-meet-demand-3 old words tasks cells blocks values allowed m .well-formed) (tells pool x₀ m (whoOf m) 0 (λ j. ap (whoOf m) (zero-add j)))
+  between m = between-start (history pool x₀ m) (cells-meet-demand-3 old words tasks cells blocks values allowed m .well-formed) (tasks-of pool x₀ m (whoOf m) 0 (λ j. ap (whoOf m) (zero-add j)))
 
   -- before action i
   abbrev before : ℕ → Calls

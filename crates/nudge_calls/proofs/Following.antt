@@ -21,9 +21,9 @@ use Rattle.nudge_calls.specs.Calls.{Summary, summary, Note, pending, end
 -- WHAT IS KNOWN between the calls so far and the rest of a history
 
 -- action n is of the task `who n`
-abbrev pub Tells : (who : ℕ → ℕ) (n : ℕ) → List (Action × Event) → Type 0
-Tells who n [] = Unit {0}
-Tells who n (x ∷ h) = (who n ≡ taskOf (x .0)) × Tells who (suc n) h
+abbrev pub TasksOf : (who : ℕ → ℕ) (n : ℕ) → List (Action × Event) → Type 0
+TasksOf who n [] = Unit {0}
+TasksOf who n (x ∷ h) = (who n ≡ taskOf (x .0)) × TasksOf who (suc n) h
 
 pub record Whose (who : ℕ → ℕ) (b : Calls) : Type 0 where
   pub of-pending : (u : ℕ) (c : Call) → b .pending u ≡ some c → (c .start .task ≡ u) × (who (c .start .at) ≡ u)
@@ -32,7 +32,7 @@ pub record Whose (who : ℕ → ℕ) (b : Calls) : Type 0 where
 
 pub record Between (who : ℕ → ℕ) (size : ℕ) (b : Calls) (h : List (Action × Event)) : Type 0 where
   pub well-formed : WellFormed size b h
-  pub tells : Tells who (b .now) h
+  pub tasks-of : TasksOf who (b .now) h
   pub whose : Whose who b
   pub early : Early b
   pub found : Found b
@@ -73,10 +73,10 @@ whose-next who b (step t) (answered x r) q W = record {
     fin f (some c) p (inr i) = (W .of-finished f i, omega (arith, W .ended-before f i))
 
 module _ {who : ℕ → ℕ} {size : ℕ} where
-  pub between-start : (h : List (Action × Event)) → WellFormed size noCalls h → Tells who 0 h → Between who size noCalls h
+  pub between-start : (h : List (Action × Event)) → WellFormed size noCalls h → TasksOf who 0 h → Between who size noCalls h
   between-start h w t = record {
     well-formed = w;
-    tells = t;
+    tasks-of = t;
     whose = record { of-pending = λ u c e. absurd (clash refl e); of-finished = λ f i. absurd i; ended-before = λ f i. absurd i };
     early = early-start;
     found = found-start;
@@ -85,8 +85,8 @@ module _ {who : ℕ → ℕ} {size : ℕ} where
   pub between-next : {b : Calls} {x : Action × Event} {h : List (Action × Event)} → Between who size b (x ∷ h) → Between who size (enter b (x .0) (x .1)) h
   between-next {b} {x} {h} B = record {
     well-formed = B .well-formed .1;
-    tells = subst (λ (n : ℕ). Tells who n h) (sym (entered-now b (x .0) (x .1))) (B .tells .1);
-    whose = whose-next who b (x .0) (x .1) (B .tells .0) (B .whose);
+    tasks-of = subst (λ (n : ℕ). TasksOf who n h) (sym (entered-now b (x .0) (x .1))) (B .tasks-of .1);
+    whose = whose-next who b (x .0) (x .1) (B .tasks-of .0) (B .whose);
     early = early-next b (x .0) (x .1) (B .early);
     found = found-next b (x .0) (x .1) (B .early) (B .found);
   }
