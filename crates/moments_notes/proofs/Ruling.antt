@@ -94,6 +94,9 @@ same-standing (standing.At q) = refl
 abbrev pub standingAt : Option Moments.Spot → Standing
 standingAt o = withSpot (numberedAt o)
 
+pub standing-is : (q : Standing) (o : Option Moments.Spot) → standingOf q ≡ numberedAt o → q ≡ standingAt o
+standing-is q o e = same-standing q ∙ ap withSpot e
+
 pub standing-small : (o : Option Moments.Spot) → Sided (standingAt o)
 standing-small none = tt
 standing-small (some p) = (side-small (p .side), rule-small (p .rule))
@@ -124,6 +127,6 @@ module _ (s : State) (p : List ℕ) (t : ℕ) (loaded stored active inactive dec
   abbrev own-at : Own
   own-at = ownOf t loaded stored active inactive decided replaced
 
-  pub stands-at : {x : Sight} {o : Own} {q : Standing} → x ≡ seen p (recordAt (s .records) t) 0 → o ≡ own-at → standingOf q ≡ numberedAt (stands (ownNotes 0 o) 0 (sightOf 0 (recordAt (s .records) t) x []))
+  pub stands-at : {x : Sight} {o : Own} (q : Standing) → x ≡ seen p (recordAt (s .records) t) 0 → o ≡ own-at → standingOf q ≡ numberedAt (stands (ownNotes 0 o) 0 (sightOf 0 (recordAt (s .records) t) x []))
       → q ≡ standingAt (stands (notesOf 0 loaded stored active inactive decided replaced) t (seesPool (s, p) t))
-  stands-at {q = q} ex eo eq = same-standing q ∙ ap withSpot eq ∙ λ i. standingAt (stands (ownNotes 0 (eo i)) 0 (sightOf 0 (recordAt (s .records) t) (ex i) []))
+  stands-at {x} {o} q ex eo eq = standing-is q (stands (ownNotes 0 o) 0 (sightOf 0 (recordAt (s .records) t) x [])) eq ∙ λ i. standingAt (stands (ownNotes 0 (eo i)) 0 (sightOf 0 (recordAt (s .records) t) (ex i) []))

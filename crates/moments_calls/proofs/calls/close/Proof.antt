@@ -12,7 +12,7 @@ use Rattle.moments_notes.specs.declared.Standing.{Standing}
 use Rattle.moments_notes.specs.Words.{SortedWords}
 use Rattle.moments_notes.specs.Notes.{notesOf, ownNotes, sightOf}
 use Rattle.moments_notes.specs.Loop.{standWords, Sided, MomentFits, standingWords, closing, Closing}
-use Rattle.moments_notes.proofs.Ruling.{standing-small, standing-words, standing-fits, stand-sorted, closing-next, fits-next, stands-at}
+use Rattle.moments_notes.proofs.Ruling.{standing-is, standing-small, standing-words, standing-fits, stand-sorted, closing-next, fits-next, stands-at}
 use Rattle.moments_calls.proofs.calls.close.Statement.{statement}
 use Rattle.moments_calls.proofs.calls.close.Tie as tie
 
@@ -49,7 +49,7 @@ enter-standing-requires c κs =
     let a = c .before .before .before .before .before .before .before .before .before .args in
     let l = c .before .before .before .before .before .before .loop in
     let p = c .before .before .before .before .before .before .before .before .before .pre in
-    ((omega (arith, l .inv .4, l .inv .5, p .0 .0, p .1 .0, c .before .before .before .before .before .loop-test .taken), l .inv .2), (omega (arith, p .1 .0, c .before .before .before .before .before .loop-test .taken), p .1 .1 l.t (c .before .before .before .before .before .loop-test .taken), subst Sided (sym (c .before .stands .ensures)) (standing-small (stands (ownNotes 0 (c .before .before .own-notes .result)) 0 (sightOf 0 (recordAt (a.t4 .records) l.t) (c .before .before .before .see .result) [])))))
+    ((omega (arith, l .inv .4, l .inv .5, p .0 .0, p .1 .0, c .before .before .before .before .before .loop-test .taken), l .inv .2), (omega (arith, p .1 .0, c .before .before .before .before .before .loop-test .taken), p .1 .1 l.t (c .before .before .before .before .before .loop-test .taken), subst Sided (sym (standing-is (c .before .stands .result) (stands (ownNotes 0 (c .before .before .own-notes .result)) 0 (sightOf 0 (recordAt (a.t4 .records) l.t) (c .before .before .before .see .result) [])) (c .before .stands .ensures))) (standing-small (stands (ownNotes 0 (c .before .before .own-notes .result)) 0 (sightOf 0 (recordAt (a.t4 .records) l.t) (c .before .before .before .see .result) [])))))
 
 add-t : tie.Need-add-t Inv-loop μ-loop
 add-t c = search needs
@@ -64,7 +64,7 @@ loop-again c =
     let x : Pool = (a.t4, a.pool.now) in
     let o = (notesOf 0 a.loaded.now a.stored.now a.active.now a.inactive.now a.decided.now a.replaced.now) in
     let r = recordAt (a.t4 .records) l.t in
-    let e = stands-at a.t4 a.pool.now l.t a.loaded.now a.stored.now a.active.now a.inactive.now a.decided.now a.replaced.now (c .before .before .before .before .before .before .see .ensures) (c .before .before .before .before .before .own-notes .ensures) (c .before .before .before .before .stands .ensures) in
+    let e = stands-at a.t4 a.pool.now l.t a.loaded.now a.stored.now a.active.now a.inactive.now a.decided.now a.replaced.now (c .before .before .before .before .stands .result) (c .before .before .before .before .before .before .see .ensures) (c .before .before .before .before .before .own-notes .ensures) (c .before .before .before .before .stands .ensures) in
     let s = c .before .before .enter-standing .ensures in
     let w = s .1 .0 ∙ ap (λ (q : Standing). standingWords q (opOf r) l.t (take l.m l.list)) e ∙ standing-words (stands o l.t (seesPool x l.t)) (opOf r) l.t (take l.m l.list) in (
       w ∙ ap (standWords (stands o l.t (seesPool x l.t)) (opOf r) l.t) (l .inv .0) ∙ sym (closing-next x o l.t (take a.n a.list.now)),
