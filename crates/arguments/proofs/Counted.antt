@@ -25,21 +25,21 @@ module _ (s : List ℕ) (at : ℕ) where
     is-argument y = record { finds = rw (x .finds, y .finds); past = omega (arith, x .past, y .past); within = y .within }
 
 -- the numbers l, and then those that x found
-abbrev pub after : List ℕ → Option (List ℕ × List ℕ) → Option (List ℕ × List ℕ)
-after l x = onward x λ m. pure (l ++ m)
+abbrev pub followedBy : List ℕ → Option (List ℕ × List ℕ) → Option (List ℕ × List ℕ)
+followedBy l x = onward x λ m. pure (l ++ m)
 
-after-nothing : (x : Option (List ℕ × List ℕ)) → after [] x ≡ x
+after-nothing : (x : Option (List ℕ × List ℕ)) → followedBy [] x ≡ x
 after-nothing none = refl
 after-nothing (some (m, r)) = refl
 
-after-one : (l : List ℕ) (v : ℕ) (x : Option (List ℕ × List ℕ)) → after l (onward x λ m. pure (v ∷ m)) ≡ after (l ++ (v ∷ [])) x
+after-one : (l : List ℕ) (v : ℕ) (x : Option (List ℕ × List ℕ)) → followedBy l (onward x λ m. pure (v ∷ m)) ≡ followedBy (l ++ (v ∷ [])) x
 after-one l v none = refl
 after-one l v (some (m, r)) = ap (λ (y : List ℕ). some (y, r)) (sym (append-assoc l (v ∷ []) m))
 
-pub none-read : (k : ℕ) (t : List ℕ) → after [] (given (k - 0) t) ≡ given k t
+pub none-read : (k : ℕ) (t : List ℕ) → followedBy [] (given (k - 0) t) ≡ given k t
 none-read k t = rw sub-zero (after-nothing (given k t))
 
-all-read : (l : List ℕ) (k n : ℕ) (t : List ℕ) → k ≡ n → after l (given (k - n) t) ≡ some (l, t)
+all-read : (l : List ℕ) (k n : ℕ) (t : List ℕ) → k ≡ n → followedBy l (given (k - n) t) ≡ some (l, t)
 unfolding given
 all-read l k n t e = let z : k - n ≡ 0 = omega arith in rw (z, append-nil)
 
@@ -47,11 +47,11 @@ module _ (s l : List ℕ) (k n i : ℕ) (h : n < k) where
   left : k - n ≡ suc (k - (n + 1))
   left = omega arith
 
-  pub no-more : argument (drop i s) ≡ none → after l (given (k - n) (drop i s)) ≡ none
+  pub no-more : argument (drop i s) ≡ none → followedBy l (given (k - n) (drop i s)) ≡ none
   unfolding given
   no-more e = rw (left, e)
 
-  pub one-more : {v j : ℕ} → Reads argument s i 2 v j → after l (given (k - n) (drop i s)) ≡ after (l ++ (v ∷ [])) (given (k - (n + 1)) (drop j s))
+  pub one-more : {v j : ℕ} → Reads argument s i 2 v j → followedBy l (given (k - n) (drop i s)) ≡ followedBy (l ++ (v ∷ [])) (given (k - (n + 1)) (drop j s))
   unfolding given
   one-more {v} {j} x = rw (left, x .finds) (after-one l v (given (k - (n + 1)) (drop j s)))
 
@@ -64,7 +64,7 @@ at-end s l at h = go (eqb at (length s)) refl
     go true e = let q : length s ≤ at = omega (arith, eqb-true at (length s) e) in rw (drop-of-length-le s q)
     go false e = let q : at < length s = omega (arith, eqb-false at (length s) e) in rw (drop-byte s at q)
 
-pub all-given : (s l : List ℕ) (k n at : ℕ) → k ≡ n → at ≤ length s → after l (given (k - n) (drop at s)) ≡ given k s → numbersOr (eqb at (length s)) l ≡ numbersGiven k s
+pub all-given : (s l : List ℕ) (k n at : ℕ) → k ≡ n → at ≤ length s → followedBy l (given (k - n) (drop at s)) ≡ given k s → numbersOr (eqb at (length s)) l ≡ numbersGiven k s
 unfolding numbersGiven
 all-given s l k n at e h i = at-end s l at h ∙ ap whole (sym (all-read l k n (drop at s) e) ∙ i)
 

@@ -2,12 +2,14 @@
 ghost use mathlib.Core.Path.{_≡_};
 ghost use Prim.Native.Nat.{_≤_};
 ghost use lib.ListN.{length};
+ghost use Rattle.buffers.specs.Space.{zeros};
 use readers::starts_with;
 use text::Numeral;
 use text::Place;
 
 // A first line, and one byte more than a session may have.
 pub fn case_space() -> [u8; 65700]
+    ensures { λ r. ⌜ r ≡ zeros 65700 ⌝ }
     ensures { λ r. ⌜ 65700 ≡ length r ⌝ }
 {
     [0; 65700]

@@ -70,9 +70,9 @@ module _ (s : State) (z : Room s) (e : countsTrue s ≡ true) (t : ℕ) (own : t
           )
 
   -- a record that names no block, in place of another
-  begun : (q : Record) → ((b : ℕ) → recordUses (recordAt (s .records) t) b ≡ 0) → ((b : ℕ) → recordUses q b ≡ 0) → countsTrue (withRecord s t q) ≡ true
+  still-true : (q : Record) → ((b : ℕ) → recordUses (recordAt (s .records) t) b ≡ 0) → ((b : ℕ) → recordUses q b ≡ 0) → countsTrue (withRecord s t q) ≡ true
   unfolding countsTrue
-  begun q free free′ = all-from _ 0 (s .blocks) (λ b i j. eq-eqb _ _ (count-is s e b (omega arith) ∙ same b))
+  still-true q free free′ = all-from _ 0 (s .blocks) (λ b i j. eq-eqb _ _ (count-is s e b (omega arith) ∙ same b))
     where
       same : (b : ℕ) → uses s b ≡ uses (withRecord s t q) b
       same b =
@@ -106,7 +106,7 @@ module _ (s : State) (p : List ℕ) (a : Arrays s) (e : countsTrue s ≡ true) (
       go : (o : Option ℕ) → refusal ((6, fit s p) ∷ beginQuestions (s .tasks) (s .cells) r t k) ≡ o → countsTrue (unless o s p (started s p t (firstRead k)) .state) ≡ true
       go none g =
           let yes = yes-at ((6, fit s p) ∷ beginQuestions (s .tasks) (s .cells) r t k) g in
-          begun s (room s p a (yes 0)) e t (ltb-true t (s .tasks) (yes 1)) (firstRead k) (unnamed r (yes 3)) (λ b. refl)
+          still-true s (room s p a (yes 0)) e t (ltb-true t (s .tasks) (yes 1)) (firstRead k) (unnamed r (yes 3)) (λ b. refl)
       go (some n) g = e
 
   swap-keeps : (k x n : ℕ) → countsTrue (swapBegun s p t k x n .state) ≡ true
@@ -116,7 +116,7 @@ module _ (s : State) (p : List ℕ) (a : Arrays s) (e : countsTrue s ≡ true) (
       go : (o : Option ℕ) → refusal ((6, fit s p) ∷ swapQuestions (s .tasks) (s .cells) r t k x n) ≡ o → countsTrue (unless o s p (started s p t (firstSwap k x n)) .state) ≡ true
       go none g =
           let yes = yes-at ((6, fit s p) ∷ swapQuestions (s .tasks) (s .cells) r t k x n) g in
-          begun s (room s p a (yes 0)) e t (ltb-true t (s .tasks) (yes 1)) (firstSwap k x n) (unnamed r (yes 3)) (first-names-none k x n)
+          still-true s (room s p a (yes 0)) e t (ltb-true t (s .tasks) (yes 1)) (firstSwap k x n) (unnamed r (yes 3)) (first-names-none k x n)
       go (some m) g = e
 
   own-cell : fit s p ≡ true → t < s .tasks → not (isIdle r) ≡ true → r .cell < s .cells

@@ -33,59 +33,59 @@ Names P Q q = (not (isIdle q) && holds q ≡ true → P (q .held)) × (not (isId
 
 -- and K, unless its call has ended
 module _ (P Q : ℕ → Type 0) (K : Type 0) where
-  abbrev After : Next → Type 0
-  After (Go q) = (holds q ≡ true → P (q .held)) × (hasTaken q ≡ true → Q (q .taken)) × K
-  After (Done f) = Prim.Unit
+  abbrev LeavesNamed : Next → Type 0
+  LeavesNamed (Go q) = (holds q ≡ true → P (q .held)) × (hasTaken q ≡ true → Q (q .taken)) × K
+  LeavesNamed (Done f) = Prim.Unit
 
-  which : (x : Bool) (a b : Next) → After a → After b → After (cond x a b)
+  which : (x : Bool) (a b : Next) → LeavesNamed a → LeavesNamed b → LeavesNamed (cond x a b)
   which true a b h g = h
   which false a b h g = g
 
   ruleset named = (which, no-such)
 
   -- of the value that an access answers, if it is a block; and K, but after a hardware CAS of the cell
-  abbrev Answer : Access → ℕ → Type 0
-  Answer (LoadCell k) v = P v × K
-  Answer (Load b f) v = K
-  Answer (Store b f x) v = K
-  Answer (DecideCas b x) v = K
-  Answer (InstallCas k b n) v = Prim.Unit
-  Answer Allocate v = Q v × K
-  Answer Nothing v = K
+  abbrev GivesNamed : Access → ℕ → Type 0
+  GivesNamed (LoadCell k) v = P v × K
+  GivesNamed (Load b f) v = K
+  GivesNamed (Store b f x) v = K
+  GivesNamed (DecideCas b x) v = K
+  GivesNamed (InstallCas k b n) v = Prim.Unit
+  GivesNamed Allocate v = Q v × K
+  GivesNamed Nothing v = K
 
   -- LINE BY LINE, whatever a line tests: the access was o's, and r is o counted
   module _ (t : ℕ) (o r : Record) (v : ℕ) where
-    after : (ℓ : Line) (a b : Bool) → ofKind ℓ a b ≡ true → (holdsBefore (number ℓ) ≡ true → P (r .held)) → (takenBefore (number ℓ) ≡ true → Q (r .taken)) → Answer (accessAt ℓ t o) v → After (nextAt ℓ t r v)
-    after (l1 w) a b k h m f = search named
-    after (l2 w) a b k h m f = search named
-    after (l3 for13) a b k h m f = search named
-    after (l3 for25) a b k h m f = search named
-    after (l3 for28) a b k h m f = search named
-    after l4 a b k h m f = search named
-    after l5 a b k h m f = search named
-    after l6 a b k h m f = search named
-    after l7 a b k h m f = search named
-    after l8 a b k h m f = search named
-    after l10 a b k h m f = search named
-    after l11 a b k h m f = search named
-    after l12 a b k h m f = search named
-    after l15 a b k h m f = search named
-    after l16 a b k h m f = search named
-    after l17 a b k h m f = search named
-    after l18 a b k h m f = search named
-    after l19 a b k h m f = search named
-    after l20 a b k h m f = search named
-    after l21 a b k h m f = search named
-    after l22 a b k h m f = search named
-    after l23 a b k h m f = search named
-    after l24 a b k h m f = search named
-    after l26 a b k h m f = search named
-    after l27 a b k h m f = search named
-    after l30 a b k h m f = search named
-    after nowhere a b k h m f = search named
+    line-named : (ℓ : Line) (a b : Bool) → ofKind ℓ a b ≡ true → (holdsBefore (number ℓ) ≡ true → P (r .held)) → (takenBefore (number ℓ) ≡ true → Q (r .taken)) → GivesNamed (accessAt ℓ t o) v → LeavesNamed (nextAt ℓ t r v)
+    line-named (l1 w) a b k h m f = search named
+    line-named (l2 w) a b k h m f = search named
+    line-named (l3 for13) a b k h m f = search named
+    line-named (l3 for25) a b k h m f = search named
+    line-named (l3 for28) a b k h m f = search named
+    line-named l4 a b k h m f = search named
+    line-named l5 a b k h m f = search named
+    line-named l6 a b k h m f = search named
+    line-named l7 a b k h m f = search named
+    line-named l8 a b k h m f = search named
+    line-named l10 a b k h m f = search named
+    line-named l11 a b k h m f = search named
+    line-named l12 a b k h m f = search named
+    line-named l15 a b k h m f = search named
+    line-named l16 a b k h m f = search named
+    line-named l17 a b k h m f = search named
+    line-named l18 a b k h m f = search named
+    line-named l19 a b k h m f = search named
+    line-named l20 a b k h m f = search named
+    line-named l21 a b k h m f = search named
+    line-named l22 a b k h m f = search named
+    line-named l23 a b k h m f = search named
+    line-named l24 a b k h m f = search named
+    line-named l26 a b k h m f = search named
+    line-named l27 a b k h m f = search named
+    line-named l30 a b k h m f = search named
+    line-named nowhere a b k h m f = search named
 
   -- the new record's names
-  ended : (m : Touched) (o : Next) → After o → Names P Q (ending m o .record) × (isIdle (ending m o .record) ≡ false → K)
+  ended : (m : Touched) (o : Next) → LeavesNamed o → Names P Q (ending m o .record) × (isIdle (ending m o .record) ≡ false → K)
   ended m (Go q) h = ((λ e. h .0 (second (isIdle q) (holds q) e), λ e. h .1 (second (isIdle q) (hasTaken q) e)), λ e. h .2)
     where
       second : (i x : Bool) → not i && x ≡ true → x ≡ true
@@ -106,7 +106,7 @@ module _ (P Q : ℕ → Type 0) (p : List ℕ) (t : ℕ) (r : Record) (c l : ℕ
   allocating S (some b) h = h
 
   module _ (cell : P c) (free : number (lineOf r) ≡ 4 → (b : ℕ) × (f ≡ some b) × Q b) where
-    answers : (a : Access) → Keeps (lineOf r) r a → Answer P Q (performed p c l f a .current ≡ c) a (performed p c l f a .value)
+    answers : (a : Access) → Keeps (lineOf r) r a → GivesNamed P Q (performed p c l f a .current ≡ c) a (performed p c l f a .value)
     answers (LoadCell k) h = (cell, refl)
     answers (Load b i) h = refl
     answers (Store b i v) h = refl
@@ -120,7 +120,7 @@ module _ (P Q : ℕ → Type 0) (p : List ℕ) (t : ℕ) (r : Record) (c l : ℕ
         let m = performed p c l f (accessOf t r) in
         let q = counted r (attempt (accessOf t r) (m .value)) in
         ended P Q (m .current ≡ c) m (nextOf t r (m .value))
-        (after P Q (m .current ≡ c) t r q (m .value) (lineOf r) (reads r) (swaps r) fit (λ e. held (rw line e)) taken-at (answers (accessOf t r) (keeps t r (lineOf r))))
+        (line-named P Q (m .current ≡ c) t r q (m .value) (lineOf r) (reads r) (swaps r) fit (λ e. held (rw line e)) taken-at (answers (accessOf t r) (keeps t r (lineOf r))))
 
     pub names-kept : Names P Q (turn p t r c l f .record)
     names-kept = turns .0

@@ -104,14 +104,14 @@ module _ (s : State) (p : List ℕ) (t : ℕ) where
         (current-kept (λ b. b < n) (λ b. b < n) p t own c (s .last) f (test 1) (at-number own (test 1)) held taken first)
 
     -- with the block that the search finds
-    abbrev after : Turned
-    after = turn p t own (current s (own .cell)) (s .last) (unused s)
+    abbrev its-turn : Turned
+    its-turn = turn p t own (current s (own .cell)) (s .last) (unused s)
 
     found : number (lineOf own) ≡ 4 → (b : ℕ) × (unused s ≡ some b) × Prim.Unit {0}
     found g = let y = found-at-4 (unused s) (inl refl) g in (y .0, y .1, tt)
 
     -- a task that held no replaced block holds none afterwards
-    pub holds-current : holdsReplaced s own ≡ false → not (isIdle (after .record)) && holds (after .record) ≡ true → isCurrent s (after .record .held) ≡ true
+    pub holds-current : holdsReplaced s own ≡ false → not (isIdle (its-turn .record)) && holds (its-turn .record) ≡ true → isCurrent s (its-turn .record .held) ≡ true
     holds-current z = names-kept (λ b. isCurrent s b ≡ true) (λ b. Prim.Unit {0}) p t own (current s (own .cell)) (s .last) (unused s) (test 1) (at-number own (test 1))
         (λ h. is-true (isCurrent s (own .held)) (rw (is-busy (holds own) h) at z)) (λ h. tt) (named-current s (own .cell) cell-below) found .0
       where
@@ -119,7 +119,7 @@ module _ (s : State) (p : List ℕ) (t : ℕ) where
         is-true true h = refl
         is-true false h = sym h
 
-    pub block-stays : isIdle (after .record) ≡ false → after .current ≡ current s (own .cell)
+    pub block-stays : isIdle (its-turn .record) ≡ false → its-turn .current ≡ current s (own .cell)
     block-stays = current-stays (λ b. Prim.Unit {0}) (λ b. Prim.Unit {0}) p t own (current s (own .cell)) (s .last) (unused s) (test 1) (at-number own (test 1)) (λ h. tt) (λ h. tt) tt found
 
     acts : (f : Option ℕ) → Free s own f → stepped s p t ≡ putBack s t own (turn p t own (current s (own .cell)) (s .last) f)

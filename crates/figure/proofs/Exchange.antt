@@ -59,13 +59,13 @@ record Does (t : ℕ) (touch touch′ : Option ℕ) (x x′ : World × Event) : 
   cell : (k : ℕ) → touch ≡ some k → x′ .0 .cell k ≡ x .0 .cell k
 
 -- a begin or a step of which the questions say r
-abbrev begun : World → ℕ → Record → Option ℕ → World × Event
-begun w t q r = let x = unlessRefused r w (worldAfter (withTask w t q) Acted) in (x .world, eventOf untried (x .outcome))
+abbrev beginSaid : World → ℕ → Record → Option ℕ → World × Event
+beginSaid w t q r = let x = unlessRefused r w (worldAfter (withTask w t q) Acted) in (x .world, eventOf untried (x .outcome))
 
 abbrev went : World → ℕ → Option ℕ → World × Event
 went w t r = let x = unlessRefused r w (figureRan w t (w .records t)) in (x .world, eventOf (triedIn w t (w .records t)) (x .outcome))
 
-begin-does : (w w′ : World) (t : ℕ) (q : Record) → w′ .records t ≡ w .records t → (r : Option ℕ) → Does t none none (begun w t q r) (begun w′ t q r)
+begin-does : (w w′ : World) (t : ℕ) (q : Record) → w′ .records t ≡ w .records t → (r : Option ℕ) → Does t none none (beginSaid w t q r) (beginSaid w′ t q r)
 begin-does w w′ t q s none = record { touch-same = refl; event = refl; task = upd-same (w′ .records) t q ∙ sym (upd-same (w .records) t q); cell = λ k e. absurd (clash refl e) }
 begin-does w w′ t q s (some n) = record { touch-same = refl; event = refl; task = s; cell = λ k e. absurd (clash refl e) }
 
@@ -116,10 +116,10 @@ unfolding figureBegun figureStepped
 does w w′ (begin t op) s = go op
   where
     -- the same questions are answered no
-    begins : (q : Record) (asked : ℕ → ℕ → Record → Option ℕ) → Does t none none (begun w t q (asked (w .tasks) (w .cells) (w .records t))) (begun w′ t q (asked (w′ .tasks) (w′ .cells) (w′ .records t)))
+    begins : (q : Record) (asked : ℕ → ℕ → Record → Option ℕ) → Does t none none (beginSaid w t q (asked (w .tasks) (w .cells) (w .records t))) (beginSaid w′ t q (asked (w′ .tasks) (w′ .cells) (w′ .records t)))
     begins q asked =
         let r = asked (w .tasks) (w .cells) (w .records t) in
-        subst (λ r′. Does t none none (begun w t q r) (begun w′ t q r′)) (sym (λ i. asked (s .tasks i) (s .cells i) (s .task i))) (begin-does w w′ t q (s .task) r)
+        subst (λ r′. Does t none none (beginSaid w t q r) (beginSaid w′ t q r′)) (sym (λ i. asked (s .tasks i) (s .cells i) (s .task i))) (begin-does w w′ t q (s .task) r)
 
     go : (op : Op) → Does t none none (figure w (begin t op)) (figure w′ (begin t op))
     go (read k) = begins (firstOf (read k)) (λ n v q. refusal (beginQuestions n v q t k))
@@ -135,8 +135,8 @@ turned : {w : World} {a b : Action} → Apart w a b → Apart w b a
 turned p = record { tasks = λ e. p .tasks (sym e); cells = λ k e h. p .cells k h e }
 
 -- b does after a what it does alone
-after : (w : World) (a b : Action) → Apart w a b → Does (taskOf b) (touches w b) (touches (figure w a .0) b) (figure w b) (figure (figure w a .0) b)
-after w a b p = does w (figure w a .0) b (record { tasks = l .tasks; cells = l .cells; task = l .others (taskOf b) (λ e. p .tasks (sym e)); cell = λ k e. l .untouched k (λ h. p .cells k h e) })
+undisturbed : (w : World) (a b : Action) → Apart w a b → Does (taskOf b) (touches w b) (touches (figure w a .0) b) (figure w b) (figure (figure w a .0) b)
+undisturbed w a b p = does w (figure w a .0) b (record { tasks = l .tasks; cells = l .cells; task = l .others (taskOf b) (λ e. p .tasks (sym e)); cell = λ k e. l .untouched k (λ h. p .cells k h e) })
   where
     l : Leaves w (taskOf a) (touches w a) (figure w a .0)
     l = leaves w a
@@ -152,17 +152,17 @@ is-some (some j) k = go (either j k)
 module _ (w : World) (a b : Action) (p : Apart w a b) where
   -- the record and the cell that a changes are the same after both
   record-of : figure (figure w a .0) b .0 .records (taskOf a) ≡ figure (figure w b .0) a .0 .records (taskOf a)
-  record-of = leaves (figure w a .0) b .others (taskOf a) (p .tasks) ∙ sym (after w b a (turned p) .task)
+  record-of = leaves (figure w a .0) b .others (taskOf a) (p .tasks) ∙ sym (undisturbed w b a (turned p) .task)
 
   cell-of : (k : ℕ) → touches w a ≡ some k → figure (figure w a .0) b .0 .cell k ≡ figure (figure w b .0) a .0 .cell k
-  cell-of k h = leaves (figure w a .0) b .untouched k (λ e. p .cells k h (sym (after w a b p .touch-same) ∙ e)) ∙ sym (after w b a (turned p) .cell k h)
+  cell-of k h = leaves (figure w a .0) b .untouched k (λ e. p .cells k h (sym (undisturbed w a b p .touch-same) ∙ e)) ∙ sym (undisturbed w b a (turned p) .cell k h)
 
   -- what neither of them changes is as it was
   record-off : (t : ℕ) → t ≢ taskOf a → t ≢ taskOf b → figure (figure w a .0) b .0 .records t ≡ w .records t
   record-off t n m = leaves (figure w a .0) b .others t m ∙ leaves w a .others t n
 
   cell-off : (k : ℕ) → touches w a ≢ some k → touches w b ≢ some k → figure (figure w a .0) b .0 .cell k ≡ w .cell k
-  cell-off k n m = leaves (figure w a .0) b .untouched k (λ e. m (sym (after w a b p .touch-same) ∙ e)) ∙ leaves w a .untouched k n
+  cell-off k n m = leaves (figure w a .0) b .untouched k (λ e. m (sym (undisturbed w a b p .touch-same) ∙ e)) ∙ leaves w a .untouched k n
 
 module _ (w : World) (a b : Action) (p : Apart w a b) where
   abbrev ab : World
@@ -189,7 +189,7 @@ module _ (w : World) (a b : Action) (p : Apart w a b) where
 
   -- The world after both, in either order, and the event of each are the same.
   pub apart : (figure (figure w a .0) b .0 ≡ figure (figure w b .0) a .0) × (figure (figure w a .0) b .1 ≡ figure w b .1) × (figure (figure w b .0) a .1 ≡ figure w a .1)
-  apart = (worlds, after w a b p .event, after w b a (turned p) .event)
+  apart = (worlds, undisturbed w a b p .event, undisturbed w b a (turned p) .event)
     where
       sizes : (f : World → ℕ) → ((w : World) (a : Action) → f (figure w a .0) ≡ f w) → f ab ≡ f ba
       sizes f stays = (stays (figure w a .0) b ∙ stays w a) ∙ sym (stays (figure w b .0) a ∙ stays w b)

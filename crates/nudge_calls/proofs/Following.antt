@@ -13,7 +13,7 @@ use Rattle.history.specs.Basics.{upd, _∈_}
 use Rattle.history.specs.History.{Action, begin, step, taskOf, Response, Event, refused, accepted, answered, Call, FinishedCall, Calls, noCalls, called, advanced, closed, enter, enterAll, callsOf, IsBusy, Allowed, WellFormed}
 use Rattle.history.proofs.Basics.{either, upd-cases, clash, some-inj}
 use Rattle.nudge_text.specs.Exchange.{answerIn}
-use Rattle.nudge_text.specs.Nudge.{finishedBy, after, namedCall}
+use Rattle.nudge_text.specs.Nudge.{finishedBy, atPlace, namedCall}
 use Rattle.nudge_text.proofs.Ledger.{begins, beginOf, answers, ended as ended-by, own-begin, other-begin, begunAt, entered-now, ended-is, Early, early-start, early-next}
 use Rattle.nudge_text.proofs.Finished.{Found, found-start, found-next, ending-cases, kept, kept-on, earlier}
 use Rattle.nudge_calls.specs.Calls.{Summary, summary, Note, pending, ended, ownNote, noteOf, begunAfter, listing, calls, answerOfCall}
@@ -188,23 +188,23 @@ abbrev mapped : Option FinishedCall → Option Summary
 mapped none = none
 mapped (some f) = some (summary f)
 
-after-map : (n : ℕ) (l : List FinishedCall) → after n (map summary l) ≡ mapped (after n l)
+after-map : (n : ℕ) (l : List FinishedCall) → atPlace n (map summary l) ≡ mapped (atPlace n l)
 after-map n [] = refl
 after-map zero (f ∷ l) = refl
 after-map (suc n) (f ∷ l) = after-map n l
 
 module _ {who : ℕ → ℕ} {size : ℕ} (t n : ℕ) (h : List (Action × Event)) (B : Between who size noCalls h) where
-  same-named : mapped (namedCall t n h) ≡ after n (calls t 0 0 h)
-  same-named = sym (after-map n (finishedBy t (callsOf h .finished))) ∙ ap (after n) (listed t h noCalls 0 B (λ j e. absurd (clash refl e)))
+  same-named : mapped (namedCall t n h) ≡ atPlace n (calls t 0 0 h)
+  same-named = sym (after-map n (finishedBy t (callsOf h .finished))) ∙ ap (atPlace n) (listed t h noCalls 0 B (λ j e. absurd (clash refl e)))
 
-  pub named-none : after n (calls t 0 0 h) ≡ none → namedCall t n h ≡ none
+  pub named-none : atPlace n (calls t 0 0 h) ≡ none → namedCall t n h ≡ none
   named-none e = go (namedCall t n h) (same-named ∙ e)
     where
       go : (o : Option FinishedCall) → mapped o ≡ none → o ≡ none
       go none q = refl
       go (some f) q = absurd (clash q refl)
 
-  pub named-some : (c : Summary) → after n (calls t 0 0 h) ≡ some c → (f : FinishedCall) × ((namedCall t n h ≡ some f) × (summary f ≡ c))
+  pub named-some : (c : Summary) → atPlace n (calls t 0 0 h) ≡ some c → (f : FinishedCall) × ((namedCall t n h ≡ some f) × (summary f ≡ c))
   named-some c e = go (namedCall t n h) refl (same-named ∙ e)
     where
       go : (o : Option FinishedCall) → namedCall t n h ≡ o → mapped o ≡ some c → (f : FinishedCall) × ((namedCall t n h ≡ some f) × (summary f ≡ c))

@@ -26,7 +26,7 @@ use Rattle.machine.proofs.Listed.{action-then, no-action}
 use Rattle.refinement.specs.Reached.{Reached}
 use Rattle.refinement.proofs.Reaching.{reached-fit}
 use Rattle.nudge_text.specs.Exchange.{exchanged, movedTo, answerAt}
-use Rattle.nudge_text.specs.Nudge.{after, answersStill, nudges, earliest}
+use Rattle.nudge_text.specs.Nudge.{atPlace, answersStill, nudges, earliest}
 use Rattle.nudge_text.proofs.Nudge.{alone, later-no-nudge}
 use Rattle.nudge_calls.specs.declared.calls.Noted.{Noted}
 use Rattle.nudge_calls.specs.declared.calls.Noted.the-variants as code
@@ -74,13 +74,13 @@ module _ (t : ℕ) (f : ℕ → Action) (l : List ℕ) (i k : ℕ) (s : State) (
     pub then-other : (m : ℕ) {r : Answer} → n ≡ code.Ended r → (k ≡ m → ⊥) → answerOfCall m here ≡ answerOfCall m (there s′ p′ k)
     then-other m {r} e q = ap (answerOfCall m) (then-ended e) ∙ ap (λ (c : Bool). cond c (some (answerOf r)) (answerOfCall m (there s′ p′ k))) (ne-eqb k m q)
 
-pub after-first : (n : ℕ) (c : Summary) (l : List Summary) → n ≡ 0 → after n (c ∷ l) ≡ some c
+pub after-first : (n : ℕ) (c : Summary) (l : List Summary) → n ≡ 0 → atPlace n (c ∷ l) ≡ some c
 after-first zero c l e = refl
 after-first (suc n) c l e = absurd (omega (arith, e))
 
-pub after-next : (n : ℕ) (c : Summary) (l : List Summary) → (n ≡ 0 → ⊥) → after n (c ∷ l) ≡ after (n - 1) l
+pub after-next : (n : ℕ) (c : Summary) (l : List Summary) → (n ≡ 0 → ⊥) → atPlace n (c ∷ l) ≡ atPlace (n - 1) l
 after-next zero c l e = absurd (e refl)
-after-next (suc n) c l e = let z : suc n - 1 ≡ n = omega arith in ap (λ (m : ℕ). after m l) (sym z)
+after-next (suc n) c l e = let z : suc n - 1 ≡ n = omega arith in ap (λ (m : ℕ). atPlace m l) (sym z)
 
 -- WHAT A STEP TOUCHES, with the task's record read
 

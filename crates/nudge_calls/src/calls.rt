@@ -15,7 +15,7 @@ ghost use Rattle.cells.specs.Events.{eventOf};
 ghost use Rattle.cells.specs.Machine.{pool as «machine»};
 ghost use Rattle.history.specs.History.{untried, history};
 ghost use Rattle.pool.specs.Words.{recordsOf};
-ghost use Rattle.nudge_text.specs.Nudge.{after};
+ghost use Rattle.nudge_text.specs.Nudge.{atPlace};
 ghost use Rattle.refinement.specs.Reached.{Reached};
 ghost use Rattle.session_reading.specs.Kept.{Named};
 ghost use Rattle.session_reading.specs.Reading.{actAt};
@@ -119,7 +119,7 @@ pub fn find_call(
     requires { ⌜ Reached (s .tasks) (s .cells) (stateWith s (now records)) (now pool) ⌝ }
     requires { ⌜ (length (now records) ≡ 384) × (length (now kept) ≤ 2000) ⌝ }
     requires { ⌜ Named (length (now forms)) (now kept) ⌝ }
-    ensures { λ r. ⌜ soughtOf r ≡ after n (calls task 0 0 (history «machine» (stateWith s (now (records .entry)), now (pool .entry)) (map (actAt (now (forms .entry))) (now (kept .entry))))) ⌝ }
+    ensures { λ r. ⌜ soughtOf r ≡ atPlace n (calls task 0 0 (history «machine» (stateWith s (now (records .entry)), now (pool .entry)) (map (actAt (now (forms .entry))) (now (kept .entry))))) ⌝ }
 {
     let mut i = 0;
     let mut left = n;

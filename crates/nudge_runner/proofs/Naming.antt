@@ -18,7 +18,7 @@ use Rattle.refinement.specs.Reached.{Reached}
 use Rattle.refinement.proofs.Refines.{together}
 use Rattle.session_start.specs.Start.{New}
 use Rattle.text.specs.Lines.{badLine}
-use Rattle.nudge_text.specs.Nudge.{after, namedCall, nudges, earliest, nudge, nudgeLine, asked18, asked19}
+use Rattle.nudge_text.specs.Nudge.{atPlace, namedCall, nudges, earliest, nudge, nudgeLine, asked18, asked19}
 use Rattle.nudge_text.proofs.Nudge.{named-is-finished}
 use Rattle.nudge_calls.specs.Calls.{Summary, summary, calls, Finishes}
 use Rattle.nudge_calls.specs.Exchange.{Fresh}
@@ -30,10 +30,10 @@ module _ {s : State} {p : List ℕ} (F : Fresh s p) (l : List Action) (t n : ℕ
   known : Between (whoOf l) (s .cells) noCalls (history pool (s, p) l)
   known = subst (λ (x : Pool). Between (whoOf l) (s .cells) noCalls (history pool x l)) (sym (F .came)) (between (F .old) (F .words) (s .tasks) (s .cells) (F .blocks) (F .values) (F .allowed) l l)
 
-  pub sought-none : after n (calls t 0 0 (history pool (s, p) l)) ≡ none → badLine 18 ≡ asked18 (s, p) l (namedCall t n (history pool (s, p) l))
+  pub sought-none : atPlace n (calls t 0 0 (history pool (s, p) l)) ≡ none → badLine 18 ≡ asked18 (s, p) l (namedCall t n (history pool (s, p) l))
   sought-none e = ap (asked18 (s, p) l) (sym (named-none t n (history pool (s, p) l) known e))
 
-  module _ (c : Summary) (e : after n (calls t 0 0 (history pool (s, p) l)) ≡ some c) where
+  module _ (c : Summary) (e : atPlace n (calls t 0 0 (history pool (s, p) l)) ≡ some c) where
     abbrev f : FinishedCall
     f = named-some t n (history pool (s, p) l) known c e .0
 

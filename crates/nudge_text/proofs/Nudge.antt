@@ -19,13 +19,13 @@ use Rattle.figure.specs.Figure.{opening}
 use Rattle.figure.specs.Exchange.{ApartAt}
 use Rattle.refinement.specs.Terms.{start}
 use Rattle.nudge_text.specs.Exchange.{exchanged, movedTo, answerAt}
-use Rattle.nudge_text.specs.Nudge.{finishedBy, after, namedCall, ofTwoTasks, sameAnswer, answersStill, nudges, earliest, nudge}
+use Rattle.nudge_text.specs.Nudge.{finishedBy, atPlace, namedCall, ofTwoTasks, sameAnswer, answersStill, nudges, earliest, nudge}
 use Rattle.nudge_text.proofs.Finished.{finished-answers, later-answers}
 use Rattle.nudge_text.proofs.Exchange.{apart-answers}
 
 -- THE NAMED CALL is a finished call of the task
 
-after-in : {A : Type 0} (n : ℕ) (l : List A) (a : A) → after n l ≡ some a → a ∈ l
+after-in : {A : Type 0} (n : ℕ) (l : List A) (a : A) → atPlace n l ≡ some a → a ∈ l
 after-in n [] a h = absurd (clash refl h)
 after-in zero (x ∷ l) a h = inl (sym (some-inj refl h))
 after-in (suc n) (x ∷ l) a h = inr (after-in n l a h)

@@ -21,13 +21,13 @@ finishedBy t [] = []
 finishedBy t (f ∷ l) = finishedBy t l ++ cond (eqb (f .call .start .task) t) (f ∷ []) []
 
 -- the one with n before it
-abbrev pub after : {A : Type 0} → (n : ℕ) → List A → Option A
-after n [] = none
-after zero (a ∷ l) = some a
-after (suc n) (a ∷ l) = after n l
+abbrev pub atPlace : {A : Type 0} → (n : ℕ) → List A → Option A
+atPlace n [] = none
+atPlace zero (a ∷ l) = some a
+atPlace (suc n) (a ∷ l) = atPlace n l
 
 abbrev pub namedCall : (task n : ℕ) → List (Action × Event) → Option FinishedCall
-namedCall t n h = after n (finishedBy t (callsOf h .finished))
+namedCall t n h = atPlace n (finishedBy t (callsOf h .finished))
 
 -- THE EXCHANGES
 

@@ -13,7 +13,7 @@ use Rattle.history.specs.History.{history}
 use Rattle.lines.specs.Answers.{answerOf}
 use Rattle.machine.proofs.Placing.{idle-places, places-length}
 use Rattle.session_reading.specs.Reading.{actAt}
-use Rattle.nudge_text.specs.Nudge.{after, nudges, earliest, nudgeLine}
+use Rattle.nudge_text.specs.Nudge.{atPlace, nudges, earliest, nudgeLine}
 use Rattle.nudge_calls.specs.Calls.{calls, summaryOf, soughtOf}
 use Rattle.nudge_runner.proofs.Naming.{sought-none, sought-finishes, sought-nudge, fresh-as, fresh-reached}
 use Rattle.nudge_calls.proofs.Steps.{reached-words}
@@ -39,7 +39,7 @@ returns c =
     let a = c .before .before .before .before .before .before .before .before .before .before .before .before .before .before .before .before .before .before .before .args in
     let l = map (actAt a.forms.now) a.kept.now in
     let e = c .before .before .before .before .before .before .before .before .before .before .before .before .before .before .frame-of .ensures _ (ap (recordsOf 32) (c .before .before .before .before .before .before .before .before .before .before .before .record-space .ensures) ∙ (idle-places ∙ sym (c .before .before .before .before .before .before .before .before .before .before .before .before .before .before .before .before .before .before .before .pre .1 .0 .0))) in
-    let sought = ap₂ (λ (s : State) (p : List ℕ). after a.n (calls a.task 0 0 (history machine (s, p) l))) (sym e) (sym (c .before .before .before .before .before .before .before .before .before .before .before .before .copied .ensures .0)) ∙ (sym (c .before .before .before .before .before .before .before .before .find-call .ensures) ∙ ap soughtOf (c .before .before .before .before .enum-told .given .1)) in
+    let sought = ap₂ (λ (s : State) (p : List ℕ). atPlace a.n (calls a.task 0 0 (history machine (s, p) l))) (sym e) (sym (c .before .before .before .before .before .before .before .before .before .before .before .before .copied .ensures .0)) ∙ (sym (c .before .before .before .before .before .before .before .before .find-call .ensures) ∙ ap soughtOf (c .before .before .before .before .enum-told .given .1)) in
     subst (Appended _ _ 0 _) (sought-none (c .before .before .before .before .before .before .before .before .before .before .before .before .before .before .before .before .before .before .before .pre .0) l a.task a.n sought) (c .before .before .put-bad .ensures .0)
 
 first-nudge-requires : tie.Need-first-nudge-requires
@@ -49,7 +49,7 @@ first-nudge-requires c κs =
     let e = c .before .before .before .before .before .before .before .before .before .before .before .before .before .before .before .frame-of .ensures _ (ap (recordsOf 32) (c .before .before .before .before .before .before .before .before .before .before .before .before .record-space .ensures) ∙ (idle-places ∙ sym (c .before .before .before .before .before .before .before .before .before .before .before .before .before .before .before .before .before .before .before .before .pre .1 .0 .0))) in
     let e₂ = c .before .before .before .before .before .before .before .before .before .before .before .before .before .before .before .frame-of .ensures _ (ap (recordsOf 32) (c .before .before .before .record-space2 .ensures) ∙ (idle-places ∙ sym (c .before .before .before .before .before .before .before .before .before .before .before .before .before .before .before .before .before .before .before .before .pre .1 .0 .0))) in
     let F = fresh-as (c .before .before .before .before .before .before .before .before .before .before .before .before .before .before .before .before .before .before .before .before .pre .0) e₂ (λ i. a .pool .now) in
-    let sought = ap₂ (λ (s : State) (p : List ℕ). after a.n (calls a.task 0 0 (history machine (s, p) l))) (e₂ ∙ sym e) (sym (c .before .before .before .before .before .before .before .before .before .before .before .before .before .copied .ensures .0)) ∙ (sym (c .before .before .before .before .before .before .before .before .before .find-call .ensures) ∙ ap soughtOf (c .before .before .before .before .before .sought .given .1)) in
+    let sought = ap₂ (λ (s : State) (p : List ℕ). atPlace a.n (calls a.task 0 0 (history machine (s, p) l))) (e₂ ∙ sym e) (sym (c .before .before .before .before .before .before .before .before .before .before .before .before .before .copied .ensures .0)) ∙ (sym (c .before .before .before .before .before .before .before .before .before .find-call .ensures) ∙ ap soughtOf (c .before .before .before .before .before .sought .given .1)) in
     (F, ((sym (places-length (c .before .before .before .record-space2 .ensures)), c .before .before .before .before .before .before .before .before .before .before .before .before .before .before .before .before .before .before .before .before .pre .1 .0 .1), (c .before .before .before .before .before .before .before .before .before .before .before .before .before .before .before .before .before .before .before .before .pre .1 .1 .0, sought-finishes F l a.task a.n _ sought)))
 
 put-nudge-requires : tie.Need-put-nudge-requires
@@ -62,7 +62,7 @@ returns-2 c =
     let e = c .before .before .before .before .before .before .before .before .before .before .before .before .before .before .before .before .before .before .before .before .before .before .frame-of .ensures _ (ap (recordsOf 32) (c .before .before .before .before .before .before .before .before .before .before .before .before .before .before .before .before .before .before .before .record-space .ensures) ∙ (idle-places ∙ sym (c .before .before .before .before .before .before .before .before .before .before .before .before .before .before .before .before .before .before .before .before .before .before .before .before .before .before .before .pre .1 .0 .0))) in
     let e₂ = c .before .before .before .before .before .before .before .before .before .before .before .before .before .before .before .before .before .before .before .before .before .before .frame-of .ensures _ (ap (recordsOf 32) (c .before .before .before .before .before .before .before .before .before .before .record-space2 .ensures) ∙ (idle-places ∙ sym (c .before .before .before .before .before .before .before .before .before .before .before .before .before .before .before .before .before .before .before .before .before .before .before .before .before .before .before .pre .1 .0 .0))) in
     let call = c .before .before .before .before .before .before .before .before .before .before .before .before .sought .given .0 .0 in
-    let sought = ap₂ (λ (s : State) (p : List ℕ). after a.n (calls a.task 0 0 (history machine (s, p) l))) (sym e) (sym (c .before .before .before .before .before .before .before .before .before .before .before .before .before .before .before .before .before .before .before .before .copied .ensures .0)) ∙ (sym (c .before .before .before .before .before .before .before .before .before .before .before .before .before .before .before .before .find-call .ensures) ∙ ap soughtOf (c .before .before .before .before .before .before .before .before .before .before .before .before .sought .given .1)) in
+    let sought = ap₂ (λ (s : State) (p : List ℕ). atPlace a.n (calls a.task 0 0 (history machine (s, p) l))) (sym e) (sym (c .before .before .before .before .before .before .before .before .before .before .before .before .before .before .before .before .before .before .before .before .copied .ensures .0)) ∙ (sym (c .before .before .before .before .before .before .before .before .before .before .before .before .before .before .before .before .find-call .ensures) ∙ ap soughtOf (c .before .before .before .before .before .before .before .before .before .before .before .before .sought .given .1)) in
     subst (Appended _ _ 0 _)
     (ap nudgeLine (c .before .before .before .before .before .before .first-nudge .ensures ∙ (ap (λ (s : State). earliest (nudges (s, a .pool .now) l (call .begun) (answerOf (call .answer))) 0 (length a.kept.now)) e₂ ∙ ap (earliest (nudges (a .first, a .pool .now) l (call .begun) (answerOf (call .answer))) 0) (sym (length-map a.kept.now (actAt a.forms.now)))))
     ∙ sought-nudge (c .before .before .before .before .before .before .before .before .before .before .before .before .before .before .before .before .before .before .before .before .before .before .before .before .before .before .before .pre .0) l a.task a.n (summaryOf call) sought) (c .before .before .put-nudge .ensures)
