@@ -1,4 +1,4 @@
--- The moments of small sessions, computed.
+-- The moments of small sessions, P9 and P10 among them, computed.
 use mathlib.Core.Path.{_≡_, refl}
 use mathlib.Core.List.{List, [], _∷_, _++_, map}
 use Prim.Native.Nat.{ℕ}
