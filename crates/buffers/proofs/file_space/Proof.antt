@@ -1,14 +1,9 @@
--- The length by a law, and not by computing.
-use mathlib.Core.Path.{refl, sym}
-use Prim.Native.Nat.{ℕ}
-use lib.ListN.{length-replicate}
-use Rattle.buffers.specs.Space.{zeros}
+use Rattle.buffers.proofs.Zeros.{all-zeros, as-long}
 use Rattle.buffers.proofs.file_space.Statement.{statement}
 use Rattle.buffers.proofs.file_space.Tie as tie
 
 returns : tie.Need-returns
-unfolding zeros
-returns c = (refl, sym (length-replicate {A = ℕ} 65537 0))
+returns c = (all-zeros 65537, as-long 65537)
 
 pub file-space-spec : {M : Type 1} → statement M
 file-space-spec = tie.close (tie.spec returns)

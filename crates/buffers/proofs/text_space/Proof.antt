@@ -1,14 +1,9 @@
--- The length by a law, and not by computing.
-use mathlib.Core.Path.{refl, sym}
-use Prim.Native.Nat.{ℕ}
-use lib.ListN.{length-replicate}
-use Rattle.buffers.specs.Space.{zeros}
+use Rattle.buffers.proofs.Zeros.{all-zeros, as-long}
 use Rattle.buffers.proofs.text_space.Statement.{statement}
 use Rattle.buffers.proofs.text_space.Tie as tie
 
 returns : tie.Need-returns
-unfolding zeros
-returns c = (refl, sym (length-replicate {A = ℕ} 921000 0))
+returns c = (all-zeros 921000, as-long 921000)
 
 pub text-space-spec : {M : Type 1} → statement M
 text-space-spec = tie.close (tie.spec returns)
