@@ -12,8 +12,7 @@ use Rattle.lines.specs.declared.Access.the-variants.{LoadCell, Load, Store, Dec
 use Rattle.lines.specs.declared.Field.the-variants.{D}
 use Rattle.lines.specs.Answers.{Next, Go, Done}
 use Rattle.lines.specs.Record.{noValue}
-use Rattle.lines.specs.Lines.{Line, for13, for25, for28, l1, l2, l3, l4, l5, l6, l7, l8, l10, l11, l12, l15, l16, l17, l18, l19, l20, l21, l22, l23, l24, l26, l27, l30, nowhere, lineOf, accessAt, accessOf, goto, decide, answer, readAnswer, nextAt, attempt, counted}
-use Rattle.history.specs.History.{Yes, No}
+use Rattle.lines.specs.Lines.{Line, for13, for25, for28, l1, l2, l3, l4, l5, l6, l7, l8, l10, l11, l12, l15, l16, l17, l18, l19, l20, l21, l22, l23, l24, l26, l27, l30, nowhere, lineOf, accessAt, accessOf, nextAt, attempt, counted}
 use Rattle.pool.specs.Pool.{word}
 use Rattle.pool.specs.Memory.{Touched, performed}
 use Rattle.questions.specs.Questions.{reads, swaps, ofKind, lineFit, holdsBefore, takenBefore}
@@ -58,6 +57,12 @@ stays p c l none Allocate h = refl
 stays p c l (some b) Allocate h = refl
 stays p c l f Nothing h = refl
 
+no-such : {A : Type 0} → false ≡ true → A
+no-such e = absurd (false≢true e)
+
+not-plain : {A : Type 0} → true ≡ false → A
+not-plain e = absurd (false≢true (sym e))
+
 -- what follows a line, unless it ends the call
 module _ (t : ℕ) (r : Record) (v : ℕ) where
   abbrev Kept : Line → Next → Type 0
@@ -71,34 +76,37 @@ module _ (t : ℕ) (r : Record) (v : ℕ) where
   abbrev Plain : Line → Type 0
   Plain i = (eqb (number i) 4 || (eqb (number i) 10 || eqb (number i) 15)) ≡ false
 
+  ruleset keeping = (either, no-such, not-plain)
+
+  -- whatever a line tests
   kept : (i : Line) → Plain i → ofKind i (reads r) (swaps r) ≡ true → Kept i (nextAt i t r v)
-  kept (l1 w) h k = ((refl, refl, refl, refl), λ x. refl)
-  kept (l2 w) h k = ((refl, refl, refl, refl), λ x. refl)
-  kept (l3 for13) h k = tt
-  kept (l3 for25) h k = either (l3 for25) (eqb v (r .new)) (answer r Yes) (decide r 28) tt ((refl, refl, refl, refl), λ x. refl)
-  kept (l3 for28) h k = either (l3 for28) (eqb v (r .expected)) (goto r 4) (answer r No) ((refl, refl, refl, refl), λ x. refl) tt
-  kept l4 h k = absurd (false≢true (sym h))
-  kept l5 h k = ((refl, refl, refl, refl), λ x. refl)
-  kept l6 h k = ((refl, refl, refl, refl), λ x. refl)
-  kept l7 h k = ((refl, refl, refl, refl), λ x. refl)
-  kept l8 h k = ((refl, refl, refl, refl), λ x. refl)
-  kept l10 h k = absurd (false≢true (sym h))
-  kept l11 h k = ((refl, refl, refl, refl), λ x. refl)
-  kept l12 h k = either l12 (eqb v 0) (answer r (readAnswer r (r .loaded))) (decide r 13) tt ((refl, refl, refl, refl), λ x. refl)
-  kept l15 h k = absurd (false≢true (sym h))
-  kept l16 h k = ((refl, refl, refl, refl), λ x. refl)
-  kept l17 h k = either l17 (eqb v 0) (goto r 18) (goto r 27) ((refl, refl, refl, refl), λ x. refl) ((refl, refl, refl, refl), λ x. refl)
-  kept l18 h k = ((refl, refl, refl, refl), λ x. refl)
-  kept l19 h k = either l19 (eqb v t) (goto r 20) (goto r 27) ((refl, refl, refl, refl), λ x. refl) ((refl, refl, refl, refl), λ x. refl)
-  kept l20 h k = ((refl, refl, refl, refl), λ x. refl)
-  kept l21 h k = either l21 (eqb v 0) (cond (eqb (r .loaded) (r .expected)) (goto r 23) (goto r 22)) (decide r 28) (either l21 (eqb (r .loaded) (r .expected)) (goto r 23) (goto r 22) ((refl, refl, refl, refl), λ x. refl) ((refl, refl, refl, refl), λ x. refl)) ((refl, refl, refl, refl), λ x. refl)
-  kept l22 h k = tt
-  kept l23 h k = ((refl, refl, refl, refl), λ x. refl)
-  kept l24 h k = either l24 (eqb v 0) (goto r 26) (decide r 25) ((refl, refl, refl, refl), λ x. refl) ((refl, refl, refl, refl), λ x. refl)
-  kept l26 h k = tt
-  kept l27 h k = ((refl, refl, refl, refl), λ x. refl)
-  kept l30 h k = either l30 (eqb v 1) (answer r Yes) (answer r No) tt tt
-  kept nowhere h k = absurd (false≢true k)
+  kept (l1 w) h k = search keeping
+  kept (l2 w) h k = search keeping
+  kept (l3 for13) h k = search keeping
+  kept (l3 for25) h k = search keeping
+  kept (l3 for28) h k = search keeping
+  kept l4 h k = search keeping
+  kept l5 h k = search keeping
+  kept l6 h k = search keeping
+  kept l7 h k = search keeping
+  kept l8 h k = search keeping
+  kept l10 h k = search keeping
+  kept l11 h k = search keeping
+  kept l12 h k = search keeping
+  kept l15 h k = search keeping
+  kept l16 h k = search keeping
+  kept l17 h k = search keeping
+  kept l18 h k = search keeping
+  kept l19 h k = search keeping
+  kept l20 h k = search keeping
+  kept l21 h k = search keeping
+  kept l22 h k = search keeping
+  kept l23 h k = search keeping
+  kept l24 h k = search keeping
+  kept l26 h k = search keeping
+  kept l27 h k = search keeping
+  kept l30 h k = search keeping
+  kept nowhere h k = search keeping
 
 or-right : (a b : Bool) → (a || b) ≡ false → b ≡ false
 or-right true b h = absurd (false≢true (sym h))

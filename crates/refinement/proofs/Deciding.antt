@@ -70,6 +70,9 @@ d-stays p c l f b n Nothing e = refl
 
 -- WHO HAS TAKEN A BLOCK had taken it before, or comes from line 4
 
+no-T : {A : Type 0} → T false → A
+no-T e = absurd e
+
 abbrev Taken : Line → Record → Record → Type 0
 Taken ℓ r q = T (hasTaken q) → (T (takenBefore (number ℓ)) × (q .taken ≡ r .taken)) ⊎ ((number ℓ ≡ 4) × (q .line ≡ 5))
 
@@ -80,33 +83,36 @@ module _ (t : ℕ) (r : Record) (v : ℕ) where
   which : (ℓ : Line) (c : Bool) (x y : Next) → TakenBy ℓ x → TakenBy ℓ y → TakenBy ℓ (cond c x y)
   which ℓ c x y f g = by-test (TakenBy ℓ) c x y (λ _. f) (λ _. g)
 
+  ruleset taking = (which, inl, inr, no-T)
+
+  -- whatever a line tests
   taken-by : (ℓ : Line) → r .line ≡ number ℓ → TakenBy ℓ (nextAt ℓ t r v)
-  taken-by (l1 w) e = λ h. absurd h
-  taken-by (l2 w) e = λ h. absurd h
-  taken-by (l3 for13) e = λ h. absurd h
-  taken-by (l3 for25) e = which (l3 for25) (eqb v (r .new)) _ _ (λ h. absurd h) (λ h. absurd h)
-  taken-by (l3 for28) e = which (l3 for28) (eqb v (r .expected)) _ _ (λ h. absurd h) (λ h. absurd h)
-  taken-by l4 e = λ h. inr (refl, refl)
-  taken-by l5 e = λ h. inl (tt, refl)
-  taken-by l6 e = λ h. inl (tt, refl)
-  taken-by l7 e = λ h. inl (tt, refl)
-  taken-by l8 e = λ h. inl (tt, refl)
-  taken-by l10 e = λ h. absurd h
-  taken-by l11 e = λ h. absurd h
-  taken-by l12 e = which l12 (eqb v 0) _ _ (λ h. absurd h) (λ h. absurd h)
-  taken-by l15 e = λ h. absurd h
-  taken-by l16 e = λ h. absurd h
-  taken-by l17 e = which l17 (eqb v 0) _ _ (λ h. absurd h) (λ h. absurd h)
-  taken-by l18 e = λ h. absurd h
-  taken-by l19 e = which l19 (eqb v t) _ _ (λ h. absurd h) (λ h. absurd h)
-  taken-by l20 e = λ h. absurd h
-  taken-by l21 e = which l21 (eqb v 0) _ _ (which l21 (eqb (r .loaded) (r .expected)) _ _ (λ h. absurd h) (λ h. absurd h)) (λ h. absurd h)
-  taken-by l22 e = λ h. absurd h
-  taken-by l23 e = λ h. absurd h
-  taken-by l24 e = which l24 (eqb v 0) _ _ (λ h. absurd h) (λ h. absurd h)
-  taken-by l26 e = λ h. absurd h
-  taken-by l27 e = λ h. absurd h
-  taken-by l30 e = which l30 (eqb v 1) _ _ (λ h. absurd h) (λ h. absurd h)
+  taken-by (l1 w) e = search taking
+  taken-by (l2 w) e = search taking
+  taken-by (l3 for13) e = search taking
+  taken-by (l3 for25) e = search taking
+  taken-by (l3 for28) e = search taking
+  taken-by l4 e = search taking
+  taken-by l5 e = search taking
+  taken-by l6 e = search taking
+  taken-by l7 e = search taking
+  taken-by l8 e = search taking
+  taken-by l10 e = search taking
+  taken-by l11 e = search taking
+  taken-by l12 e = search taking
+  taken-by l15 e = search taking
+  taken-by l16 e = search taking
+  taken-by l17 e = search taking
+  taken-by l18 e = search taking
+  taken-by l19 e = search taking
+  taken-by l20 e = search taking
+  taken-by l21 e = search taking
+  taken-by l22 e = search taking
+  taken-by l23 e = search taking
+  taken-by l24 e = search taking
+  taken-by l26 e = search taking
+  taken-by l27 e = search taking
+  taken-by l30 e = search taking
   taken-by nowhere e = λ h. absurd (rw e at h)
 
 -- AN ACTION

@@ -2,7 +2,7 @@
 use mathlib.Core.Path.{_≡_, refl, sym, subst}
 use mathlib.Core.Bool.{Bool, true, false, not, cond, false≢true}
 use Prim.Native.Nat.{ℕ}
-use lib.Dec.{eqb, T, T-not}
+use lib.Dec.{T, T-not}
 use Rattle.lines.specs.declared.Record.{Record}
 use Rattle.questions.specs.declared.State.{State}
 use Rattle.lines.specs.Answers.{Result, Next, Go, Done}
@@ -10,6 +10,7 @@ use Rattle.lines.specs.Lines.{Line, for13, for25, for28, l1, l2, l3, l4, l5, l6
 use Rattle.lines.specs.Lines
 use Rattle.questions.specs.Questions.{ofKind, takenBefore}
 use Rattle.lines.specs.declared.Field.{Field}
+use Rattle.lines.specs.declared.Access.the-variants.{Store}
 use Rattle.lines.specs.declared.Field.the-variants.{X, Y, C, D}
 use Rattle.cells.proofs.Words.{fields}
 use Rattle.blocks.specs.Blocks.{unused}
@@ -26,32 +27,45 @@ pub record Has (R : Links) (s : State) (q : Record) (h k : ℕ) (l : Line) : Typ
   pub found : number l ≡ 4 → Found s (unused s)
 
 module _ (R : Links) (s : State) (q : Record) (h k t : ℕ) (read swap : Bool) where
+  -- a block whose X is linked is being filled; at line 30 it is filled
+  fills : {i b : ℕ} {f : Field} {x : ℕ} → R (q .cell) i b X → Linked R s (q .cell) (Store b f x) (Store i f x)
+  fills = fill
+
+  filled : ((f : Field) → T (storedBefore 30 f) → R (q .cell) (q .taken) k f) → Whole R (q .cell) (q .taken) k
+  filled z = fields (λ f. R (q .cell) (q .taken) k f) (z X tt) (z Y tt) (z C tt) (z Field.V tt) (z D tt)
+
+  ruleset links = (loadCell, load, store, fills, decideCas, installCas, filled, allocate)
+
+  -- whatever a line accesses
+  access-linked : (l : Line) → ofKind l read swap ≡ true → (T (holdsAt (number l)) → Whole R (q .cell) (q .held) h) → ((f : Field) → T (storedBefore (number l) f) → R (q .cell) (q .taken) k f) → (number l ≡ 4 → Found s (unused s)) → Linked R s (q .cell) (accessAt l t (named q h k)) (accessAt l t q)
+  access-linked (l1 w) e held taken found = search links
+  access-linked (l2 w) e held taken found = search links
+  access-linked (l3 w) e held taken found = search links
+  access-linked l4 e held taken found = search links
+  access-linked l5 e held taken found = search links
+  access-linked l6 e held taken found = search links
+  access-linked l7 e held taken found = search links
+  access-linked l8 e held taken found = search links
+  access-linked l10 e held taken found = search links
+  access-linked l11 e held taken found = search links
+  access-linked l12 e held taken found = search links
+  access-linked l15 e held taken found = search links
+  access-linked l16 e held taken found = search links
+  access-linked l17 e held taken found = search links
+  access-linked l18 e held taken found = search links
+  access-linked l19 e held taken found = search links
+  access-linked l20 e held taken found = search links
+  access-linked l21 e held taken found = search links
+  access-linked l22 e held taken found = search links
+  access-linked l23 e held taken found = search links
+  access-linked l24 e held taken found = search links
+  access-linked l26 e held taken found = search links
+  access-linked l27 e held taken found = search links
+  access-linked l30 e held taken found = search links
+  access-linked nowhere e held taken found = absurd (false≢true e)
+
   pub linked : (l : Line) → ofKind l read swap ≡ true → Has R s q h k l → Linked R s (q .cell) (accessAt l t (named q h k)) (accessAt l t q)
-  linked (l1 w) e x = load (x .held tt _)
-  linked (l2 w) e x = decideCas (x .held tt D)
-  linked (l3 w) e x = load (x .held tt _)
-  linked l4 e x = allocate (x .found refl)
-  linked l5 e x = fill (x .taken X tt)
-  linked l6 e x = fill (x .taken X tt)
-  linked l7 e x = fill (x .taken X tt)
-  linked l8 e x = fill (x .taken X tt)
-  linked l10 e x = loadCell
-  linked l11 e x = load (x .held tt _)
-  linked l12 e x = load (x .held tt _)
-  linked l15 e x = loadCell
-  linked l16 e x = store (x .held tt _)
-  linked l17 e x = load (x .held tt _)
-  linked l18 e x = store (x .held tt _)
-  linked l19 e x = load (x .held tt _)
-  linked l20 e x = load (x .held tt _)
-  linked l21 e x = load (x .held tt _)
-  linked l22 e x = store (x .held tt _)
-  linked l23 e x = store (x .held tt _)
-  linked l24 e x = load (x .held tt _)
-  linked l26 e x = store (x .held tt _)
-  linked l27 e x = store (x .held tt _)
-  linked l30 e x = installCas (x .held tt) (fields (λ f. R (q .cell) (q .taken) k f) (x .taken X tt) (x .taken Y tt) (x .taken C tt) (x .taken Field.V tt) (x .taken D tt))
-  linked nowhere e x = absurd (false≢true e)
+  linked l e x = access-linked l e (x .held) (x .taken) (x .found)
 
 -- what follows in the pool and in the figure
 pub data Nexts (R : Links) : Next → Next → Type 0 where
@@ -86,32 +100,35 @@ module _ (R : Links) (q : Record) (h k : ℕ) where
     linked-now : (f : Field) → ((d : ℕ) → R (q .cell) (o .taken) d X → R (q .cell) (o .taken) d f) → R (q .cell) (q .taken) k X → R (q .cell) (q .taken) k f
     linked-now f g x = subst (λ c. R (q .cell) c k f) same (g k (subst (λ c. R (q .cell) c k X) (sym same) x))
 
+    ruleset follows = (which, on, deciding, loading, ended)
+
+    -- whatever a line tests
     pub nexts : (l : Line) → ofKind l read swap ≡ true → (T (holdsAt (number l)) → Whole R (q .cell) (q .held) h) → ((f : Field) → T (storedBefore (number l) f) → R (q .cell) (q .taken) k f) → Answers R (q .cell) (accessAt l t o) b i
         → Nexts R (nextAt l t (named q h k) b) (nextAt l t q i)
-    nexts (l1 w) f r z e = rw e (loading 2 i tt (r tt))
-    nexts (l2 w) f r z e = on 3 tt (r tt)
-    nexts (l3 for13) f r z e = rw e ended
-    nexts (l3 for25) f r z e = rw e (which (eqb i (q .new)) ended (deciding 28 (r tt)))
-    nexts (l3 for28) f r z e = rw e (which (eqb i (q .expected)) (on 4 tt (r tt)) ended)
+    nexts (l1 w) f r z e = rw e (search follows)
+    nexts (l2 w) f r z e = search follows
+    nexts (l3 for13) f r z e = rw e (search follows)
+    nexts (l3 for25) f r z e = rw e (search follows)
+    nexts (l3 for28) f r z e = rw e (search follows)
     nexts l4 f r z e = going (record { same = refl; held = λ _. r tt; taken = fields (λ f. T (storedBefore 5 f) → R (q .cell) i b f) (λ _. e) (λ x. absurd x) (λ x. absurd x) (λ x. absurd x) (λ x. absurd x) })
     nexts l5 f r z e = filling 6 (r tt) (fields (λ f. T (storedBefore 6 f) → R (q .cell) (q .taken) k f) (λ _. z X tt) (λ _. linked-now Y (e .1) (z X tt)) (λ x. absurd x) (λ x. absurd x) (λ x. absurd x))
     nexts l6 f r z e = filling 7 (r tt) (fields (λ f. T (storedBefore 7 f) → R (q .cell) (q .taken) k f) (λ _. z X tt) (λ _. z Y tt) (λ _. linked-now C (e .1) (z X tt)) (λ x. absurd x) (λ x. absurd x))
     nexts l7 f r z e = filling 8 (r tt) (fields (λ f. T (storedBefore 8 f) → R (q .cell) (q .taken) k f) (λ _. z X tt) (λ _. z Y tt) (λ _. z C tt) (λ x. absurd x) (λ _. linked-now D (e .1) (z X tt)))
     nexts l8 f r z e = filling 30 (r tt) (fields (λ f. T (storedBefore 30 f) → R (q .cell) (q .taken) k f) (λ _. z X tt) (λ _. z Y tt) (λ _. z C tt) (λ _. linked-now Field.V (e .1) (z X tt)) (λ _. z D tt))
     nexts l10 f r z e = to 11 (q .wanted) b i (q .loaded) tt e
-    nexts l11 f r z e = rw e (loading 12 i tt (r tt))
-    nexts l12 f r z e = rw e (which (eqb i 0) ended (deciding 13 (r tt)))
+    nexts l11 f r z e = rw e (search follows)
+    nexts l12 f r z e = rw e (search follows)
     nexts l15 f r z e = to 16 (q .wanted) b i (q .loaded) tt e
-    nexts l16 f r z e = on 17 tt (r tt)
-    nexts l17 f r z e = rw e (which (eqb i 0) (on 18 tt (r tt)) (on 27 tt (r tt)))
-    nexts l18 f r z e = on 19 tt (r tt)
-    nexts l19 f r z e = rw e (which (eqb i t) (on 20 tt (r tt)) (on 27 tt (r tt)))
-    nexts l20 f r z e = rw e (loading 21 i tt (r tt))
-    nexts l21 f r z e = rw e (which (eqb i 0) (which (eqb (q .loaded) (q .expected)) (on 23 tt (r tt)) (on 22 tt (r tt))) (deciding 28 (r tt)))
-    nexts l22 f r z e = ended
-    nexts l23 f r z e = on 24 tt (r tt)
-    nexts l24 f r z e = rw e (which (eqb i 0) (on 26 tt (r tt)) (deciding 25 (r tt)))
-    nexts l26 f r z e = ended
-    nexts l27 f r z e = deciding 28 (r tt)
-    nexts l30 f r z e = rw e (which (eqb i 1) ended ended)
+    nexts l16 f r z e = search follows
+    nexts l17 f r z e = rw e (search follows)
+    nexts l18 f r z e = search follows
+    nexts l19 f r z e = rw e (search follows)
+    nexts l20 f r z e = rw e (search follows)
+    nexts l21 f r z e = rw e (search follows)
+    nexts l22 f r z e = search follows
+    nexts l23 f r z e = search follows
+    nexts l24 f r z e = rw e (search follows)
+    nexts l26 f r z e = search follows
+    nexts l27 f r z e = search follows
+    nexts l30 f r z e = rw e (search follows)
     nexts nowhere f r z e = absurd (false≢true f)
