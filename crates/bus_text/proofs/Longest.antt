@@ -26,28 +26,28 @@ AtMost n c = c .greatest ≤ n
 
 -- one call more
 next : (o : Option Timed) (l : List Timed) (c : Timed) → LongestOf o l → LongestOf (some (longer o c)) (l ++ (c ∷ []))
-next none l c h = record { before = []; after = []; parts = ap (λ l. l ++ (c ∷ [])) h; shorter = tt; no-longer = tt }
+next none l c h = record { earlier = []; later = []; parts = ap (λ l. l ++ (c ∷ [])) h; shorter = tt; no-longer = tt }
 next (some d) l c h = go (exceeds c d) refl
   where
     go : (x : Bool) → exceeds c d ≡ x → FirstLongest (cond x c d) (l ++ (c ∷ []))
     go true e =
         let less = ltb-true _ _ e in
         record {
-          before = l;
-          after = [];
+          earlier = l;
+          later = [];
           parts = refl;
           shorter = subst (Every (Below (c .greatest))) (sym (h .parts))
-              (every-append (Below (c .greatest)) (h .before) (d ∷ h .after)
-              (every-map (Below (d .greatest)) (Below (c .greatest)) (λ b k. omega (arith, k, less)) (h .before) (h .shorter))
-              (less, every-map (AtMost (d .greatest)) (Below (c .greatest)) (λ b k. omega (arith, k, less)) (h .after) (h .no-longer)));
+              (every-append (Below (c .greatest)) (h .earlier) (d ∷ h .later)
+              (every-map (Below (d .greatest)) (Below (c .greatest)) (λ b k. omega (arith, k, less)) (h .earlier) (h .shorter))
+              (less, every-map (AtMost (d .greatest)) (Below (c .greatest)) (λ b k. omega (arith, k, less)) (h .later) (h .no-longer)));
           no-longer = tt;
         }
     go false e = record {
-      before = h .before;
-      after = h .after ++ (c ∷ []);
-      parts = ap (λ l. l ++ (c ∷ [])) (h .parts) ∙ append-assoc (h .before) (d ∷ h .after) (c ∷ []);
+      earlier = h .earlier;
+      later = h .later ++ (c ∷ []);
+      parts = ap (λ l. l ++ (c ∷ [])) (h .parts) ∙ append-assoc (h .earlier) (d ∷ h .later) (c ∷ []);
       shorter = h .shorter;
-      no-longer = every-append (AtMost (d .greatest)) (h .after) (c ∷ []) (h .no-longer) (ltb-false _ _ e, tt);
+      no-longer = every-append (AtMost (d .greatest)) (h .later) (c ∷ []) (h .no-longer) (ltb-false _ _ e, tt);
     }
 
 from : (calls : List Timed) (z : Sums) (l : List Timed) → LongestOf (z .longest) l → LongestOf (addCalls z calls .longest) (l ++ calls)

@@ -99,11 +99,11 @@ Every P (a ∷ l) = P a × Every P l
 
 -- all that finished before it are shorter, and none that finished after it is longer
 pub record FirstLongest (d : Timed) (calls : List Timed) : Type 0 where
-  pub before : List Timed
-  pub after : List Timed
-  pub parts : calls ≡ before ++ (d ∷ after)
-  pub shorter : Every (λ c. c .greatest < d .greatest) before
-  pub no-longer : Every (λ c. c .greatest ≤ d .greatest) after
+  pub earlier : List Timed
+  pub later : List Timed
+  pub parts : calls ≡ earlier ++ (d ∷ later)
+  pub shorter : Every (λ c. c .greatest < d .greatest) earlier
+  pub no-longer : Every (λ c. c .greatest ≤ d .greatest) later
 
 -- what the search for it found: nothing where there is no call
 abbrev pub LongestOf : Option Timed → List Timed → Type 0

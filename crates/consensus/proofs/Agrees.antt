@@ -56,7 +56,7 @@ module _ (s : OnceState) (b : OnceCalls) (S : Sound (s .tasks) (s .cells) (onceA
   calls-agree : Consensus b
   calls-agree = record {
     agreement = λ f g x y e. S .each-cell (cellOf (g .call)) .agreed f x e .0 ∙ sym (S .each-cell (cellOf (g .call)) .agreed g y refl .0);
-    validity = λ f x. let z = S .each-end f x .valid in record { by = z .0; is-begun = z .1; there = z .2; offers = z .3; before = z .4 };
+    validity = λ f x. let z = S .each-end f x .valid in record { by = z .0; is-begun = z .1; there = z .2; offers = z .3; in-time = z .4 };
     reported = λ f x. S .each-end f x .reported;
     few = λ f x. let p = S .each-end f x .reported .path in (path-short (f .call .done) p, path-few (f .call .done) p);
     few-pending = λ t c h. let P = its t c h in (way-short (stageOf (offerAt s t)) (c .done) (P .way), way-few (stageOf (offerAt s t)) (c .done) (P .way));

@@ -28,7 +28,7 @@ pub record Valid (b : OnceCalls) (f : OnceFinished) : Type 0 where
   pub is-begun : by ∈ b .ids
   pub there : by .cell ≡ cellOf (f .call)
   pub offers : by .value ≡ f .agreed .value
-  pub before : by .at < f .call .last
+  pub in-time : by .at < f .call .last
 
 -- every other call on its cell began after it ended
 abbrev pub Lone : OnceCalls → OnceFinished → Type 0

@@ -72,7 +72,7 @@ offered-elsewhere r = go (r .calls .validity _ (inl refl) .is-begun) (r .calls .
 -- a value that is offered only after the answer
 pub offered-later : RightOnce 1 (call 0 0 7 alone storeD 9 7 0 ++ call 1 0 9 losing lookD 9 6 0) → ⊥
 unfolding Basics.upd
-offered-later r = go (r .calls .validity _ (inr (inl refl)) .is-begun) (r .calls .validity _ (inr (inl refl)) .offers) (r .calls .validity _ (inr (inl refl)) .before)
+offered-later r = go (r .calls .validity _ (inr (inl refl)) .is-begun) (r .calls .validity _ (inr (inl refl)) .offers) (r .calls .validity _ (inr (inl refl)) .in-time)
   where
     go : {i : OnceId} → i ∈ (record { at = 8; task = 1; cell = 0; value = 9 } ∷ record { at = 0; task = 0; cell = 0; value = 7 } ∷ []) → i .value ≡ 9 → i .at < 7 → ⊥
     go {i} (inl e) z l = let y : _≡_ {A = ℕ} (i .at) 8 = ap (λ (i : OnceId). i .at) e in omega (arith, l)

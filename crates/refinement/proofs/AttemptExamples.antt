@@ -27,12 +27,12 @@ abbrev round : (v : ℕ) → List Action
 round v = collision v 13 ++ replicate 11 (step 0)
 
 -- after these actions: the block that the cell names, and the decisions of block 0
-abbrev after : List Action → ℕ × ℕ
-after l = (current (run pool first l .0) 0, decisions first (λ b. 0) l 0)
+abbrev blockAndDecisions : List Action → ℕ × ℕ
+blockAndDecisions l = (current (run pool first l .0) 0, decisions first (λ b. 0) l 0)
 
 abbrev Hold : List (List Action × (ℕ × ℕ)) → Type 0
 Hold [] = Unit {0}
-Hold ((l, x) ∷ c) = (after l ≡ x) × Hold c
+Hold ((l, x) ∷ c) = (blockAndDecisions l ≡ x) × Hold c
 
 examples :
     Hold (

@@ -9,7 +9,7 @@ use lib.Dec.{eqb}
 use Rattle.history.specs.History.{read, swap, Action, begin, step}
 use Rattle.text.specs.Bytes.{bytes, decimal}
 use Rattle.text.specs.Lines.{numbers}
-use Rattle.session_shape.specs.Shape.{before, fits, deeper, shapedAfter, shaped}
+use Rattle.session_shape.specs.Shape.{startsItem, fits, deeper, shapedAfter, shaped}
 use Rattle.session_file.specs.Session.{Opening, Form, act, again, Forms, empty, with}
 use Rattle.session_file.specs.Written.{written, writtenForms, writtenValues, openingLine, formLines, fileText}
 use Rattle.session_file.specs.Proper.{Each, Proper, ProperLines}
@@ -21,7 +21,7 @@ use Rattle.session_file.proofs.ShapedItems.{above, item-shaped, after-s
 
 -- right before a form: the line's start, a bracket that opens, or a space
 abbrev starts : ℕ → Bool
-starts p = eqb p 10 || before p
+starts p = eqb p 10 || startsItem p
 
 opened : (d p : ℕ) (s : List ℕ) → d < 8 → starts p ≡ true → shapedAfter d p (40 ∷ s) ≡ shapedAfter (d + 1) 40 s
 unfolding shapedAfter fits deeper

@@ -8,15 +8,15 @@ use lib.Dec.{ltb, eqb}
 -- and each line, the last included, just one bracketed form ended by byte 10?
 
 -- right before an item: a bracket that opens, or a space
-abbrev pub before : ℕ → Bool
-before p = eqb p 40 || eqb p 32
+abbrev pub startsItem : ℕ → Bool
+startsItem p = eqb p 40 || eqb p 32
 
 -- d brackets are open and p is the byte before, at first 10: may b stand here?
 unfoldable pub fits : (d p b : ℕ) → Bool
 fits d p b =
-    cond (eqb b 40) (ltb d 8 && (eqb p 10 || before p))
+    cond (eqb b 40) (ltb d 8 && (eqb p 10 || startsItem p))
     (cond (eqb b 41) (ltb 0 d && not (eqb p 32))
-    (cond (eqb b 32) (ltb 0 d && not (before p))
+    (cond (eqb b 32) (ltb 0 d && not (startsItem p))
     (cond (eqb b 10) (eqb d 0 && eqb p 41)
     (ltb 0 d && not (eqb p 41)))))
 
