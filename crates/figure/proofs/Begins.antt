@@ -15,8 +15,8 @@ use Rattle.questions.specs.Questions.{valuesFit}
 use Rattle.lines.specs.Record.{first, firstRead}
 use Rattle.history.specs.History.{Op, read, swap, cellOf}
 use Rattle.history.proofs.Basics.{either, upd-same, upd-off}
-use Rattle.history.proofs.Simulation.{late, Ghost, unplaced, Grown}
-use Rattle.history.proofs.Simulation as Sim
+use Rattle.linearizing.proofs.Simulation.{late, Ghost, unplaced, Grown}
+use Rattle.linearizing.proofs.Simulation as Sim
 use Rattle.figure.specs.Figure.{World, withTask, opening, figure, firstOf}
 use Rattle.figure.specs.Moments.{Notes, nothingNoted, names, sees}
 use Rattle.figure.proofs.Records.{AllOnPath, OnPath, Accepted, not-idle, opening-on-path}

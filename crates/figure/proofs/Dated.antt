@@ -18,8 +18,8 @@ use Rattle.history.specs.Basics.{upd}
 use Rattle.history.specs.History.{Op, read, swap, cellOf, Response, Value, Yes, No}
 use Rattle.history.specs.Moments.{before, after, C3, C4, Rule, Spot, changes}
 use Rattle.history.proofs.Basics.{either, upd-at, upd-same, upd-off, upd-cases}
-use Rattle.history.proofs.Simulation as Sim
-use Rattle.history.proofs.Simulation.{Phase, settled, frozen, late, Ghost, unplaced, Tally, Why, Sided, Named}
+use Rattle.linearizing.proofs.Simulation as Sim
+use Rattle.linearizing.proofs.Simulation.{Phase, settled, frozen, late, Ghost, unplaced, Tally, Why, Sided, Named}
 use Rattle.figure_cell.specs.Memory.{Cell, accessCell}
 use Rattle.figure.specs.Figure.{World, withTask, recordAfter, figureAnswers, triedIn, figure}
 use Rattle.figure.specs.Moments.{Notes, nothingNoted, noted, Sight, holdsBlock, sees, names, at, effect, lineC6, rules, ruleAt, ruled, stands}

@@ -17,7 +17,7 @@ use Rattle.history.specs.Basics.{upd}
 use Rattle.history.specs.History.{Op, read, swap, cellOf, untried}
 use Rattle.history.specs.Demand3.{Unequal}
 use Rattle.history.proofs.Basics.{either, upd-at, upd-same, upd-off}
-use Rattle.history.proofs.Simulation.{Ghost, Tally, QuietStarts, QuietSteps, Free}
+use Rattle.linearizing.proofs.Simulation.{Ghost, Tally, QuietStarts, QuietSteps, Free}
 use Rattle.figure_cell.specs.Memory.{Cell, accessCell}
 use Rattle.figure.specs.Figure.{World, withTask, recordAfter, clear, figureAnswers, triedIn, firstOf}
 use Rattle.figure_cell.proofs.LineLaws.{Leads, goes, done}

@@ -5,8 +5,8 @@ use Prim.Native.Nat.{ℕ}
 use lib.ListN.{getD}
 use Rattle.lines.specs.Record.{noValue}
 use Rattle.history.specs.History.{Action, begin, step, Event, refused, accepted, answered, run}
-use Rattle.history.proofs.Simulation.{Ghost, Knowledge, Grown, Forward, Follows}
-use Rattle.history.proofs.Simulation as Sim
+use Rattle.linearizing.proofs.Simulation.{Ghost, Knowledge, Grown, Forward, Follows}
+use Rattle.linearizing.proofs.Simulation as Sim
 use Rattle.figure.specs.Figure.{World, opening, figure}
 use Rattle.figure.specs.Moments.{Notes, noNotes, names, sees}
 use Rattle.figure.proofs.Tallies.{doing, follows}

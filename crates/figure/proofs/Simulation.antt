@@ -13,11 +13,11 @@ use Rattle.history.specs.Basics.{_∈_}
 use Rattle.history.specs.Linearization.{replies, Linearizes}
 use Rattle.history.specs.Demand3.{Meets, clearAfter}
 use Rattle.history.specs.Moments.{before, Mark, pointOf, replyOf}
-use Rattle.history.proofs.Meets.{meets}
-use Rattle.history.proofs.Moments as Placing
-use Rattle.history.proofs.Moments.{marks-linearize, marks-answers}
-use Rattle.history.proofs.Simulation.{Phase, Ghost, Knowledge, Keeps, Forward, Quietly, QuietSteps}
-use Rattle.history.proofs.Simulation as Sim
+use Rattle.linearizing.proofs.Meets.{meets}
+use Rattle.linearizing.proofs.Moments as Placing
+use Rattle.linearizing.proofs.Moments.{marks-linearize, marks-answers}
+use Rattle.linearizing.proofs.Simulation.{Phase, Ghost, Knowledge, Keeps, Forward, Quietly, QuietSteps}
+use Rattle.linearizing.proofs.Simulation as Sim
 use Rattle.figure.specs.Figure.{World, withBoth, WorldAfter, recordAfter, outcomeOf, figureRan, opening, figure, clear, triedIn, firstOf}
 use Rattle.cells.specs.Events.{eventOf}
 use Rattle.figure.specs.Moments.{Notes, noNotes, nothingNoted, noted, noteStep, note, names, sees, moments}

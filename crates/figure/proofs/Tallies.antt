@@ -17,7 +17,7 @@ use Rattle.history.specs.Basics.{upd, _∈_}
 use Rattle.history.specs.History.{Op, read, swap, Action, begin, step, untried, Response}
 use Rattle.history.specs.Demand3.{most, mostHard}
 use Rattle.history.proofs.Basics.{either, upd-at, upd-off}
-use Rattle.history.proofs.Simulation.{Tally, first, Follows}
+use Rattle.linearizing.proofs.Simulation.{Tally, first, Follows}
 use Rattle.figure_cell.specs.Memory.{Cell, accessCell}
 use Rattle.figure.specs.Figure.{World, WorldAfter, withBoth, recordAfter, outcomeOf, figureRan, figure, triedIn, firstOf}
 use Rattle.cells.specs.Events.{eventOf}

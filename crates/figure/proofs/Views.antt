@@ -10,7 +10,7 @@ use Rattle.lines.specs.Lines.{Line, lineOf, nowhere}
 use Rattle.history.specs.Basics.{upd}
 use Rattle.history.proofs.Basics.{either}
 use Rattle.history.proofs.OnCell as OnCell
-use Rattle.history.proofs.Simulation.{late, Ghost}
+use Rattle.linearizing.proofs.Simulation.{late, Ghost}
 use Rattle.figure.specs.Figure.{World}
 use Rattle.figure_cell.proofs.LineLaws.{same, same-is}
 use Rattle.figure_cell.proofs.Classes.{busy, lies-in}

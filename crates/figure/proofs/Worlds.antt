@@ -14,8 +14,8 @@ use Rattle.history.specs.Basics.{upd}
 use Rattle.history.specs.History.{Op, cellOf, Yes}
 use Rattle.history.specs.Linearization.{reply, apply}
 use Rattle.history.proofs.Basics.{either, upd-at, upd-same, upd-off}
-use Rattle.history.proofs.Simulation as Sim
-use Rattle.history.proofs.Simulation.{Phase, settled, frozen, late, Ghost, Tally, Move, shift, Grown, May}
+use Rattle.linearizing.proofs.Simulation as Sim
+use Rattle.linearizing.proofs.Simulation.{Phase, settled, frozen, late, Ghost, Tally, Move, shift, Grown, May}
 use Rattle.figure_cell.specs.Memory.{Cell, accessCell}
 use Rattle.figure.specs.Figure.{World, withBoth, recordAfter, figure}
 use Rattle.figure.specs.Moments.{Notes, noted, names, sees}

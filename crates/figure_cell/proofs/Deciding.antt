@@ -10,7 +10,7 @@ use Rattle.lines.specs.Lines.{Wanted, l2, l3, lineOf, at, counted}
 use Rattle.history.specs.History.{Attempt}
 use Rattle.history.specs.Basics.{upd}
 use Rattle.history.proofs.Basics.{upd-at, upd-same, upd-off, upd-cases}
-use Rattle.history.proofs.Simulation.{Phase, settled, frozen, late}
+use Rattle.linearizing.proofs.Simulation.{Phase, settled, frozen, late}
 use Rattle.figure_cell.specs.Memory.{store}
 use Rattle.figure_cell.proofs.Classes.{is, busy, holding, swapping, won, loaded, stored, replacing, lies-in, are-apart}
 use Rattle.figure_cell.proofs.Invariant.{none, View, Knowledge, Decided, Seen, Store, Owner, TaskOf, PhaseIs, line, held, Inv}

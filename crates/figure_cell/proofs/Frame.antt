@@ -9,7 +9,7 @@ use Rattle.lines.specs.declared.Record.{Record}
 use Rattle.lines.specs.Lines.{Line, lineOf}
 use Rattle.history.specs.Basics.{upd}
 use Rattle.history.proofs.Basics.{either, upd-cases}
-use Rattle.history.proofs.Simulation.{Phase, late}
+use Rattle.linearizing.proofs.Simulation.{Phase, late}
 use Rattle.figure_cell.proofs.Classes.{is, busy, holding, taking, stored, won, checking, viewing, lies-in}
 use Rattle.figure_cell.proofs.Invariant.{none, View, Knowledge, Decided, TaskOf, Rival, CurrentOf, line, held, RivalOf, Inv}
 

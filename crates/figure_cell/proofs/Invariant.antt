@@ -7,7 +7,7 @@ use lib.Dec.{T}
 use Rattle.lines.specs.declared.Record.{Record}
 use Rattle.lines.specs.Lines.{Line, lineOf}
 use Rattle.lines.specs.Record as Reserved
-use Rattle.history.proofs.Simulation.{Phase, settled, frozen, late}
+use Rattle.linearizing.proofs.Simulation.{Phase, settled, frozen, late}
 use Rattle.figure_cell.specs.Memory.{Cell}
 use Rattle.figure_cell.proofs.Classes.{is, busy, holding, swapping, racing, won, loaded, stored, contended, replacing, taking, filledY, filledC, filledD, checking}
 

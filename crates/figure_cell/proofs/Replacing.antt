@@ -13,7 +13,7 @@ use Rattle.lines.specs.Lines.{Line, l4, l5, l6, l7, l8, l10, l15, l30, nowhere,
 use Rattle.history.specs.History.{Attempt}
 use Rattle.history.specs.Basics.{upd, _∈_}
 use Rattle.history.proofs.Basics.{either, upd-same, upd-off}
-use Rattle.history.proofs.Simulation.{Phase, settled, late}
+use Rattle.linearizing.proofs.Simulation.{Phase, settled, late}
 use Rattle.figure_cell.specs.Memory.{Cell, wordOf, store, install, allocate}
 use Rattle.figure_cell.proofs.Classes.{is, holding, racing, won, stored, taking, lies-in, holds-not}
 use Rattle.figure_cell.proofs.Stores.{store-else, store-next, store-current}

@@ -10,7 +10,7 @@ use Rattle.lines.specs.Lines.{for28, Line, l1, l16, l17, l18, l19, l27, nowhere
 use Rattle.history.specs.History.{Attempt}
 use Rattle.history.specs.Basics.{upd}
 use Rattle.history.proofs.Basics.{upd-same, upd-off, upd-cases}
-use Rattle.history.proofs.Simulation.{Phase, late}
+use Rattle.linearizing.proofs.Simulation.{Phase, late}
 use Rattle.figure_cell.specs.Memory.{Cell, store}
 use Rattle.figure_cell.proofs.Classes.{is, holding, racing, won, taking, lies-in}
 use Rattle.figure_cell.proofs.Invariant.{View, Knowledge, Split, PhaseIs, line, held, Inv}

@@ -15,7 +15,7 @@ use Rattle.lines.specs.Lines.{Wanted, for13, for25, for28, Line, l1, l2, l3, l4
 use Rattle.history.specs.Basics.{upd}
 use Rattle.history.specs.History.{Response, Yes, No, Attempt, success, failure, untried}
 use Rattle.history.proofs.Basics.{either, upd-at, upd-off}
-use Rattle.history.proofs.Simulation.{Phase, settled, frozen, late}
+use Rattle.linearizing.proofs.Simulation.{Phase, settled, frozen, late}
 use Rattle.figure_cell.specs.Memory.{Cell, store, install, Accessed, accessCell}
 use Rattle.figure_cell.proofs.Classes.{is, figureLine, busy, holding, swapping, stored, lies-in}
 use Rattle.history.proofs.ListTests.{by-test}

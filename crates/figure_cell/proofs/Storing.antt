@@ -10,7 +10,7 @@ use Rattle.lines.specs.Lines.{l23, l24, lineOf, at, counted}
 use Rattle.history.specs.History.{Attempt}
 use Rattle.history.specs.Basics.{upd}
 use Rattle.history.proofs.Basics.{upd-at, upd-same, upd-off, upd-cases}
-use Rattle.history.proofs.Simulation.{Phase, settled, late}
+use Rattle.linearizing.proofs.Simulation.{Phase, settled, late}
 use Rattle.figure_cell.specs.Memory.{store}
 use Rattle.figure_cell.proofs.Classes.{is, holding, won, loaded, stored, contended, taking, lies-in, are-apart}
 use Rattle.figure_cell.proofs.Invariant.{none, View, Knowledge, Value, Fresh, Owner, Rival, PhaseIs, line, held, Inv}

@@ -107,7 +107,11 @@ no-hardware-CAS-alone h = omega (arith, h (needless .call) 1 (finished needless 
         go (inl q) = ne (ap (λ (c : Call). c .start .at) q)
         go (inr q) = ne (ap (λ (c : Call). c .start .at) q)
 
--- and so does one beside which only a swap of equal values is pending
+-- where the cell is not clear, the same call is right
+pub hardware-CAS-on-a-cell-that-is-not-clear : NoHardware (λ l k. ⊥) (callsOf ((begin 0 (swap 0 5 7), accepted untried) ∷ (step 0, answers success aSwap Yes 1 1 0) ∷ []))
+hardware-CAS-on-a-cell-that-is-not-clear c n i clear alone = absurd clear
+
+-- a swap beside which only one of equal values is pending tries the hardware CAS
 abbrev beside-equal : List (Action × Event)
 beside-equal = (begin 0 (swap 0 5 5), accepted untried) ∷ (begin 1 (swap 0 5 7), accepted untried) ∷ (step 1, answers success aSwap Yes 1 1 0) ∷ []
 

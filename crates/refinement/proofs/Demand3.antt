@@ -16,7 +16,7 @@ use Rattle.questions.specs.Questions.{refusal, hasNone, openQuestions, answers}
 use Rattle.questions.proofs.Tests.{nth, all-yes, none-of}
 use Rattle.history.specs.History.{Action, Event, history, Call, callsOf}
 use Rattle.history.specs.Demand3.{most, Demand3, Meets, Finishes, clearAfter}
-use Rattle.history.proofs.EndsWithin.{ends-within}
+use Rattle.linearizing.proofs.EndsWithin.{ends-within}
 use Rattle.figure.specs.Figure.{figure, opening, clear}
 use Rattle.figure.proofs.Simulation.{figure-meets-demand-3}
 use Rattle.cells.specs.Machine.{pool}

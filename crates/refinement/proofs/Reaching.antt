@@ -12,7 +12,7 @@ use Rattle.lines.specs.Record.{recordAt}
 use Rattle.questions.specs.Questions.{refusal, fit, openQuestions}
 use Rattle.blocks.specs.Blocks.{unused, isFound}
 use Rattle.history.specs.History.{Action}
-use Rattle.history.proofs.EveryAction.{run-snoc}
+use Rattle.linearizing.proofs.EveryAction.{run-snoc}
 use Rattle.cells.specs.Machine.{Pool, pool}
 use Rattle.cells.proofs.Counted.{Arrays}
 use Rattle.refinement.specs.Terms.{start}

@@ -3,11 +3,11 @@ use mathlib.Core.Path.{_≡_, refl, sym, ap, _∙_, subst}
 use mathlib.Core.Logic.{_≢_, _⊎_, inl, inr}
 use mathlib.Core.Option.{Option, none, some}
 use Prim.Native.Nat.{ℕ, _≤_, _+_}
 use Rattle.history.specs.Basics.{upd}
 use Rattle.history.specs.History.{Op, cellOf, kindOf, Action, begin, step, Attempt, Event, refused, accepted, answered, Report, Call, Calls, called, advance, advanced, enter, IsBusy, Allowed}
 use Rattle.history.specs.Demand3.{mostHard, Reports}
 use Rattle.history.proofs.Basics.{either, upd-at, upd-off, clash, some-inj}
-use Rattle.history.proofs.Simulation.{Tally, first, further, Follows}
+use Rattle.linearizing.proofs.Simulation.{Tally, first, further, Follows}
 
 -- OPTIONS
 

@@ -1,14 +1,14 @@
 -- Demand 3 from a machine's simulation.
 use mathlib.Core.List.{map}
 use Prim.Native.Nat.{ℕ}
 use Rattle.history.specs.History.{Action, Event, run}
 use Rattle.history.specs.Demand3.{Meets, clearAfter}
 use Rattle.history.specs.Moments.{Names, pointOf, beside}
-use Rattle.history.proofs.Simulation.{Simulation}
-use Rattle.history.proofs.Counts.{bounds-of}
-use Rattle.history.proofs.NoHardware.{no-hardware}
-use Rattle.history.proofs.EveryAction.{within, at-end}
-use Rattle.history.proofs.Moments.{placing, marks-linearize}
+use Rattle.linearizing.proofs.Simulation.{Simulation}
+use Rattle.linearizing.proofs.Counts.{bounds-of}
+use Rattle.linearizing.proofs.NoHardware.{no-hardware}
+use Rattle.linearizing.proofs.EveryAction.{within, at-end}
+use Rattle.linearizing.proofs.Moments.{placing, marks-linearize}
 
 -- a machine with a simulation meets demand 3 at every list of actions: its histories are well-formed, its marks are a linearization by the
 -- sequential specification, its calls keep their bounds, and those without contention make no hardware CAS

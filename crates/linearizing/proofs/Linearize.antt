@@ -5,14 +5,14 @@ use mathlib.Core.Option.{Option, some}
 use mathlib.Core.List.{List, [], _∷_, _++_}
 use Prim.Native.Nat.{ℕ, suc, _<_}
 use native.Mathlib.Omega.{arith}
 use Rattle.history.specs.History.{cellOf, Action, begin, step, untried, Event, refused, accepted, answered, Response, CallId, Call, Calls, noCalls, enter}
 use Rattle.history.specs.Moments.{Spot, Mark, markOf, marked, Names, beside}
 use Rattle.history.proofs.Basics.{some-inj}
-use Rattle.history.proofs.Simulation.{settled, Ghost, fresh, Knowledge, Move, shift, unplaced, Tally, May, Sided, Why, Keeps, Moves, Forward, Simulation}
-use Rattle.history.proofs.Tracks.{tallied, tallyOf, call-of, Tracks, Change, refuses, starts, goes, ends}
-use Rattle.history.proofs.MovesOne.{Dated, MovesOne, same-begin, dated-on, goes-on, ends-on, starts-on, passes-on}
-use Rattle.history.proofs.Kept.{cell-of, Entry, of-finished, of-pending, Kept, settled-late}
-use Rattle.history.proofs.Moves.{firm, Onto, Seen, knows, pass-onto, start-onto, go-onto, end-onto}
+use Rattle.linearizing.proofs.Simulation.{settled, Ghost, fresh, Knowledge, Move, shift, unplaced, Tally, May, Sided, Why, Keeps, Moves, Forward, Simulation}
+use Rattle.linearizing.proofs.Tracks.{tallied, tallyOf, call-of, Tracks, Change, refuses, starts, goes, ends}
+use Rattle.linearizing.proofs.MovesOne.{Dated, MovesOne, same-begin, dated-on, goes-on, ends-on, starts-on, passes-on}
+use Rattle.linearizing.proofs.Kept.{cell-of, Entry, of-finished, of-pending, Kept, settled-late}
+use Rattle.linearizing.proofs.Moves.{firm, Onto, Seen, knows, pass-onto, start-onto, go-onto, end-onto}
 
 module _ {S N : Type 0} {machine : S → Action → S × Event} {note : N → S → Action → Event → N} {names : Names (S × N)} {start : S} {blank : N} {clear : S → ℕ → Type 0} {tasks size : ℕ} {values : ℕ → ℕ}
     (M : Simulation machine note names start blank clear tasks size values) where

@@ -8,13 +8,13 @@ use Prim.Native.Nat.{ℕ, zero, suc, _≤_, _<_}
 use native.Mathlib.Omega.{arith}
 use lib.Dec.{eqb, leb, T, leb→le, nleb→lt}
 use borrow.Author.Tests.{eqb-true, eq-eqb, ne-eqb}
 use Rattle.history.specs.Basics.{upd, _∈_, Once}
 use Rattle.history.specs.History.{Op, read, swap, cellOf, Response, Yes, No}
 use Rattle.history.specs.Linearization.{reply, valueLeft, apply, Point, replies, Sorted}
 use Rattle.history.specs.Moments.{Mark, pointOf, replyOf, changes, changing, sort}
 use Rattle.history.proofs.Basics.{either, upd-at, upd-off}
-use Rattle.history.proofs.Simulation.{Sided}
-use Rattle.history.proofs.Order.{Keyed, sort-in, in-sort, sort-keyed, begins, to-begins, sort-once, no-later, before-change}
+use Rattle.linearizing.proofs.Simulation.{Sided}
+use Rattle.linearizing.proofs.Order.{Keyed, sort-in, in-sort, sort-keyed, begins, to-begins, sort-once, no-later, before-change}
 
 pub le-or-lt : (a b : ℕ) → (a ≤ b) ⊎ (b < a)
 le-or-lt a b = go (leb a b) refl

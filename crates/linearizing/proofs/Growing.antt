@@ -7,11 +7,11 @@ use Prim.Native.Nat.{ℕ, suc, _≤_, _<_}
 use native.Mathlib.Omega.{arith}
 use lib.Dec.{eqb, ltb, T}
 use borrow.Author.Tests.{eq-eqb, ne-eqb, lt-ltb, le-ltb}
 use Rattle.history.specs.History.{Response}
 use Rattle.history.specs.Linearization.{reply, valueLeft, Point}
 use Rattle.history.specs.Moments.{changes}
 use Rattle.history.proofs.Basics.{either}
-use Rattle.history.proofs.Timeline.{le-or-lt, calm-after, after-calm, cell, found, Right, Cause, Timeline}
+use Rattle.linearizing.proofs.Timeline.{le-or-lt, calm-after, after-calm, cell, found, Right, Cause, Timeline}
 
 -- the calls E', with their answers, are E and the call e with the answer a
 pub record Joins (E E' : Point → Response → Type 0) (e : Point) (a : Response) : Type 0 where

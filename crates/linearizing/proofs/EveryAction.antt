@@ -2,17 +2,17 @@
 use mathlib.Core.Path.{_≡_, refl, sym, ap, _∙_}
 use mathlib.Core.List.{List, [], _∷_, _++_}
 use Prim.Native.Nat.{ℕ}
 use Rattle.history.specs.History.{Action, Event, history, run, Calls, noCalls, enter, enterAll, WellFormed}
 use Rattle.history.specs.Moments.{Mark, Names, beside, marked, pendingMarks, marks}
 use Rattle.history.proofs.Basics.{clash}
-use Rattle.history.proofs.Simulation.{Simulation}
-use Rattle.history.proofs.Tracks.{tallied, tallyOf, Tracks, Change, refuses, starts, goes, ends, Tracked, tracked}
-use Rattle.history.proofs.MovesOne.{Dated, dated-on, moves-one}
-use Rattle.history.proofs.Counts.{Within, AllEnded, ended-next}
-use Rattle.history.proofs.Distinct.{Distinct, distinct-next}
-use Rattle.history.proofs.Moves.{firm, knows}
-use Rattle.history.proofs.Linearize.{Simulated, simulated-start, simulated-next}
-use Rattle.history.proofs.NoHardware.{AllQuiet, quiet-next}
+use Rattle.linearizing.proofs.Simulation.{Simulation}
+use Rattle.linearizing.proofs.Tracks.{tallied, tallyOf, Tracks, Change, refuses, starts, goes, ends, Tracked, tracked}
+use Rattle.linearizing.proofs.MovesOne.{Dated, dated-on, moves-one}
+use Rattle.linearizing.proofs.Counts.{Within, AllEnded, ended-next}
+use Rattle.linearizing.proofs.Distinct.{Distinct, distinct-next}
+use Rattle.linearizing.proofs.Moves.{firm, knows}
+use Rattle.linearizing.proofs.Linearize.{Simulated, simulated-start, simulated-next}
+use Rattle.linearizing.proofs.NoHardware.{AllQuiet, quiet-next}
 
 pub run-snoc : {S : Type 0} (act : S → Action → S × Event) (s : S) (l : List Action) (a : Action) → run act s (l ++ (a ∷ [])) ≡ act (run act s l) a .0
 run-snoc act s [] a = refl

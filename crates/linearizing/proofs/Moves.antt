@@ -7,17 +7,17 @@ use mathlib.Core.List.{List, _∷_}
 use Prim.Native.Nat.{ℕ, suc, _≤_, _<_}
 use native.Mathlib.Omega.{arith}
 use lib.Dec.{T, T-not}
 use Rattle.history.specs.Basics.{upd}
 use Rattle.history.specs.History.{Op, cellOf, begin, step, Attempt, untried, refused, accepted, answered, Response, Yes, Report, CallId, Call, Calls, advance, enter}
 use Rattle.history.specs.Linearization.{reply, valueLeft, Point}
 use Rattle.history.specs.Moments.{Spot, Mark, pointOf, Names}
 use Rattle.history.proofs.Basics.{either, upd-at, upd-same, upd-off, upd-cases, clash, some-inj, point}
-use Rattle.history.proofs.Simulation.{Phase, settled, frozen, late, Ghost, Knowledge, Move, still, act, freeze, store, settle, land, freezes, takesEffect, inPhase, shift, unplaced, Tally, May, Sided, Why, acts, acted, observes}
-use Rattle.history.proofs.Tracks.{call-of, Tracks}
-use Rattle.history.proofs.MovesOne.{Onward, Dated, MovesOne, same-begin, going-pending, steps-on, goes-on, ended-finished, ended-idle, leaves, starts-on, passes-on}
-use Rattle.history.proofs.Timeline.{cell, Timeline}
-use Rattle.history.proofs.Growing.{Joins, regarded, observed, since-other, since-before}
-use Rattle.history.proofs.Kept.{cell-of, Entry, of-finished, of-pending, Late, Kept, settled-late, calls-kept, phases-kept, past⁺, effect-kept}
+use Rattle.linearizing.proofs.Simulation.{Phase, settled, frozen, late, Ghost, Knowledge, Move, still, act, freeze, store, settle, land, freezes, takesEffect, inPhase, shift, unplaced, Tally, May, Sided, Why, acts, acted, observes}
+use Rattle.linearizing.proofs.Tracks.{call-of, Tracks}
+use Rattle.linearizing.proofs.MovesOne.{Onward, Dated, MovesOne, same-begin, going-pending, steps-on, goes-on, ended-finished, ended-idle, leaves, starts-on, passes-on}
+use Rattle.linearizing.proofs.Timeline.{cell, Timeline}
+use Rattle.linearizing.proofs.Growing.{Joins, regarded, observed, since-other, since-before}
+use Rattle.linearizing.proofs.Kept.{cell-of, Entry, of-finished, of-pending, Late, Kept, settled-late, calls-kept, phases-kept, past⁺, effect-kept}
 
 -- WHAT IS FIRM: in a settled cell all moments so far, else those before the freezing
 

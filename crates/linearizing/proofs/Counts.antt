@@ -5,11 +5,11 @@ use mathlib.Core.Option.{some}
 use mathlib.Core.List.{_∷_}
 use Prim.Native.Nat.{ℕ, _≤_, _<_}
 use native.Mathlib.Omega.{arith}
 use Rattle.history.specs.Basics.{_∈_}
 use Rattle.history.specs.History.{Action, Event, Call, attempts, FinishedCall, Calls, enter}
 use Rattle.history.specs.Demand3.{most, mostHard, Reports, Bounds}
-use Rattle.history.proofs.Tracks.{Change, refuses, starts, goes, ends}
-use Rattle.history.proofs.MovesOne.{Dated, last-one, ended-finished}
+use Rattle.linearizing.proofs.Tracks.{Change, refuses, starts, goes, ends}
+use Rattle.linearizing.proofs.MovesOne.{Dated, last-one, ended-finished}
 
 -- task by task, what the machine promises of the pending calls
 abbrev pub Within : Calls → Type 0

@@ -5,14 +5,14 @@ use mathlib.Core.Option.{Option, none, some}
 use mathlib.Core.List.{_∷_}
 use Prim.Native.Nat.{ℕ, suc, _+_, _≤_}
 use native.Mathlib.Omega.{arith}
 use Rattle.history.specs.Basics.{_∈_}
 use Rattle.history.specs.History.{cellOf, Action, begin, step, Attempt, untried, Event, accepted, answered, CallId, Call, attempts, FinishedCall, Calls, called, advance, advanced, enter, CallOf, finished, pending}
 use Rattle.history.specs.History.{run}
 use Rattle.history.specs.Demand3.{Unequal, Alone, NoHardware, clearAfter}
 use Rattle.history.proofs.Basics.{upd-same, clash, some-inj}
-use Rattle.history.proofs.Simulation.{Tally, QuietSteps, Quietly}
-use Rattle.history.proofs.Tracks.{upd-some, tallied, tallyOf, call-of, Tracks, Change, refuses, starts, goes, ends}
-use Rattle.history.proofs.MovesOne.{Onward, Dated, MovesOne, continues, last-one, ended-finished, moves-one}
+use Rattle.linearizing.proofs.Simulation.{Tally, QuietSteps, Quietly}
+use Rattle.linearizing.proofs.Tracks.{upd-some, tallied, tallyOf, call-of, Tracks, Change, refuses, starts, goes, ends}
+use Rattle.linearizing.proofs.MovesOne.{Onward, Dated, MovesOne, continues, last-one, ended-finished, moves-one}
 
 -- a call that is alone was so before
 alone-before : {t : ℕ} {b b' : Calls} → MovesOne 0 t b b' → (c d : Call) (n n' : ℕ) → c .start ≡ d .start → n ≤ n' → Alone b' d n' → Alone b c n

@@ -8,15 +8,15 @@ use mathlib.Core.List.{List, [], _∷_}
 use Prim.Native.Nat.{ℕ, _≤_, _<_}
 use native.Mathlib.Omega.{arith}
 use lib.Dec.{T, T-not}
 use Rattle.history.specs.Basics.{upd, _∈_}
 use Rattle.history.specs.History.{Op, cellOf, Response, Yes, CallId, Call, FinishedCall, Calls}
 use Rattle.history.specs.Linearization.{reply, valueLeft, apply, Point}
 use Rattle.history.specs.Moments.{Mark, pointOf}
 use Rattle.history.proofs.Basics.{either, upd-at, upd-same, upd-off, some-inj, point}
-use Rattle.history.proofs.Simulation.{Phase, settled, late, Ghost, Sided}
-use Rattle.history.proofs.MovesOne.{Onward, From, MovesOne, from-where}
-use Rattle.history.proofs.Timeline.{apply-at, apply-off, cell, Timeline}
-use Rattle.history.proofs.Growing.{Joins, regarded, since, since-other, since-after, changed}
+use Rattle.linearizing.proofs.Simulation.{Phase, settled, late, Ghost, Sided}
+use Rattle.linearizing.proofs.MovesOne.{Onward, From, MovesOne, from-where}
+use Rattle.linearizing.proofs.Timeline.{apply-at, apply-off, cell, Timeline}
+use Rattle.linearizing.proofs.Growing.{Joins, regarded, since, since-other, since-after, changed}
 
 abbrev pub cell-of : Call → ℕ
 cell-of c = cellOf (c .start .op)

@@ -7,9 +7,9 @@ use Prim.Native.Nat.{ℕ, _≤_, _<_}
 use native.Mathlib.Omega.{arith}
 use lib.Dec.{eqb, leb, T, leb→le, nleb→lt}
 use borrow.Author.Tests.{eqb-true, eqb-false}
 use Rattle.history.specs.Basics.{_∈_, Once}
 use Rattle.history.specs.Moments.{Side, before, itself, after, Mark, changing, sideNumber, key, notAfter, insert, sort}
-use Rattle.history.proofs.Simulation.{Sided}
+use Rattle.linearizing.proofs.Simulation.{Sided}
 
 -- THE ORDER OF THE KEYS
 

@@ -7,21 +7,21 @@ use mathlib.Core.List.{List, [], _∷_, _++_, map}
 use Prim.Native.Nat.{ℕ, zero, suc, _<_}
 use native.Mathlib.Omega.{arith}
 use lib.Dec.{T}
 use Rattle.history.specs.Basics.{_∈_, Once}
 use Rattle.history.specs.History.{Action, Event, history, run, Response, Yes, Call, FinishedCall, Calls, noCalls, callsOf, pending, finished}
 use Rattle.history.specs.Linearization.{Point, replies, Placed, Linearizes}
 use Rattle.history.specs.Moments.{before, itself, Spot, Mark, pointOf, replyOf, Names, beside, markOfPending, pendingMarks, sort, linearized}
 use Rattle.history.proofs.Basics.{either, clash, some-inj, point}
-use Rattle.history.proofs.Simulation.{Knowledge, Sided, Simulation}
-use Rattle.history.proofs.Tracks.{tallied, tallyOf}
-use Rattle.history.proofs.MovesOne.{Dated}
-use Rattle.history.proofs.Distinct.{callBegins}
-use Rattle.history.proofs.Order.{sort-in, in-sort, begins, from-begins, to-begins, sort-once}
-use Rattle.history.proofs.Timeline.{Marks, points-in, sorted-answers, sorted-points}
-use Rattle.history.proofs.Kept.{Entry, of-finished, of-pending, MarkOf, Marked}
-use Rattle.history.proofs.Moves.{firm, knows}
-use Rattle.history.proofs.Linearize.{Simulated}
-use Rattle.history.proofs.EveryAction.{Good, AtEnd, at-end}
+use Rattle.linearizing.proofs.Simulation.{Knowledge, Sided, Simulation}
+use Rattle.linearizing.proofs.Tracks.{tallied, tallyOf}
+use Rattle.linearizing.proofs.MovesOne.{Dated}
+use Rattle.linearizing.proofs.Distinct.{callBegins}
+use Rattle.linearizing.proofs.Order.{sort-in, in-sort, begins, from-begins, to-begins, sort-once}
+use Rattle.linearizing.proofs.Timeline.{Marks, points-in, sorted-answers, sorted-points}
+use Rattle.linearizing.proofs.Kept.{Entry, of-finished, of-pending, MarkOf, Marked}
+use Rattle.linearizing.proofs.Moves.{firm, knows}
+use Rattle.linearizing.proofs.Linearize.{Simulated}
+use Rattle.linearizing.proofs.EveryAction.{Good, AtEnd, at-end}
 
 -- LISTS
 

@@ -5,11 +5,11 @@ use mathlib.Core.Option.{none, some}
 use mathlib.Core.List.{List, _∷_, map}
 use Prim.Native.Nat.{ℕ, suc, _<_}
 use native.Mathlib.Omega.{arith}
 use Rattle.history.specs.Basics.{_∈_, Once}
 use Rattle.history.specs.History.{Action, step, Event, answered, Call, FinishedCall, Calls, called, advanced, enter}
 use Rattle.history.proofs.Basics.{clash, some-inj}
-use Rattle.history.proofs.Tracks.{upd-some, Change, refuses, starts, goes, ends}
-use Rattle.history.proofs.MovesOne.{Dated, last-one, ended-finished}
+use Rattle.linearizing.proofs.Tracks.{upd-some, Change, refuses, starts, goes, ends}
+use Rattle.linearizing.proofs.MovesOne.{Dated, last-one, ended-finished}
 
 abbrev pub callBegins : List FinishedCall → List ℕ
 callBegins l = map (λ f. f .call .start .at) l

@@ -1,0 +1,16 @@
+pub mod Simulation
+pub mod Tracks
+pub mod MovesOne
+pub mod Counts
+pub mod NoHardware
+pub mod Order
+pub mod Timeline
+pub mod Growing
+pub mod Kept
+pub mod Moves
+pub mod Linearize
+pub mod Distinct
+pub mod EveryAction
+pub mod Moments
+pub mod Meets
+pub mod EndsWithin
