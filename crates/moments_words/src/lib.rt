@@ -14,7 +14,7 @@ ghost use Rattle.moments_notes.specs.Words.{wordWith, insertWord, SortedWords, 
 use lines::Answer;
 use lines::Record;
 use moments_notes::Spot;
-use text::numbered::wide;
+use numbered::wide;
 
 fn changes(r: Record, a: Answer) -> bool
     ensures { λ b. ⌜ b ≡ «changesOf» (opOf r) (answerOf a) ⌝ }

@@ -1,10 +1,10 @@
 // Sessions drawn from a seed.
 
 use lines::records::idle;
+use numbered::put_bad;
+use numbered::put_numbers;
+use numbered::wide;
 use questions::State;
-use text::numbered::put_bad;
-use text::numbered::put_numbers;
-use text::numbered::wide;
 ghost use mathlib.Core.Path.{_≡_};
 ghost use mathlib.Core.Option.{Option·getD};
 ghost use mathlib.Core.List.{_++_};

@@ -4,8 +4,6 @@ ghost use lib.ListN.{length};
 ghost use Rattle.text.specs.Bytes.{digits as «digitsOf», decimal};
 ghost use Rattle.text.specs.Append.{Appended};
 
-pub mod numbered;
-
 // The place after what was looked for.
 pub enum Place {
     Nowhere,

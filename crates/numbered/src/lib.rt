@@ -2,10 +2,10 @@
 ghost use mathlib.Core.Path.{_≡_};
 ghost use Prim.Native.Nat.{_+_, _≤_};
 ghost use lib.ListN.{length};
 ghost use Rattle.text.specs.Append.{Appended};
 ghost use Rattle.text.specs.Lines.{line, numbers as «numbersOf», badLine};
-use crate::put;
-use crate::put_number;
+use text::put;
+use text::put_number;
 
 pub fn wide(x: u32) -> u64
     ensures { λ r. ⌜ (r ≡ x) × (r ≤ 4294967295) ⌝ }

@@ -1,13 +1,13 @@
 use native.Mathlib.Omega.{arith}
 use Rattle.text.proofs.Appending.{then}
 use borrow.Author.Needs.{needs}
 use Prim.Native.Nat.{_+_, _-_, _≤_, _<_}
 use lib.ListN.{length, drop}
 use Rattle.text.specs.Lines.{numbers}
 use Rattle.text.proofs.Toward.{Toward, toward-start, toward-more, toward-end}
 use Rattle.text.proofs.Spaced.{numbers-at, numbers-room, numbers-end}
-use Rattle.text.proofs.numbered.put_numbers.Statement.{statement}
-use Rattle.text.proofs.numbered.put_numbers.Tie as tie
+use Rattle.numbered.proofs.put_numbers.Statement.{statement}
+use Rattle.numbered.proofs.put_numbers.Tie as tie
 
 abbrev Inv-loop : tie.InvT-loop
 Inv-loop out₀ at l i₀ a₀ t7 out i a = Toward out₀ out at a (numbers (drop i l)) (numbers l) × (i ≤ length l) × (a + length (numbers (drop i l)) ≤ length out)

@@ -1,9 +1,9 @@
 use native.Mathlib.Omega.{arith}
 use Rattle.text.proofs.Appending.{then}
 use Rattle.text.proofs.Spaced.{line-length}
 use borrow.Author.Needs.{needs}
-use Rattle.text.proofs.numbered.put_line.Statement.{statement}
-use Rattle.text.proofs.numbered.put_line.Tie as tie
+use Rattle.numbered.proofs.put_line.Statement.{statement}
+use Rattle.numbered.proofs.put_line.Tie as tie
 
 put-requires : tie.Need-put-requires
 put-requires c κs = let a = c .before .before .before .before .args in omega (arith, c .before .before .before .before .pre, line-length a.start.now a.l.now)
