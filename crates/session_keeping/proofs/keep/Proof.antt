@@ -3,8 +3,8 @@ use native.Mathlib.Omega.{arith}
 use lib.ListN.{length-set}
 use mathlib.Core.Path.{refl}
 use Rattle.session_reading.proofs.Standing.{keep-over, keep-one}
-use Rattle.session_forms.proofs.keep.Statement.{statement}
-use Rattle.session_forms.proofs.keep.Tie as tie
+use Rattle.session_keeping.proofs.keep.Statement.{statement}
+use Rattle.session_keeping.proofs.keep.Tie as tie
 
 returns : tie.Need-returns
 returns c = let a = c .before .args in (refl, keep-over a.forms.now a.actions.now a.f a.n a.kind a.numbers.now (omega arith) (omega arith) (c .if1 .taken) _, search needs)
