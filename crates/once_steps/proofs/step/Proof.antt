@@ -15,10 +15,10 @@ use Rattle.consensus.specs.Figure.{leaves}
 use Rattle.consensus.specs.Entries.{storedBack, onceStepped}
 use Rattle.once_questions.proofs.Further.{refused-first, asked-further}
 use Rattle.once_questions.proofs.Fits.{busy}
-use Rattle.once.proofs.Known.{ofTask, KnownTask, known-task}
-use Rattle.once.proofs.Words.{zeroCell, cell-is}
-use Rattle.once.proofs.step.Statement.{statement}
-use Rattle.once.proofs.step.Tie as tie
+use Rattle.once_questions.proofs.Known.{ofTask, KnownTask, known-task}
+use Rattle.once_questions.proofs.Words.{zeroCell, cell-is}
+use Rattle.once_steps.proofs.step.Statement.{statement}
+use Rattle.once_steps.proofs.step.Tie as tie
 
 -- what is asked besides 6 and 7
 abbrev more : OnceState → (task : ℕ) → List Question

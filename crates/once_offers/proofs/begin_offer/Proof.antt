@@ -14,10 +14,10 @@ use Rattle.consensus.specs.declared.OnceState.{OnceState}
 use Rattle.consensus.specs.Questions.{offerAt, onceAt, isIdleOffer, hasOffered}
 use Rattle.consensus.specs.Entries.{offerBegun}
 use Rattle.once_questions.proofs.Further.{refused-first, asked-further}
-use Rattle.once.proofs.Known.{ofPlace, known-place}
-use Rattle.once.proofs.Words.{zeroCell, cell-is}
-use Rattle.once.proofs.begin_offer.Statement.{statement}
-use Rattle.once.proofs.begin_offer.Tie as tie
+use Rattle.once_questions.proofs.Known.{ofPlace, known-place}
+use Rattle.once_questions.proofs.Words.{zeroCell, cell-is}
+use Rattle.once_offers.proofs.begin_offer.Statement.{statement}
+use Rattle.once_offers.proofs.begin_offer.Tie as tie
 
 -- what is asked besides 6 to 8
 abbrev more : OnceState → (task cell value : ℕ) → List Question

@@ -4,8 +4,8 @@ use borrow.Author.Needs.{needs}
 use Rattle.questions.proofs.Refusals.{is-refused, is-allowed}
 use Rattle.consensus.specs.Questions.{openOnce}
 use Rattle.consensus.specs.Entries.{onceOpened}
-use Rattle.once.proofs.open.Statement.{statement}
-use Rattle.once.proofs.open.Tie as tie
+use Rattle.once_opening.proofs.open.Statement.{statement}
+use Rattle.once_opening.proofs.open.Tie as tie
 
 returns : tie.Need-returns
 unfolding onceOpened
