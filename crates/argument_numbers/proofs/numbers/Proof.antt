@@ -8,10 +8,10 @@ use lib.ListN.{length, take, drop}
 use lib.Seq.{take-all}
 use Rattle.text.proofs.Reading.{number-at, number-no}
 use Rattle.text.proofs.Appending.{one}
-use Rattle.arguments.specs.Arguments.{argument, given, numbersGiven, numbersOr}
-use Rattle.arguments.proofs.Counted.{followedBy, none-read, no-more, one-more, all-given, none-given}
-use Rattle.arguments.proofs.numbers.Statement.{statement}
-use Rattle.arguments.proofs.numbers.Tie as tie
+use Rattle.argument_numbers.specs.Arguments.{argument, given, numbersGiven, numbersOr}
+use Rattle.argument_numbers.proofs.Counted.{followedBy, none-read, no-more, one-more, all-given, none-given}
+use Rattle.argument_numbers.proofs.numbers.Statement.{statement}
+use Rattle.argument_numbers.proofs.numbers.Tie as tie
 
 abbrev Inv-loop : tie.InvT-loop
 Inv-loop line out₀ at₀ n₀ out at n = (n ≤ length out₀) × (at ≤ length line) × (length out ≡ length out₀) × (followedBy (take n out) (given (length out₀ - n) (drop at line)) ≡ given (length out₀) line)

@@ -1,10 +1,10 @@
 use mathlib.Core.List.{[], _∷_}
 use Rattle.text.specs.Readers.{word, number}
 use Rattle.text.proofs.Reading.{place-at, place-no, number-at, number-no}
-use Rattle.arguments.proofs.Counted.{no-number, no-end, is-argument}
+use Rattle.argument_numbers.proofs.Counted.{no-number, no-end, is-argument}
 use borrow.Author.Needs.{needs}
-use Rattle.arguments.proofs.argument.Statement.{statement}
-use Rattle.arguments.proofs.argument.Tie as tie
+use Rattle.argument_numbers.proofs.argument.Statement.{statement}
+use Rattle.argument_numbers.proofs.argument.Tie as tie
 
 returns : tie.Need-returns
 returns c = let a = c .before .before .before .before .args in no-number a.line.now a.at (number-no a.line.now a.at number 1 (c .enum-told .given .1) (c .before .before .number .ensures))

@@ -11,7 +11,7 @@ use lib.Dec.{eqb}
 use lib.ListN.{length, drop, drop-of-length-le}
 use Rattle.text.specs.Readers.{Reads, pure, onward, word, number}
 use Rattle.text.proofs.Reading.{drop-byte}
-use Rattle.arguments.specs.Arguments.{argument, given, whole, numbersGiven, numbersOr}
+use Rattle.argument_numbers.specs.Arguments.{argument, given, whole, numbersGiven, numbersOr}
 
 module _ (s : List ℕ) (at : ℕ) where
   pub no-number : number (drop at s) ≡ none → argument (drop at s) ≡ none
