@@ -10,7 +10,7 @@ use text::Place;
 fn argument(line: &[u8], at: usize) -> Numeral
     ensures { λ r. ⌜ NumeralIs «argumentOf» (now (line .entry)) at 2 r ⌝ }
 {
-    let read = readers::number(line, at);
+    let read = numerals::number(line, at);
     let Numeral::Read(n, a) = read else {
         return Numeral::Absent;
     };
