@@ -6,8 +6,8 @@ use lib.ListN.{drop, replicate, length-replicate}
 use borrow.Author.Fill.{fill-more}
 use borrow.Author.Needs.{needs}
 use native.Mathlib.Omega.{arith}
-use Rattle.opening.proofs.open_counts.Statement.{statement}
-use Rattle.opening.proofs.open_counts.Tie as tie
+use Rattle.opening_state.proofs.open_counts.Statement.{statement}
+use Rattle.opening_state.proofs.open_counts.Tie as tie
 
 abbrev Inv-loop : tie.InvT-loop
 Inv-loop cells counts₀ n k₀ counts k = (k ≤ n) × (counts ≡ replicate k 1 ++ drop k (replicate 128 0))

@@ -8,8 +8,8 @@ use denote.Ref.{now}
 use borrow.Author.Fill.{fill-more}
 use borrow.Author.Needs.{needs}
 use native.Mathlib.Omega.{arith}
-use Rattle.opening.proofs.clear.Statement.{statement}
-use Rattle.opening.proofs.clear.Tie as tie
+use Rattle.opening_state.proofs.clear.Statement.{statement}
+use Rattle.opening_state.proofs.clear.Tie as tie
 
 abbrev Inv-loop : tie.InvT-loop
 Inv-loop pool₀ i₀ pool i = (i ≤ length pool₀) × (length pool ≡ length pool₀) × (pool ≡ replicate i 0 ++ drop i pool₀)

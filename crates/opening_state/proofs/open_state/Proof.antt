@@ -1,7 +1,7 @@
 -- Every record is idle.
 use borrow.Author.Needs.{needs}
-use Rattle.opening.proofs.open_state.Statement.{statement}
-use Rattle.opening.proofs.open_state.Tie as tie
+use Rattle.opening_state.proofs.open_state.Statement.{statement}
+use Rattle.opening_state.proofs.open_state.Tie as tie
 
 returns : tie.Need-returns
 returns c = rw (c .before .idle .ensures, c .open-counts .ensures)
