@@ -6,11 +6,11 @@ ghost use Rattle.cells.specs.Answers.{said};
 ghost use Rattle.cells.specs.Open.{filled, opened, leaving};
 use cells::Outcome;
 use cells::Reply;
+use open_refusals::open_refusal;
 use opening_state::clear;
 use opening_state::open_state;
 use pool::memory::fill;
 use questions::State;
-use refusals::open_refusal;
 
 // Block k gets the k-th value.
 fn fill_blocks(pool: &mut [u32], values: &[u32])

@@ -3,8 +3,8 @@ use mathlib.Core.Path.{sym, _∙_}
 use borrow.Author.Tests.{not-true, not-false, eq-eqb, ne-eqb}
 use Rattle.questions.specs.Questions.{openQuestions}
 use borrow.Author.Needs.{needs}
-use Rattle.refusals.proofs.open_refusal.Statement.{statement}
-use Rattle.refusals.proofs.open_refusal.Tie as tie
+use Rattle.open_refusals.proofs.open_refusal.Statement.{statement}
+use Rattle.open_refusals.proofs.open_refusal.Tie as tie
 
 returns : tie.Need-returns
 unfolding openQuestions

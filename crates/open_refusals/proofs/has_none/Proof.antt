@@ -14,8 +14,8 @@ use Rattle.questions.specs.Questions.{hasNone}
 use Rattle.questions.proofs.Loops.{any-no, any-yes, any-end}
 use borrow.Author.Needs.{needs}
 use native.Mathlib.Omega.{arith}
-use Rattle.refusals.proofs.has_none.Statement.{statement}
-use Rattle.refusals.proofs.has_none.Tie as tie
+use Rattle.open_refusals.proofs.has_none.Statement.{statement}
+use Rattle.open_refusals.proofs.has_none.Tie as tie
 
 abbrev test : List ℕ → ℕ → Bool
 test vs k = eqb (getD vs k 0) noValue
