@@ -2,8 +2,8 @@
 use mathlib.Core.Path.{sym, _∙_}
 use borrow.Author.Needs.{needs}
 use borrow.Author.Tests.{not-true, not-false}
-use Rattle.once_questions.proofs.open_refusal.Statement.{statement}
-use Rattle.once_questions.proofs.open_refusal.Tie as tie
+use Rattle.once_opening.proofs.open_refusal.Statement.{statement}
+use Rattle.once_opening.proofs.open_refusal.Tie as tie
 
 returns : tie.Need-returns
 returns c = rw (sym (c .before .tasks-ok .ensures) ∙ not-true _ (c .if1 .taken))
