@@ -4,8 +4,8 @@ ghost use Prim.Native.Nat.{_+_, _≤_};
 ghost use lib.ListN.{length};
 ghost use Rattle.text.specs.Append.{Appended};
 ghost use Rattle.text.specs.Lines.{line, numbers as «numbersOf», badLine};
+use decimals::put_number;
 use text::put;
-use text::put_number;
 
 pub fn wide(x: u32) -> u64
     ensures { λ r. ⌜ (r ≡ x) × (r ≤ 4294967295) ⌝ }

@@ -48,7 +48,7 @@ fn put_small(out: &mut [u8], at: usize, n: u32) -> usize
     ensures { λ r. ⌜ Appended (now (out .entry)) (now (out .exit)) at r (decimal n) ⌝ }
     ensures { λ r. ⌜ r ≤ at + 10 ⌝ }
 {
-    text::put_number(out, at, wide(n))
+    decimals::put_number(out, at, wide(n))
 }
 
 fn put_answer(out: &mut [u8], at: usize, a: Answer) -> usize

@@ -2,11 +2,11 @@ use mathlib.Core.Path.{ap}
 use native.Mathlib.Omega.{arith}
 use Prim.Native.Nat.{_+_, _%_}
 use lib.ListN.{length}
 use Rattle.text.proofs.Appending.{one}
 use Rattle.text.proofs.Decimal.{digits-one}
 use borrow.Author.Needs.{needs}
-use Rattle.text.proofs.put_number.Statement.{statement}
-use Rattle.text.proofs.put_number.Tie as tie
+use Rattle.decimals.proofs.put_number.Statement.{statement}
+use Rattle.decimals.proofs.put_number.Tie as tie
 
 slice-write-out : tie.Need-slice-write-out
 slice-write-out c = omega (arith, ap length (digits-one 20 (c .before .before .args .n) (λ z. omega arith) (c .if1 .taken)))

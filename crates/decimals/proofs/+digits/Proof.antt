@@ -1,18 +1,18 @@
 use borrow.Author.Needs.{needs}
 use native.Mathlib.Omega.{arith}
 use Rattle.text.proofs.Decimal.{digits-none, digits-one, digits-more, digits-room}
 use lib.ListN.{length}
 use mathlib.Core.Path.{ap}
 use Prim.Native.Nat.{_+_, _-_, _%_}
 use Rattle.text.proofs.Appending.{nothing, one, then}
 use Prim.Native.Nat.{ℕ, _<_}
 use borrow.Fn.Kinds.{In}
 use borrow.Fn.PlainCycle.{Measures, is, falls, and}
-use Rattle.text.proofs.digits.Reads as digits
-use Rattle.text.proofs.digits.Kinds as digits-kinds
-use Rattle.text.proofs.+digits.Lts-digits as digits-lts
-use Rattle.text.proofs.+digits.{statement}
-use Rattle.text.proofs.+digits.Tie.{close}
+use Rattle.decimals.proofs.digits.Reads as digits
+use Rattle.decimals.proofs.digits.Kinds as digits-kinds
+use Rattle.decimals.proofs.+digits.Lts-digits as digits-lts
+use Rattle.decimals.proofs.+digits.{statement}
+use Rattle.decimals.proofs.+digits.Tie.{close}
 
 abbrev μ-digits : Measures 1 digits-kinds.ps ℕ
 μ-digits κs a = a .1 .1 .0
