@@ -5,7 +5,7 @@ ghost use Prim.Native.Nat.{_+_, _*_, _≤_};
 ghost use Rattle.questions.specs.Questions.{refusal as «refusalOf»};
 ghost use Rattle.bus_text.specs.Bus.{atMost, ordered, busQuestions, total as «totalOf»};
 ghost use Rattle.bus_calls.specs.Structs.{kindsOf, timesOf};
-use text::numbered::wide;
+use numbered::wide;
 
 // A number for each kind of access.
 pub struct Kinds {

@@ -8,8 +8,8 @@ ghost use Rattle.bus_calls.specs.Structs.{callOf, longestOf, sumsIn, sumsLine};
 use bus_calls::calls::CallTime;
 use bus_calls::calls::Longest;
 use bus_calls::calls::Totals;
-use text::numbered::put_line;
-use text::numbered::wide;
+use numbered::put_line;
+use numbered::wide;
 
 // Whole nanoseconds, rounded up.
 fn up(n: u64) -> u64

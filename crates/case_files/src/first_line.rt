@@ -35,7 +35,7 @@ fn bad() -> Item
 fn read_item(s: &[u8], at: usize, end: &[u8]) -> Item
     ensures { λ r. ⌜ r .next ≤ length (now (s .entry)) ⌝ }
 {
-    let read = readers::number(s, at);
+    let read = numerals::number(s, at);
     let Numeral::Read(value, after) = read else {
         return bad();
     };

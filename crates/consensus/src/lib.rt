@@ -45,3 +45,9 @@ pub enum Progress {
     Proceeds,
     Agreed(Agreement),
 }
+
+// What an entry hands back; a refused one hands back the state that it was given.
+pub struct OnceReply {
+    pub state: OnceState,
+    pub progress: Progress,
+}

@@ -14,7 +14,7 @@ ghost use Rattle.moments_notes.specs.Words.{wordWith, insertWord, SortedWords, 
 use lines::Answer;
 use lines::Record;
 use moments_notes::Spot;
-use text::numbered::wide;
+use numbered::wide;
 
 fn changes(r: Record, a: Answer) -> bool
     ensures { λ b. ⌜ b ≡ «changesOf» (opOf r) (answerOf a) ⌝ }
@@ -144,7 +144,7 @@ fn put_small(out: &mut [u8], at: usize, n: u32) -> usize
     requires { ⌜ (at + 5 ≤ length (now out)) × (n < 100000) ⌝ }
     ensures { λ r. ⌜ Appended (now (out .entry)) (now (out .exit)) at r (decimal n) × (r ≤ at + 5) × (n < 100 → r ≤ at + 2) ⌝ }
 {
-    text::put_number(out, at, wide(n))
+    decimals::put_number(out, at, wide(n))
 }
 
 // The line of a mark, of at most 32 bytes.

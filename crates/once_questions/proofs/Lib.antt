@@ -1,2 +1,4 @@
 pub mod Further
 pub mod Fits
+pub mod Known
+pub mod Words

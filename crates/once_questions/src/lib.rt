@@ -1,4 +1,5 @@
-// The questions of the once-only cells, before anything is done. A refusal is the number of the first that is answered no, or 0.
+// The questions of a begin and a step of the once-only cells, before anything is done. A refusal is the number of the first that
+// is answered no, or 0.
 ghost use mathlib.Core.Path.{_≡_};
 ghost use mathlib.Core.Bool.{not};
 ghost use mathlib.Core.Option.{Option·getD};
@@ -6,21 +7,12 @@ ghost use mathlib.Core.List.{[], _∷_};
 ghost use lib.Dec.{eqb, ltb};
 ghost use Rattle.lines.specs.Record.{noValue};
 ghost use Rattle.questions.specs.Questions.{refusal};
-ghost use Rattle.consensus.specs.Questions.{isIdleOffer, openOnce, offerFit, onceFit};
+ghost use Rattle.consensus.specs.Questions.{isIdleOffer, offerFit, onceFit};
 use consensus::Offer;
 use consensus::OnceState;
 use lines::records::NO_VALUE;
 use questions::cells_ok;
 use questions::tasks_ok;
-
-pub fn open_refusal(tasks: u32, cells: u32) -> u32
-    ensures { λ n. ⌜ n ≡ Option·getD (refusal (openOnce tasks cells)) 0 ⌝ }
-{
-    if !tasks_ok(tasks) {
-        return 1;
-    }
-    if cells_ok(cells) { 0 } else { 2 }
-}
 
 // WHEN A STATE IS FIT
 

@@ -4,13 +4,12 @@ use session_reading::Start;
 use session_reading::Word;
 use text::Place;
 ghost use mathlib.Core.Path.{_≡_};
-ghost use mathlib.Core.List.{List, [], _∷_};
+ghost use mathlib.Core.List.{List};
 ghost use Prim.Native.Nat.{ℕ, _+_, _-_, _*_, _≤_, _<_};
 ghost use lib.ListN.{length, take, drop};
 ghost use Rattle.text.specs.Append.{Appended};
 ghost use Rattle.session_file.specs.Session.{times, form as «formOf», list as «listOf», line as «lineOf», lines as «linesOf», count, counts, actions as «actionsOf1», actionsOf};
 ghost use Rattle.history.specs.History.{Action};
-ghost use Rattle.session_reading.specs.Reading.{acted};
 ghost use Rattle.session_reading.specs.Answers.{KeywordIs, HeadIs, kept, Stands, KeptIs, GotIs, Ready};
 
 fn keyword(s: &[u8], at: usize) -> Word
@@ -51,35 +50,6 @@ fn head(s: &[u8], at: usize, out: &mut [u32]) -> Start
         return Start::Unknown;
     };
     Start::Known(kind, next)
-}
-
-// Keeps a form of five words, read up to `next`, and one action of it, if there is room for the action.
-fn keep(
-    forms: &mut [u32],
-    f: usize,
-    actions: &mut [u32],
-    n: usize,
-    kind: u32,
-    numbers: &[u32],
-    next: usize,
-) -> Got
-    requires { ⌜ 5 * f + 5 ≤ length (now forms) ⌝ }
-    requires { ⌜ f < 65536 ⌝ }
-    requires { ⌜ n ≤ length (now actions) ⌝ }
-    requires { ⌜ 4 ≤ length (now numbers) ⌝ }
-    ensures { λ r. ⌜ KeptIs (now (forms .entry)) (now (forms .exit)) (now (actions .entry)) (now (actions .exit)) f n next (f + 1) 1 (acted kind (now (numbers .entry)) ∷ []) r ⌝ }
-{
-    if actions.len() <= n {
-        return Got::At(next, true, f, n);
-    }
-    let at = 5 * f;
-    forms[at] = kind;
-    forms[at + 1] = numbers[0];
-    forms[at + 2] = numbers[1];
-    forms[at + 3] = numbers[2];
-    forms[at + 4] = numbers[3];
-    actions[n] = f as u32;
-    Got::At(next, false, f + 1, n + 1)
 }
 
 // Copies the words from n to m behind them, so that they stand there c times.
@@ -169,7 +139,7 @@ fn form(
     let Place::At(next) = end else {
         return Got::Bad;
     };
-    keep(forms, f, actions, n, kind, &numbers, next)
+    session_keeping::keep(forms, f, actions, n, kind, &numbers, next)
 }
 
 // The forms of a list up to its bracket, each at most `depth` deep.

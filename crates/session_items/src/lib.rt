@@ -24,7 +24,7 @@ pub fn item(s: &[u8], at: usize) -> Numeral
     let Place::At(a) = gap else {
         return Numeral::Absent;
     };
-    readers::number(s, a)
+    numerals::number(s, a)
 }
 
 pub fn close(s: &[u8], at: usize) -> Place

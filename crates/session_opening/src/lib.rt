@@ -19,7 +19,7 @@ fn values(s: &[u8], at: usize, out: &mut [u32]) -> Listed
     if let Place::At(next) = shut {
         return Listed::Read(0, next);
     }
-    let first = readers::number(s, at);
+    let first = numerals::number(s, at);
     let Numeral::Read(v, a) = first else {
         return Listed::Wrong;
     };

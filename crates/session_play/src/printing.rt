@@ -13,10 +13,10 @@ ghost use Rattle.text.specs.Lines.{line};
 ghost use Rattle.session_text.specs.Lines.{noLine, cellLine, kindWord, answerWord, doneStart, doneLine, endLine, Small};
 use lines::Answer;
 use lines::Finished;
+use numbered::put_line;
+use numbered::put_numbers;
+use numbered::wide;
 use rate::lisqotay_rate;
-use text::numbered::put_line;
-use text::numbered::put_numbers;
-use text::numbered::wide;
 
 fn put_pair(out: &mut [u8], at: usize, start: &[u8], a: u32, b: u32) -> usize
     requires { ⌜ (at + 67 ≤ length (now out)) × (length (now start) ≤ 12) ⌝ }
@@ -48,7 +48,7 @@ fn put_small(out: &mut [u8], at: usize, n: u32) -> usize
     ensures { λ r. ⌜ Appended (now (out .entry)) (now (out .exit)) at r (decimal n) ⌝ }
     ensures { λ r. ⌜ r ≤ at + 10 ⌝ }
 {
-    text::put_number(out, at, wide(n))
+    decimals::put_number(out, at, wide(n))
 }
 
 fn put_answer(out: &mut [u8], at: usize, a: Answer) -> usize

@@ -11,9 +11,9 @@ ghost use Rattle.cells.specs.Answers.{actOf};
 ghost use Rattle.shaken_actions.specs.Actions.{drawnActions, Short};
 use cells::Action;
 use drawing::draw_action;
+use numbered::put_line;
+use numbered::wide;
 use questions::State;
-use text::numbered::put_line;
-use text::numbered::wide;
 
 fn put_action(out: &mut [u8], at: usize, a: Action) -> usize
     requires { ⌜ at + 51 ≤ length (now out) ⌝ }

@@ -1,10 +1,10 @@
 // Sessions drawn from a seed.
 
 use lines::records::idle;
+use numbered::put_bad;
+use numbered::put_numbers;
+use numbered::wide;
 use questions::State;
-use text::numbered::put_bad;
-use text::numbered::put_numbers;
-use text::numbered::wide;
 ghost use mathlib.Core.Path.{_≡_};
 ghost use mathlib.Core.Option.{Option·getD};
 ghost use mathlib.Core.List.{_++_};
@@ -24,7 +24,7 @@ const ROOM: usize = 65536;
 fn refusal(tasks: u32, cells: u32, blocks: u32, count: u32) -> u32
     ensures { λ n. ⌜ n ≡ Option·getD («refusalOf» (shakeQuestions tasks cells blocks count)) 0 ⌝ }
 {
-    let n = refusals::open_refusal(5 * blocks as usize, tasks, cells, blocks, &[]);
+    let n = open_refusals::open_refusal(5 * blocks as usize, tasks, cells, blocks, &[]);
     if n < 4 {
         return n;
     }

@@ -1,12 +1,13 @@
 -- Laws of readers at a place of a text.
-use mathlib.Core.Path.{_≡_, subst}
-use mathlib.Core.Bool.{true, false}
+use mathlib.Core.Path.{_≡_, refl, subst}
+use mathlib.Core.Bool.{Bool, true, false, _||_}
 use mathlib.Core.List.{List, _∷_}
 use mathlib.Core.Option.{none, some}
 use Prim.Native.Nat.{ℕ, _+_, _-_, _*_, _≤_, _<_}
 use native.Mathlib.Numerals.{add-one}
 use native.Mathlib.Omega.{arith}
-use borrow.Author.Tests.{le-leb, lt-leb, eq-eqb, ne-eqb}
+use borrow.Author.Tests.{ltb-true, ltb-false, le-leb, lt-leb, eq-eqb, ne-eqb}
+use lib.Dec.{T, ltb}
 use lib.ListN.{length, drop, getD, drop-of-length-le}
 use lib.Seq.{drop-cons}
 use Rattle.text.specs.Readers.{Reader, Reads, word, isDigit, digitsAfter, number}
@@ -38,14 +39,26 @@ module _ (w s : List ℕ) (j i : ℕ) where
   unfolding word
   word-more h k e = rw (drop-byte w j h, drop-byte s i k, eq-eqb (getD s i 0) (getD w j 0) e)
 
-pub low : (d : ℕ) → d < 48 → isDigit d ≡ false
-low d h = rw (lt-leb 48 d h)
-
-pub high : (d : ℕ) → 57 < d → isDigit d ≡ false
-high d h = rw (le-leb 48 d (omega arith), lt-leb d 57 h)
-
 pub digit : (d : ℕ) → 48 ≤ d → d ≤ 57 → isDigit d ≡ true
 digit d h k = rw (le-leb 48 d h, le-leb d 57 k)
+
+abbrev pub Digit : ℕ → Type 0
+Digit d = (48 ≤ d) × (d ≤ 57) × (isDigit d ≡ true)
+
+-- what the test of a byte tells
+pub no-digit : (d : ℕ) → (ltb d 48 || ltb 57 d) ≡ true → isDigit d ≡ false
+no-digit d = go (ltb d 48) refl
+  where
+    go : (b : Bool) → ltb d 48 ≡ b → (b || ltb 57 d) ≡ true → isDigit d ≡ false
+    go true h e = rw (lt-leb 48 d (ltb-true d 48 h))
+    go false h e = rw (le-leb 48 d (ltb-false d 48 h), lt-leb d 57 (ltb-true 57 d e))
+
+pub is-digit : (d : ℕ) → (ltb d 48 || ltb 57 d) ≡ false → Digit d
+is-digit d = go (ltb d 48) refl
+  where
+    go : (b : Bool) → ltb d 48 ≡ b → (b || ltb 57 d) ≡ false → Digit d
+    go true h e = absurd (subst T e tt)
+    go false h e = let k = ltb-false d 48 h in let j = ltb-false 57 d e in (k, j, digit d k j)
 
 -- the cases of a number at the place i
 module _ (s : List ℕ) (i : ℕ) where

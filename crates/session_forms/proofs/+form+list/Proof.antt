@@ -24,7 +24,7 @@ use Rattle.session_forms.proofs.list.Kinds as list-kinds
 use Rattle.session_forms.proofs.+form+list.Lts-list as list-lts
 use Rattle.session_forms.proofs.again.Reads as again-reads
 use Rattle.session_forms.proofs.head.Reads as head-reads
-use Rattle.session_forms.proofs.keep.Reads as keep-reads
+use Rattle.session_keeping.proofs.keep.Reads as keep-reads
 use Rattle.session_items.proofs.close.Reads as close-reads
 use Rattle.session_items.proofs.space.Reads as space-reads
 use Rattle.session_forms.proofs.+form+list.{statement}

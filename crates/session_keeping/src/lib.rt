@@ -1,0 +1,36 @@
+// One form kept, and the action that it makes.
+use session_reading::Got;
+ghost use mathlib.Core.List.{[], _∷_};
+ghost use Prim.Native.Nat.{_+_, _*_, _≤_, _<_};
+ghost use lib.ListN.{length};
+ghost use Rattle.session_reading.specs.Reading.{acted};
+ghost use Rattle.session_reading.specs.Answers.{KeptIs};
+
+// Keeps a form of five words, read up to `next`, and one action of it, if there is room for the action.
+pub fn keep(
+    forms: &mut [u32],
+    f: usize,
+    actions: &mut [u32],
+    n: usize,
+    kind: u32,
+    numbers: &[u32],
+    next: usize,
+) -> Got
+    requires { ⌜ 5 * f + 5 ≤ length (now forms) ⌝ }
+    requires { ⌜ f < 65536 ⌝ }
+    requires { ⌜ n ≤ length (now actions) ⌝ }
+    requires { ⌜ 4 ≤ length (now numbers) ⌝ }
+    ensures { λ r. ⌜ KeptIs (now (forms .entry)) (now (forms .exit)) (now (actions .entry)) (now (actions .exit)) f n next (f + 1) 1 (acted kind (now (numbers .entry)) ∷ []) r ⌝ }
+{
+    if actions.len() <= n {
+        return Got::At(next, true, f, n);
+    }
+    let at = 5 * f;
+    forms[at] = kind;
+    forms[at + 1] = numbers[0];
+    forms[at + 2] = numbers[1];
+    forms[at + 3] = numbers[2];
+    forms[at + 4] = numbers[3];
+    actions[n] = f as u32;
+    Got::At(next, false, f + 1, n + 1)
+}
