@@ -1,10 +1,8 @@
 #!/bin/sh
-# Makes the cases of sessions, of the once-only cells, of the shaker and of the
-# tools moments, nudge and bus anew from the model and compares them with the ones
-# kept in crates/session_cases, crates/once_cases, crates/shake_cases,
-# crates/moments_cases, crates/nudge_cases and crates/bus_cases, and likewise what
-# crates/cells_cases, crates/shake and crates/shaken_session print and the pairs in
-# examples/c.
+# Makes the cases of the tools on sessions and of the once-only cells anew from the
+# model and compares them with the ones kept in crates/tool_cases and
+# crates/once_cases, and likewise what crates/cells_cases and crates/shake print and
+# the pairs in examples/c.
 # Ends with 1, naming the first difference, if data, args, a stdin, a stdout or
 # the pairs differ.
 set -u
@@ -44,25 +42,16 @@ compare() {
     fi
 }
 
-compare make_cases.py session_cases
+compare make_tool_cases.py tool_cases
 compare make_once_cases.py once_cases
-compare make_shake_cases.py shake_cases
-compare make_moments_cases.py moments_cases
-compare make_nudge_cases.py nudge_cases
-compare make_bus_cases.py bus_cases
 
-# what the programs shake and shaken_session print for their stored arguments
-for crate in shake shaken_session; do
-    kept=$here/../crates/$crate
-    python3 -B "$here/shaker.py" $(cat "$kept/args") >"$all/shaken" || exit 1
-    if [ $crate = shaken_session ]; then
-        python3 -B "$here/session.py" <"$all/shaken" >"$all/played" && mv "$all/played" "$all/shaken" || exit 1
-    fi
-    if ! first=$(cmp "$all/shaken" "$kept/stdout" 2>&1); then
-        echo "check_cases: stdout of $crate differs: $first"
-        exit 1
-    fi
-done
+# what the program shake prints for its stored arguments
+kept=$here/../crates/shake
+python3 -B "$here/shaker.py" $(cat "$kept/args") >"$all/shaken" || exit 1
+if ! first=$(cmp "$all/shaken" "$kept/stdout" 2>&1); then
+    echo "check_cases: stdout of shake differs: $first"
+    exit 1
+fi
 
 # the pairs of counts that are asked from C
 kept=$here/../examples/c/pairs

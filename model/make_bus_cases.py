@@ -1,13 +1,9 @@
-#!/usr/bin/env python3
-"""Writes the cases of bus: arguments and sessions, their names and what the model
-prints.
+"""The cases of bus, which make_tool_cases.py writes.
 
-    make_bus_cases.py [FOLDER]     (FOLDER is ../crates/bus_cases if left out)
-
-The layout is make_cases.py's, but each file's first line has the six arguments,
-parted by one space; the rest is the session.  Everything is the same on every
-run.  The cases must come by each row of the table that an opening reaches, and by
-every rest of a total, rounded down and up.
+Each file's first line has the six arguments, parted by one space; the rest is the
+session.  Everything is the same on every run.  The cases must come by each row of
+the table that an opening reaches, and by every rest of a total, rounded down and
+up.
 """
 
 from collections import Counter
@@ -369,12 +365,6 @@ def make():
     return cases
 
 
-def main():
-    cases = make()
-    make_cases.main(cases, "bus_cases")
-    print("%d finished calls; %d calls of the tool refused" % (
-        sum(cases.paths.values()), sum(cases.refusals.values())))
-
-
-if __name__ == "__main__":
-    main()
+def say(cases):
+    return "%d finished calls; %d calls of the tool refused" % (
+        sum(cases.paths.values()), sum(cases.refusals.values()))

@@ -1,10 +1,7 @@
-#!/usr/bin/env python3
-"""Writes the session cases: files, their names and what the model prints.
+"""The session cases, and how the cases of any program are written.
 
-    make_cases.py [FOLDER]      (FOLDER is ../crates/session_cases if left out)
-
-FOLDER/data/NAME are the session files, FOLDER/args their names, one to a line,
-and FOLDER/stdout holds for each a line `# NAME` and then what the model prints.
+FOLDER/data/NAME are the files, FOLDER/args their names, one to a line, and
+FOLDER/stdout holds for each a line `# NAME` and then what the model prints.
 Where a program plays standard input first, that is FOLDER/stdin, and its answers
 stand first in FOLDER/stdout.
 Everything is the same on every run.  Where a name promises a refusal, a path
@@ -83,12 +80,15 @@ def make():
 
 def write(cases, folder):
     data = os.path.join(folder, "data")
-    os.makedirs(data, exist_ok=True)
-    for old in os.listdir(data):
-        if old not in cases.files:
-            os.remove(os.path.join(data, old))
+    for place, _, files in os.walk(data):
+        for old in files:
+            path = os.path.join(place, old)
+            if os.path.relpath(path, data) not in cases.files:
+                os.remove(path)
     for name, content in cases.files.items():
-        with open(os.path.join(data, name), "wb") as file:
+        path = os.path.join(data, name)
+        os.makedirs(os.path.dirname(path), exist_ok=True)
+        with open(path, "wb") as file:
             file.write(content)
     with open(os.path.join(folder, "args"), "w") as file:
         file.writelines(name + "\n" for name in cases.files)
@@ -109,7 +109,3 @@ def main(cases, crate):
     print("%d cases, %d bytes of sessions, %d bytes printed" % (
         len(cases.files), sum(map(len, cases.files.values())),
         sum(map(len, cases.prints.values()))))
-
-
-if __name__ == "__main__":
-    main(make(), "session_cases")

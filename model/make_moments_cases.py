@@ -1,11 +1,8 @@
-#!/usr/bin/env python3
-"""Writes the cases of moments: sessions, their names and what the model prints.
+"""The cases of moments, which make_tool_cases.py writes.
 
-    make_moments_cases.py [FOLDER] (FOLDER is ../crates/moments_cases if left out)
-
-The layout is make_cases.py's; each file is a session.  Everything is the same on
-every run.  The cases must come by every rule with each of its moments, and by
-every way in which a call is left unfinished, listed or not.
+Each file is a session.  Everything is the same on every run.  The cases must come
+by every rule with each of its moments, and by every way in which a call is left
+unfinished, listed or not.
 """
 
 from collections import Counter
@@ -163,13 +160,7 @@ def make():
     return cases
 
 
-def main():
-    cases = make()
-    make_cases.main(cases, "moments_cases")
-    print("%d calls listed, %d left out" % (cases.listed, sum(
+def say(cases):
+    return "%d calls listed, %d left out" % (cases.listed, sum(
         count for kind, count in cases.seen.items()
-        if kind.startswith("not listed"))))
-
-
-if __name__ == "__main__":
-    main()
+        if kind.startswith("not listed")))

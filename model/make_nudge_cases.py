@@ -1,13 +1,8 @@
-#!/usr/bin/env python3
-"""Writes the cases of nudge: arguments and sessions, their names and what the
-model prints.
+"""The cases of nudge, which make_tool_cases.py writes.
 
-    make_nudge_cases.py [FOLDER]   (FOLDER is ../crates/nudge_cases if left out)
-
-The layout is make_cases.py's, but each file's first line has the two arguments,
-parted by one space; the rest is the session.  Everything is the same on every
-run.  The cases must come by each thing that may become of a call, at each place
-of the exchange.
+Each file's first line has the two arguments, parted by one space; the rest is the
+session.  Everything is the same on every run.  The cases must come by each thing
+that may become of a call, at each place of the exchange.
 """
 
 from collections import Counter
@@ -477,15 +472,9 @@ def make():
     return cases
 
 
-def main():
-    cases = make()
-    make_cases.main(cases, "nudge_cases")
-    print("%d calls named, %d refused; %s" % (
+def say(cases):
+    return "%d calls named, %d refused; %s" % (
         len(cases.files), sum(cases.refusals.values()),
         ", ".join("%d %s" % (count, kind) for kind, count
                   in sorted(cases.seen.items()) if "exchanged" not in kind
-                  and "neighbour" not in kind)))
-
-
-if __name__ == "__main__":
-    main()
+                  and "neighbour" not in kind))

@@ -1,14 +1,11 @@
-#!/usr/bin/env python3
-"""Writes the cases of the shaker: inputs, their names and what the model prints.
+"""The cases of the shaker, which make_tool_cases.py writes.
 
-    make_shake_cases.py [FOLDER]   (FOLDER is ../crates/shake_cases if left out)
-
-The layout is make_cases.py's.  Each line of an input is `(shake SEED N V B
-LENGTH)`, and what is printed for the input is what shake prints for each line,
-one after the other.  Everything is the same on every run.  Each drawn session is
-checked to be one that the reader takes with just its actions, none of them
-refused when run.
+Each file is a line of the five arguments, parted by one space.  Everything is the
+same on every run.  Each drawn session is checked to be one that the reader takes
+with just its actions, none of them refused when run.
 """
+
+from collections import Counter
 
 import cells
 import draw
@@ -16,6 +13,7 @@ import make_cases
 import reader
 import session
 import shaker
+import tools
 
 MOST = reader.MOST_NUMBER
 
@@ -25,25 +23,24 @@ MOST_PRINTED = 400000
 
 class Cases(make_cases.Cases):
     def __init__(self):
-        super().__init__(shaker)
+        super().__init__(tools.Stored(shaker))
         self.seen = session.Trace()  # of the drawn sessions' runs
         self.sets = []
         self.refused_sets = 0
 
     def shakes(self, name, sets, *refusals):
-        """An input of these sets; with refusals, all of them are refused, by
-        these numbers, else none is."""
-        trace = self.add(name, ["(shake %d %d %d %d %d)" % five
-                                for five in sets])
-        self.sets += trace.sets
-        self.refused_sets += sum(trace.refusals.values())
-        if refusals:
-            assert set(trace.refusals) == set(refusals), (name, trace.refusals)
-            assert sum(trace.refusals.values()) == len(sets), name
-            return
-        assert not trace.refusals, (name, trace.refusals)
-        for five in sets:
-            runs_unrefused(five, self.seen)
+        """A case of each of these sets; with refusals, all of them are refused,
+        by these numbers, else none is."""
+        given = Counter()
+        for number, five in enumerate(sets):
+            case = "%s_%d" % (name, number)
+            given += self.add(case, ["%d %d %d %d %d" % five]).refusals
+            if not refusals:
+                runs_unrefused(five, self.seen)
+        self.sets += sets
+        self.refused_sets += sum(given.values())
+        assert set(given) == set(refusals), (name, given)
+        assert sum(given.values()) == (len(sets) if refusals else 0), name
 
 
 def runs_unrefused(five, seen):
@@ -127,11 +124,10 @@ def limit_cases(cases):
     cases.shakes("length_1", [(seed, 32, 16, 79, 1) for seed in range(20)])
     cases.shakes("lengths_of_one_task", [(18, 1, 1, 3, length)
                                          for length in (1, 2, 3, 4, 5, 12)])
-    for number, five in enumerate((
-            (0, 32, 16, 79, 3000), (1, 2, 1, 4, 3000), (MOST, 1, 1, 2, 3000),
-            (2024, 32, 16, 128, 3000), (31337, 32, 1, 64, 2999),
-            (65536, 5, 3, 12, 3000))):
-        cases.shakes("longest_%d" % number, [five])
+    cases.shakes("longest", [
+        (0, 32, 16, 79, 3000), (1, 2, 1, 4, 3000), (MOST, 1, 1, 2, 3000),
+        (2024, 32, 16, 128, 3000), (31337, 32, 1, 64, 2999),
+        (65536, 5, 3, 12, 3000)])
 
 
 def drawn_cases(cases):
@@ -160,13 +156,7 @@ def make():
     return cases
 
 
-def main():
-    cases = make()
-    make_cases.main(cases, "shake_cases")
-    print("%d sets of five numbers, %d of them refused; %d finished calls"
-          % (len(cases.sets), cases.refused_sets,
-             sum(cases.seen.paths.values())))
-
-
-if __name__ == "__main__":
-    main()
+def say(cases):
+    return ("%d sets of five numbers, %d of them refused; %d finished calls"
+            % (len(cases.sets), cases.refused_sets,
+               sum(cases.seen.paths.values())))

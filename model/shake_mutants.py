@@ -14,6 +14,7 @@ import make_shake_cases
 import mutants
 import shake_selftest
 import shaker
+import tools
 
 NEXT = "self.state = (1664525 * self.state + 1013904223) % 2 ** 32"
 YIELD = "return self.state // 65536"
@@ -253,7 +254,8 @@ def main():
     answers = {name: shaker.shake_arguments(words)
                for name, words in lists.items()}
     return mutants.report(
-        [(what, mutants.tellers(misread(*edit).run, inputs, cases.prints))
+        [(what, mutants.tellers(tools.Stored(misread(*edit)).run, inputs,
+                                cases.prints))
          for what, *edit in MISREADINGS]
         + [(what, mutants.tellers(misread(*edit).shake_arguments, lists,
                                   answers))

@@ -16,6 +16,7 @@ import draw
 import reader
 import session
 import shaker
+import tools
 
 MOST = reader.MOST_NUMBER
 
@@ -203,8 +204,7 @@ def arguments():
     for words, wanted in GOOD_ARGUMENTS:
         found = shaker.shake_arguments(words.split(b" "))
         check("arguments %r" % words, found[:len(wanted)], wanted)
-        check("a line of the cases", shaker.run(b"(shake %s)\n" % words),
-              found)
+        check("a stored case", tools.Stored(shaker).run(words + b"\n"), found)
     count = 0
     for words in bad_arguments():
         check("arguments %r" % (words,), shaker.shake_arguments(words),

@@ -6,14 +6,9 @@
 prints what `shake SEED N V B LENGTH` prints.  Written from document 02 (CR 6),
 document 01's questions and sessions, and the design page on arguments, alone.
 Sentences of CR 6 are quoted in the comments where they decide something.
-
-run(data) is what the program shake_cases prints: each line of the input is
-`(shake SEED N V B LENGTH)`, and the output is for each line what shake prints
-for these numbers, one after the other.
 """
 
 import os
-import re
 import sys
 from collections import Counter
 
@@ -122,35 +117,21 @@ def shake_arguments(arguments):
 # ------------------------------------------------------ the stored cases
 
 class Trace:
-    """What an input came by, for coverage; no part of the printed text."""
+    """What a case came by, for coverage; no part of the printed text."""
 
     def __init__(self):
-        self.sets = []             # the five numbers of each line
         self.refusals = Counter()  # number -> how often
 
 
-NUMBER = rb"(0|[1-9][0-9]{0,9})"
-LINE = re.compile(rb"\(shake %s %s %s %s %s\)" % ((NUMBER,) * 5))
-
-
-def run(data, trace=None):
-    """What shake_cases prints for an input's bytes; every line must be of the
-    form."""
-    trace = trace or Trace()
-    *lines, rest = data.split(b"\n")
+def run_args(arguments, rest=b"", trace=None):
+    """What is printed for a stored case: its first line has the arguments, and
+    nothing follows."""
     if rest:
-        raise ValueError("a last line without its end: %r" % rest)
-    out = []
-    for line in lines:
-        match = LINE.fullmatch(line)
-        if match is None:
-            raise ValueError("no line of shake_cases: %r" % line)
-        text = shake_arguments(match.groups())
-        if text.startswith(b"(bad "):
-            trace.refusals[int(text[5:-2])] += 1
-        trace.sets.append(tuple(map(int, match.groups())))
-        out.append(text)
-    return b"".join(out)
+        raise ValueError("more than the arguments: %r" % rest)
+    text = shake_arguments(arguments)
+    if trace and text.startswith(b"(bad "):
+        trace.refusals[int(text[5:-2])] += 1
+    return text
 
 
 def main():
