@@ -3,13 +3,13 @@ ghost use mathlib.Core.Path.{_≡_};
 ghost use Rattle.cells.specs.Answers.{said};
 ghost use Rattle.cells.specs.Open.{leaving};
 ghost use Rattle.cells.specs.Begin.{begun, readBegun, swapBegun};
-use begin_refusals::begin_refusal;
 use cells::Outcome;
 use cells::Reply;
 use fitness::is_fit;
 use lines::Record;
 use lines::records;
 use questions::State;
+use refusals::begin_refusal;
 
 // The task's call begins with the record q.
 fn begin(mut s: State, pool: &[u32], task: u32, q: Record) -> Reply

@@ -1,6 +1,5 @@
 // One action, in place: the tasks' records stand as words, twelve for each, and with the other parts of the state they are lent. For the
 // session runner, and for the tools that run the same actions. Of a fit state, so question 6 is not asked: what an opening left stays fit.
-use begin_refusals::begin_refusal;
 use blocks::Found;
 use blocks::is_found;
 use blocks::unused_block;
@@ -11,6 +10,7 @@ use lines::records::first_read;
 use lines::records::first_swap;
 use pool::words::put;
 use pool::words::record_of;
+use refusals::begin_refusal;
 use turns::counts::recount;
 use turns::make_move;
 ghost use mathlib.Core.Path.{_≡_};

@@ -9,7 +9,7 @@ use cells::Reply;
 use fitness::is_fit;
 use lines::records;
 use questions::State;
-use step_refusals::step_refusal;
+use refusals::step_refusal;
 use turns::counts::recount;
 use turns::take_turn;
 

@@ -5,8 +5,8 @@ use mathlib.Core.Option.{none, some, Option·getD}
 use Prim.Native.Nat.{ℕ}
 use lib.Dec.{eqb}
 use borrow.Author.Tests.{not-true, not-false, lt-ltb, le-ltb, eq-eqb, ne-eqb}
-use Rattle.step_refusals.proofs.step_refusal.Statement.{statement}
-use Rattle.step_refusals.proofs.step_refusal.Tie as tie
+use Rattle.refusals.proofs.step_refusal.Statement.{statement}
+use Rattle.refusals.proofs.step_refusal.Tie as tie
 
 returns : tie.Need-returns
 returns c = rw (not-true (c .before .args .fits) (c .if1 .taken))

@@ -1,7 +1,7 @@
 -- Each return by the tests that led to it.
 use borrow.Author.Tests.{not-true, not-false, lt-ltb, le-ltb, eq-eqb, ne-eqb}
-use Rattle.begin_refusals.proofs.begin_refusal.Statement.{statement}
-use Rattle.begin_refusals.proofs.begin_refusal.Tie as tie
+use Rattle.refusals.proofs.begin_refusal.Statement.{statement}
+use Rattle.refusals.proofs.begin_refusal.Tie as tie
 
 returns : tie.Need-returns
 returns c = rw (not-true (c .before .args .fits) (c .if1 .taken))
