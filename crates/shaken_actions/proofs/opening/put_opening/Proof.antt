@@ -5,10 +5,10 @@ use native.Mathlib.Omega.{arith}
 use lib.ListN.{length}
 use Rattle.text.specs.Lines.{numbers}
 use Rattle.text.proofs.Appending.{then}
-use Rattle.shaker.proofs.Starting.{part-zeros, part-length, zeros-length, three-length, opens}
+use Rattle.shaken_actions.proofs.Zeros.{part-zeros, part-length, zeros-length, three-length, opens}
 use borrow.Author.Needs.{needs}
-use Rattle.shaker.proofs.put_opening.Statement.{statement}
-use Rattle.shaker.proofs.put_opening.Tie as tie
+use Rattle.shaken_actions.proofs.opening.put_opening.Statement.{statement}
+use Rattle.shaken_actions.proofs.opening.put_opening.Tie as tie
 
 put-numbers-requires : tie.Need-put-numbers-requires
 put-numbers-requires c κs =
