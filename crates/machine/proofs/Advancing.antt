@@ -25,8 +25,8 @@ use Rattle.cells.specs.Counts.{recounted, Countable}
 use Rattle.cells.specs.Step.{putBack, stepped}
 use Rattle.cells.specs.Turn.{Turned, turn, Ready}
 use Rattle.cells.proofs.Stepping.{Free, Acting, same-20, own-acting}
-use Rattle.machine.specs.Places.{stateOf, renames}
-use Rattle.machine.proofs.Placing.{records-length}
+use Rattle.places.specs.Places.{stateOf, renames}
+use Rattle.places.proofs.Placing.{records-length}
 use Rattle.machine.proofs.Quiet.{quiet}
 
 module _ (n v b l : ℕ) (c w k p : List ℕ) (fits : fit (stateOf n v b l c w k) p ≡ true) where

@@ -1,6 +1,4 @@
 // The calls that actions end, and those that are pending after the last.
-use crate::notes::own_notes;
-use crate::notes::see;
 use cells::Action;
 use cells::Outcome;
 use lines::Answer;
@@ -8,6 +6,8 @@ use lines::Record;
 use moments_notes::Own;
 use moments_notes::Sight;
 use moments_notes::Standing;
+use moments_notes::notes::own_notes;
+use moments_notes::notes::see;
 use moments_spots::ending;
 use moments_spots::stands;
 use moments_words::enter;

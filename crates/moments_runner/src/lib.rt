@@ -5,8 +5,8 @@ use buffers::pool_space;
 use buffers::value_space;
 use moments_play::play;
 use questions::State;
-use session_start::Opening;
 use session_start::open_session;
+use starts::Opening;
 use text::numbered::put_bad;
 ghost use mathlib.Core.Path.{_≡_};
 ghost use mathlib.Core.List.{_++_};
@@ -14,7 +14,7 @@ ghost use Prim.Native.Nat.{_≤_};
 ghost use lib.ListN.{length, drop};
 ghost use Rattle.io.specs.Counts.{Counts};
 ghost use Rattle.text.specs.Append.{Appended};
-ghost use Rattle.session_start.specs.Start.{startAt, toolStart, Ready};
+ghost use Rattle.starts.specs.Start.{startAt, toolStart, Ready};
 ghost use Rattle.moments_text.specs.Printed.{momentsText, momentsWithin};
 
 // What follows from the opening. What is left in the pool is open: it is the session's own.

@@ -7,8 +7,8 @@ use buffers::value_space;
 use questions::State;
 use session_play::play;
 use session_play::printing;
-use session_start::Opening;
 use session_start::open_session;
+use starts::Opening;
 use text::numbered::put_bad;
 ghost use mathlib.Core.Path.{_≡_};
 ghost use mathlib.Core.List.{_++_};
@@ -16,7 +16,7 @@ ghost use Prim.Native.Nat.{_≤_};
 ghost use lib.ListN.{length, drop};
 ghost use Rattle.io.specs.Counts.{Counts};
 ghost use Rattle.text.specs.Append.{Appended};
-ghost use Rattle.session_start.specs.Start.{startAt, Ready};
+ghost use Rattle.starts.specs.Start.{startAt, Ready};
 ghost use Rattle.session_text.specs.Printed.{printedWithin};
 ghost use Rattle.session_play.specs.Loop.{startText};
 

@@ -5,7 +5,7 @@ use native.Mathlib.Omega.{arith}
 use Prim.Native.Nat.{_+_, _-_, _*_, _<_}
 use lib.ListN.{length, take, drop}
 use Rattle.blocks.specs.Blocks.{foundOf}
-use Rattle.machine.proofs.Placing.{place-read, place-length, place-back}
+use Rattle.places.proofs.Placing.{place-read, place-length, place-back}
 use Rattle.machine.proofs.Advancing.{few-tasks, step-nowhere, step-idle, step-cell, step-lacking, step-needs, step-done}
 use Rattle.machine.proofs.advance.step.Statement.{statement}
 use Rattle.machine.proofs.advance.step.Tie as tie
