@@ -94,12 +94,11 @@ pub fn run_bus(
     let mut kept = action_space();
     let mut pool = pool_space();
     let begun = open_session(file, &mut values, &mut forms, &mut kept, &mut pool);
-    let first = begun.state;
     let opening = begun.opening;
     print(
         out,
         Ranges { low, high },
-        first,
+        begun.state,
         opening,
         &mut pool,
         &forms,

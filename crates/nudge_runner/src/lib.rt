@@ -73,7 +73,6 @@ pub fn run_nudge(file: &[u8], task: u32, n: u32, out: &mut [u8]) -> usize
     let mut kept = action_space();
     let mut pool = pool_space();
     let begun = open_session(file, &mut values, &mut forms, &mut kept, &mut pool);
-    let first = begun.state;
     let opening = begun.opening;
-    print(out, first, opening, &mut pool, &forms, &kept, task, n)
+    print(out, begun.state, opening, &mut pool, &forms, &kept, task, n)
 }

@@ -66,8 +66,7 @@ fn put_session(
 {
     let at = put_opening(out, tasks, cells, blocks);
     let first = entries::open(blank(), pool, tasks, cells, blocks, values);
-    let s = first.state;
-    shaken_actions::put_actions(out, at, s, pool, seed, tasks, cells, count)
+    shaken_actions::put_actions(out, at, first.state, pool, seed, tasks, cells, count)
 }
 
 fn pool_space() -> [u32; 640]
