@@ -1,10 +1,9 @@
 // One action, in place: the tasks' records stand as words, twelve for each, and with the other parts of the state they are lent. For the
 // session runner, and for the tools that run the same actions. Of a fit state, so question 6 is not asked: what an opening left stays fit.
-use blocks::Found;
 use blocks::is_found;
-use blocks::unused_block;
 use cells::Action;
 use cells::Outcome;
+use free_block::free_block;
 use lines::Record;
 use lines::records::first_read;
 use lines::records::first_swap;
@@ -77,12 +76,7 @@ fn step(
     }
     let k = r.cell as usize;
     let c = current[k];
-    // Only line 4 asks for a block.
-    let free = if r.line == 4 {
-        unused_block(counts, blocks, last)
-    } else {
-        Found::Nowhere
-    };
+    let free = free_block(counts, blocks, last, r.line);
     if (r.line == 4) & !is_found(free) {
         return refuse(last, 20);
     }
