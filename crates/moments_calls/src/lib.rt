@@ -1,2 +1,2 @@
-// The words of the calls that end as the actions go on, and of those that are pending after the last.
+// The words of the swaps that are pending after the last action.
 pub mod calls;

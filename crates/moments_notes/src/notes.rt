@@ -1,6 +1,8 @@
 // What is noted beside the cells at each step, of the block that a task holds.
 use crate::Own;
 use crate::Sight;
+use cells::Action;
+use cells::Outcome;
 use counting::is_holding;
 use lines::Record;
 use lines::records::NO_VALUE;
@@ -11,8 +13,10 @@ ghost use Prim.Native.Nat.{ℕ, _+_, _≤_, _<_};
 ghost use lib.Dec.{eqb};
 ghost use lib.ListN.{getD, length};
 ghost use Rattle.lines.specs.Record.{idle, recordAt};
+ghost use Rattle.cells.specs.Answers.{said, actOf};
 ghost use Rattle.figure.specs.Moments.{noted};
 ghost use Rattle.pool.specs.Words.{recordsOf};
+ghost use Rattle.moments_notes.specs.Loop.{lineIf, notedLine, spreads as «spreadsOf»};
 ghost use Rattle.moments_notes.specs.Notes.{slot as «slotOf», seen, holdsWith, sightOf, notesOf, ownOf, Sized};
 
 // A word of the pool, 0 beyond it.
@@ -159,4 +163,31 @@ pub fn own_notes(
         decided: decided[t],
         replaced: replaced[t],
     }
+}
+
+fn line_if(outcome: Outcome, line: u32) -> u32
+    ensures { λ n. ⌜ n ≡ lineIf (said outcome) line ⌝ }
+{
+    match outcome {
+        Outcome::Refused(_) => 0,
+        Outcome::Acted => line,
+        Outcome::Ended(_) => line,
+    }
+}
+
+// The line of a step that is done, else 0.
+pub fn noted_line(a: Action, outcome: Outcome, line: u32) -> u32
+    ensures { λ n. ⌜ n ≡ notedLine (actOf a) (said outcome) line ⌝ }
+{
+    match a {
+        Action::Read(_, _) => 0,
+        Action::Swap(_, _, _, _) => 0,
+        Action::Step(_) => line_if(outcome, line),
+    }
+}
+
+pub fn spreads(line: u32, x: Sight) -> bool
+    ensures { λ b. ⌜ b ≡ «spreadsOf» line x ⌝ }
+{
+    ((line == 2) & x.undecided) | (((line == 27) & x.active) | ((line == 30) & x.current))
 }

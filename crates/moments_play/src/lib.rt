@@ -1,15 +1,17 @@
 // The actions in their order, the words of the calls that they end, and those of the pending swaps after the last.
+mod ended;
+
+use crate::ended::end_call;
 use buffers::record_space;
 use machine::advance::advance;
 use moments_calls::calls::close;
-use moments_calls::calls::end_call;
-use moments_calls::calls::noted_line;
-use moments_calls::calls::spreads;
 use moments_notes::notes::holders;
 use moments_notes::notes::note;
+use moments_notes::notes::noted_line;
 use moments_notes::notes::own_notes;
 use moments_notes::notes::see_cell;
 use moments_notes::notes::slot;
+use moments_notes::notes::spreads;
 use moments_words::put_marks;
 use places::actions::action_at;
 use places::actions::task_of;

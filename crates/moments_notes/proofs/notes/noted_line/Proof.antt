@@ -1,6 +1,6 @@
 use borrow.Author.Needs.{needs}
-use Rattle.moments_calls.proofs.calls.noted_line.Statement.{statement}
-use Rattle.moments_calls.proofs.calls.noted_line.Tie as tie
+use Rattle.moments_notes.proofs.notes.noted_line.Statement.{statement}
+use Rattle.moments_notes.proofs.notes.noted_line.Tie as tie
 
 enum-told : tie.Need-enum-told
 enum-told c = search needs

@@ -1,8 +1,8 @@
 use borrow.Author.Needs.{needs}
 use native.Mathlib.Omega.{arith}
 use mathlib.Core.Path.{refl}
-use Rattle.moments_calls.proofs.calls.end_call.Statement.{statement}
-use Rattle.moments_calls.proofs.calls.end_call.Tie as tie
+use Rattle.moments_play.proofs.ended.end_call.Statement.{statement}
+use Rattle.moments_play.proofs.ended.end_call.Tie as tie
 
 enum-told : tie.Need-enum-told
 enum-told c = search needs

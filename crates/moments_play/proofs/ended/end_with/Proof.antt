@@ -4,8 +4,8 @@ use Rattle.lines.specs.Answers.{answerOf}
 use Rattle.lines.specs.Record.{opOf}
 use Rattle.moments_notes.specs.Loop.{endingSpot}
 use Rattle.moments_notes.proofs.Ruling.{numbered-small, entered, moment-fits}
-use Rattle.moments_calls.proofs.calls.end_with.Statement.{statement}
-use Rattle.moments_calls.proofs.calls.end_with.Tie as tie
+use Rattle.moments_play.proofs.ended.end_with.Statement.{statement}
+use Rattle.moments_play.proofs.ended.end_with.Tie as tie
 
 ending-requires : tie.Need-ending-requires
 ending-requires c κs = search needs
