@@ -23,7 +23,7 @@ use Rattle.cells.specs.Machine.{does, triedBy, pool}
 use Rattle.cells.proofs.Acts.{read-acts, swap-acts, step-acts}
 use Rattle.history.specs.History.{read, swap, Action, begin, step, taskOf, Attempt, Report, Event, history}
 use Rattle.history.proofs.Basics.{either}
-use Rattle.machine.proofs.Listed.{action-then, no-action as no-more}
+use Rattle.places.proofs.Listed.{action-then, no-action as no-more}
 use Rattle.bus_text.specs.Bus.{Times, short, finishedCalls, finishedBy, timed, timedFrom, Sums, noSums, addCall, addCalls, busCalls, callLine, callLines, allLine, callsText}
 use Rattle.bus_text.proofs.Fits.{Within, sums-after}
 use Rattle.bus_play.specs.Loop.{addedText, addedSums, addedCalls, addedCounts, Ends, Numbered, busOn}

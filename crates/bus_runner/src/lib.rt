@@ -6,51 +6,20 @@ use buffers::record_space;
 use buffers::value_space;
 use bus_calls::times::Kinds;
 use bus_calls::times::Ranges;
-use bus_calls::times::refusal;
-use bus_play::play::play;
+use bus_play::start::start;
 use numbered::put_bad;
 use questions::State;
-use session_start::Opening;
 use session_start::open_session;
+use starts::Opening;
 ghost use mathlib.Core.Path.{_≡_};
-ghost use mathlib.Core.List.{_++_, map};
+ghost use mathlib.Core.List.{_++_};
 ghost use Prim.Native.Nat.{_≤_};
-ghost use lib.ListN.{length, drop, replicate};
+ghost use lib.ListN.{length, drop};
 ghost use Rattle.io.specs.Counts.{Counts};
-ghost use Rattle.lines.specs.Record.{idle};
 ghost use Rattle.text.specs.Append.{Appended};
-ghost use Rattle.refinement.specs.Reached.{Reached};
-ghost use Rattle.session_reading.specs.Reading.{actAt};
-ghost use Rattle.session_reading.specs.Kept.{Named};
-ghost use Rattle.session_start.specs.Start.{toolStart, startAt, Ready};
+ghost use Rattle.starts.specs.Start.{toolStart, startAt, Ready};
 ghost use Rattle.bus_text.specs.Bus.{times as «timesFrom», busText, busWithin};
 ghost use Rattle.bus_calls.specs.Structs.{timesOf};
-
-// 21 and 22, then the actions. What is left in the pool is open: it is the session's own.
-fn start(
-    out: &mut [u8],
-    w: Ranges,
-    records: &mut [u32],
-    tasks: u32,
-    cells: u32,
-    first: State,
-    pool: &mut [u32],
-    forms: &[u32],
-    kept: &[u32],
-) -> usize
-    requires { ⌜ Reached tasks cells first (now pool) ⌝ }
-    requires { ⌜ (now records ≡ replicate 384 0) × (first .records ≡ replicate 32 idle) ⌝ }
-    requires { ⌜ length (now kept) ≤ 65535 ⌝ }
-    requires { ⌜ Named (length (now forms)) (now kept) ⌝ }
-    requires { ⌜ 2400000 ≤ length (now out) ⌝ }
-    ensures { λ r. ⌜ Appended (now (out .entry)) (now (out .exit)) 0 r (busText (timesOf w) tasks (first, now (pool .entry)) (map (actAt (now (forms .entry))) (now (kept .entry)))) ⌝ }
-{
-    let n = refusal(w);
-    if n != 0 {
-        return put_bad(out, 0, n);
-    }
-    play(out, w, records, tasks, cells, first, pool, forms, kept)
-}
 
 // What follows from the opening, on records of its own.
 fn print(
@@ -125,12 +94,11 @@ pub fn run_bus(
     let mut kept = action_space();
     let mut pool = pool_space();
     let begun = open_session(file, &mut values, &mut forms, &mut kept, &mut pool);
-    let first = begun.state;
     let opening = begun.opening;
     print(
         out,
         Ranges { low, high },
-        first,
+        begun.state,
         opening,
         &mut pool,
         &forms,

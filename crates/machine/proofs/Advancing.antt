@@ -1,7 +1,8 @@
 -- One action in place is the action: begins and steps of a fit state whose parts are lent one by one.
 use mathlib.Core.Path.{_≡_, refl, sym, ap, subst, _∙_}
-use mathlib.Core.Bool.{Bool, true, false, _&&_, _||_, not}
-use mathlib.Core.Option.{Option, Option·getD}
+use mathlib.Core.Logic.{_⊎_, inl, inr}
+use mathlib.Core.Bool.{Bool, true, false, _&&_, _||_, not, cond, false≢true}
+use mathlib.Core.Option.{Option, none, Option·getD}
 use mathlib.Core.List.{List, _∷_}
 use Prim.Native.Nat.{ℕ, _≤_, _<_}
 use lib.Dec.{eqb}
@@ -25,9 +26,17 @@ use Rattle.cells.specs.Counts.{recounted, Countable}
 use Rattle.cells.specs.Step.{putBack, stepped}
 use Rattle.cells.specs.Turn.{Turned, turn, Ready}
 use Rattle.cells.proofs.Stepping.{Free, Acting, same-20, own-acting}
-use Rattle.machine.specs.Places.{stateOf, renames}
-use Rattle.machine.proofs.Placing.{records-length}
+use Rattle.places.specs.Places.{stateOf, renames}
+use Rattle.places.proofs.Placing.{records-length}
 use Rattle.machine.proofs.Quiet.{quiet}
+
+-- what line 4 alone is handed
+pub handed : {f g : Option ℕ} {line : ℕ} → f ≡ cond (eqb line 4) g none → (f ≡ g) ⊎ ((line ≡ 4 → ⊥) × (f ≡ none))
+handed {f} {g} {line} e = go (eqb line 4) refl
+  where
+    go : (b : Bool) → eqb line 4 ≡ b → (f ≡ g) ⊎ ((line ≡ 4 → ⊥) × (f ≡ none))
+    go true h = inl (e ∙ ap (λ (b : Bool). cond b g none) h)
+    go false h = inr (λ z. false≢true (sym (rw z at h)), e ∙ ap (λ (b : Bool). cond b g none) h)
 
 module _ (n v b l : ℕ) (c w k p : List ℕ) (fits : fit (stateOf n v b l c w k) p ≡ true) where
   abbrev s : State

@@ -21,7 +21,7 @@ use Rattle.questions.proofs.Numbers.{number, at-number}
 use Rattle.cells.specs.Counts.{released, renamed, recounted, Countable}
 use Rattle.cells.specs.Turn.{ending, turn}
 use Rattle.cells.proofs.Countable.{recounted-same}
-use Rattle.machine.specs.Places.{renames}
+use Rattle.places.specs.Places.{renames}
 
 -- a record at line n holds a block; it has taken one
 abbrev holdsAt : ℕ → Bool

@@ -1,20 +1,19 @@
 // One action, in place: the tasks' records stand as words, twelve for each, and with the other parts of the state they are lent. For the
 // session runner, and for the tools that run the same actions. Of a fit state, so question 6 is not asked: what an opening left stays fit.
-use blocks::Found;
 use blocks::is_found;
-use blocks::unused_block;
 use cells::Action;
 use cells::Outcome;
+use free_block::free_block;
 use lines::Record;
 use lines::records::first_read;
 use lines::records::first_swap;
+use places::Advanced;
+use places::moves::move_on;
 use pool::words::put;
 use pool::words::record_of;
 use refusals::begin_refusal;
-use turns::counts::recount;
-use turns::make_move;
 ghost use mathlib.Core.Path.{_≡_};
-ghost use mathlib.Core.Bool.{true, false};
+ghost use mathlib.Core.Bool.{true};
 ghost use mathlib.Core.List.{List};
 ghost use Prim.Native.Nat.{ℕ, _≤_};
 ghost use lib.ListN.{length};
@@ -22,20 +21,9 @@ ghost use Rattle.questions.specs.Questions.{fit};
 ghost use Rattle.cells.specs.Answers.{said, Refused, actOf};
 ghost use Rattle.cells.specs.Open.{leaving};
 ghost use Rattle.cells.specs.Begin.{begun};
-ghost use Rattle.cells.specs.Counts.{recounted, Countable};
 ghost use Rattle.cells.specs.Machine.{does};
 ghost use Rattle.cells.specs.Step.{stepped};
-ghost use Rattle.cells.specs.Turn.{Turned, turned, turn, Ready};
-ghost use Rattle.pool.specs.Memory.{There};
-ghost use Rattle.pool.specs.Words.{recordOf};
-ghost use Rattle.blocks.specs.Blocks.{foundOf};
-ghost use Rattle.machine.specs.Places.{stateOf, renames};
-
-// What an action leaves besides what is lent.
-pub struct Advanced {
-    pub last: u32,
-    pub outcome: Outcome,
-}
+ghost use Rattle.places.specs.Places.{stateOf};
 
 pub fn advance(
     pool: &mut [u32],
@@ -88,12 +76,7 @@ fn step(
     }
     let k = r.cell as usize;
     let c = current[k];
-    // Only line 4 asks for a block.
-    let free = if r.line == 4 {
-        unused_block(counts, blocks, last)
-    } else {
-        Found::Nowhere
-    };
+    let free = free_block(counts, blocks, last, r.line);
     if (r.line == 4) & !is_found(free) {
         return refuse(last, 20);
     }
@@ -108,48 +91,6 @@ fn step(
         last,
         free,
     )
-}
-
-// A busy task's next line on its twelve words, whose record is r, its cell's block, which was c, and the counts after it.
-fn move_on(
-    pool: &mut [u32],
-    rec: &mut [u32],
-    block: &mut u32,
-    counts: &mut [u8; 128],
-    r: Record,
-    task: u32,
-    c: u32,
-    last: u32,
-    free: Found,
-) -> Advanced
-    requires { ⌜ (length (now rec) ≡ 12) × (r ≡ recordOf (now rec)) × Ready (length (now pool)) r × There (length (now pool)) (foundOf free) × ((u : Turned) → u ≡ turn (now pool) task r c last (foundOf free) → Countable (now counts) r (u .record) c (u .current) × (renames (r .line) (u .record .line) ≡ false → now counts ≡ recounted (now counts) r (u .record) c (u .current))) ⌝ }
-    ensures { λ n. ⌜ (turned (recordOf (now (rec .exit))) (now (block .exit)) (n .last) (now (pool .exit)) (said (n .outcome)) ≡ turn (now (pool .entry)) task r c last (foundOf free)) × (now (counts .exit) ≡ recounted (now (counts .entry)) r (recordOf (now (rec .exit))) c (now (block .exit))) ⌝ }
-{
-    let n = make_move(pool, rec, task, c, last, free);
-    *block = n.current;
-    let q = record_of(rec);
-    recount_changed(counts, r, q, c, n.current);
-    let outcome = n.outcome;
-    Advanced {
-        last: n.last,
-        outcome,
-    }
-}
-
-// Most lines change nothing that is counted.
-fn recount_changed(counts: &mut [u8; 128], r: Record, q: Record, c: u32, d: u32)
-    requires { ⌜ Countable (now counts) r q c d × (renames (r .line) (q .line) ≡ false → now counts ≡ recounted (now counts) r q c d) ⌝ }
-    ensures { λ _. ⌜ now (counts .exit) ≡ recounted (now (counts .entry)) r q c d ⌝ }
-{
-    if q.line == 0 {
-        recount(counts, r, q, c, d);
-        return;
-    }
-    let line = r.line;
-    match line {
-        4 | 10 | 15 => recount(counts, r, q, c, d),
-        _ => {}
-    }
 }
 
 fn refuse(last: u32, n: u32) -> Advanced

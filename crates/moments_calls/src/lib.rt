@@ -1,3 +1,2 @@
-// What is noted of the calls as the actions go on, and the words of those that end or are pending after the last.
+// The words of the swaps that are pending after the last action.
 pub mod calls;
-pub mod notes;

@@ -1,4 +1,5 @@
-// What moments notes of the calls, and the words that it keeps of them: types, definitions and laws.
+// What moments notes of the calls, and the words that it keeps of them: types, definitions and laws, and the notes as they are taken.
+pub mod notes;
 
 // What a task sees of the block that it holds, before its step.
 pub struct Sight {

@@ -1,20 +1,22 @@
 // The actions in their order, the words of the calls that they end, and those of the pending swaps after the last.
+mod ended;
+
+use crate::ended::end_call;
 use buffers::record_space;
-use machine::actions::action_at;
-use machine::actions::task_of;
 use machine::advance::advance;
-use machine::places::record_at;
-use machine::places::with_records;
 use moments_calls::calls::close;
-use moments_calls::calls::end_call;
-use moments_calls::calls::noted_line;
-use moments_calls::calls::spreads;
-use moments_calls::notes::holders;
-use moments_calls::notes::note;
-use moments_calls::notes::own_notes;
-use moments_calls::notes::see_cell;
-use moments_calls::notes::slot;
+use moments_notes::notes::holders;
+use moments_notes::notes::note;
+use moments_notes::notes::noted_line;
+use moments_notes::notes::own_notes;
+use moments_notes::notes::see_cell;
+use moments_notes::notes::slot;
+use moments_notes::notes::spreads;
 use moments_words::put_marks;
+use places::actions::action_at;
+use places::actions::task_of;
+use places::records::record_at;
+use places::records::with_records;
 use questions::State;
 ghost use mathlib.Core.Path.{_≡_};
 ghost use mathlib.Core.List.{map};

@@ -6,15 +6,15 @@ use buffers::value_space;
 use moments_play::play;
 use numbered::put_bad;
 use questions::State;
-use session_start::Opening;
 use session_start::open_session;
+use starts::Opening;
 ghost use mathlib.Core.Path.{_≡_};
 ghost use mathlib.Core.List.{_++_};
 ghost use Prim.Native.Nat.{_≤_};
 ghost use lib.ListN.{length, drop};
 ghost use Rattle.io.specs.Counts.{Counts};
 ghost use Rattle.text.specs.Append.{Appended};
-ghost use Rattle.session_start.specs.Start.{startAt, toolStart, Ready};
+ghost use Rattle.starts.specs.Start.{startAt, toolStart, Ready};
 ghost use Rattle.moments_text.specs.Printed.{momentsText, momentsWithin};
 
 // What follows from the opening. What is left in the pool is open: it is the session's own.
@@ -65,7 +65,6 @@ pub fn run_moments(file: &[u8], out: &mut [u8]) -> usize
     let mut kept = action_space();
     let mut pool = pool_space();
     let begun = open_session(file, &mut values, &mut forms, &mut kept, &mut pool);
-    let first = begun.state;
     let opening = begun.opening;
-    print(out, first, opening, &mut pool, &forms, &kept)
+    print(out, begun.state, opening, &mut pool, &forms, &kept)
 }

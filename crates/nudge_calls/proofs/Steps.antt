@@ -22,7 +22,7 @@ use Rattle.cells.specs.Machine.{Pool, does, triedBy, pool}
 use Rattle.history.specs.History.{Action, step, Attempt, untried, Response, Event, Calls, noCalls, enter, enterAll, history, run}
 use Rattle.history.proofs.Basics.{clash, history-append}
 use Rattle.linearizing.proofs.EveryAction.{run-snoc}
-use Rattle.machine.proofs.Listed.{action-then, no-action}
+use Rattle.places.proofs.Listed.{action-then, no-action}
 use Rattle.refinement.specs.Reached.{Reached}
 use Rattle.refinement.proofs.Reaching.{reached-fit}
 use Rattle.nudge_text.specs.Exchange.{exchanged, movedTo, answerAt}

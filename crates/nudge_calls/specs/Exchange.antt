@@ -13,7 +13,7 @@ use Rattle.lines.specs.Record.{recordAt}
 use Rattle.cells.specs.Machine.{Pool, pool}
 use Rattle.figure.specs.Exchange.{ifAccepted}
 use Rattle.history.specs.History.{Action, begin, step, taskOf, Response, history}
-use Rattle.machine.specs.Places.{stateOf}
+use Rattle.places.specs.Places.{stateOf}
 use Rattle.refinement.specs.Terms.{start}
 use Rattle.nudge_text.specs.Exchange.{exchanged, movedTo}
 use Rattle.nudge_text.specs.Nudge.{answersStill}

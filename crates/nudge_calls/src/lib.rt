@@ -1,3 +1,5 @@
-// The call that is to be nudged, and which actions touch the same cell.
+// The call that is to be nudged, which actions touch the same cell, one exchange of two, tried, and the line of a nudge.
 pub mod calls;
+pub mod printing;
 pub mod touching;
+pub mod trial;

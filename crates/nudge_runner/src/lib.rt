@@ -2,75 +2,21 @@
 use buffers::action_space;
 use buffers::form_space;
 use buffers::pool_space;
-use buffers::record_space;
 use buffers::value_space;
-use nudge_calls::calls::Nudge;
-use nudge_calls::calls::Sought;
-use nudge_calls::calls::find_call;
-use nudge_calls::calls::frame_of;
-use nudge_exchange::copied;
-use nudge_exchange::first_nudge;
+use nudge_exchange::answer;
 use numbered::put_bad;
-use numbered::put_line;
 use questions::State;
-use session_start::Opening;
 use session_start::open_session;
+use starts::Opening;
 ghost use mathlib.Core.Path.{_≡_};
-ghost use mathlib.Core.List.{_++_, map};
+ghost use mathlib.Core.List.{_++_};
 ghost use Prim.Native.Nat.{_≤_};
-ghost use lib.ListN.{length, drop, replicate};
+ghost use lib.ListN.{length, drop};
 ghost use Rattle.io.specs.Counts.{Counts};
-ghost use Rattle.lines.specs.Record.{idle};
-ghost use Rattle.cells.specs.Machine.{pool as «machine»};
-ghost use Rattle.history.specs.History.{history};
-ghost use Rattle.nudge_text.specs.Nudge.{nudgeLine, namedCall, asked18, nudgeText};
-ghost use Rattle.session_reading.specs.Kept.{Named};
-ghost use Rattle.session_reading.specs.Reading.{actAt};
-ghost use Rattle.session_start.specs.Start.{startAt, toolStart, Ready};
+ghost use Rattle.nudge_text.specs.Nudge.{nudgeText};
+ghost use Rattle.starts.specs.Start.{startAt, toolStart, Ready};
 ghost use Rattle.session_text.specs.Tools.{toolWithin};
 ghost use Rattle.text.specs.Append.{Appended};
-ghost use Rattle.nudge_calls.specs.Exchange.{Fresh, nudgeOf};
-
-fn put_nudge(out: &mut [u8], found: Nudge) -> usize
-    requires { ⌜ 67 ≤ length (now out) ⌝ }
-    ensures { λ r. ⌜ Appended (now (out .entry)) (now (out .exit)) 0 r (nudgeLine (nudgeOf found)) ⌝ }
-{
-    match found {
-        Nudge::Nowhere => text::put(out, 0, b"(nudge none)\n"),
-        Nudge::At(i) => put_line(out, 0, b"(nudge", &[i as u64]),
-    }
-}
-
-// The named call is sought on a copy of the pool. What is left in the pool is open: it is the tool's own.
-fn answer(
-    out: &mut [u8],
-    first: State,
-    pool: &mut [u32],
-    forms: &[u32],
-    kept: &[u32],
-    task: u32,
-    n: u32,
-) -> usize
-    requires { ⌜ Fresh first (now pool) ⌝ }
-    requires { ⌜ (first .records ≡ replicate 32 idle) × (length (now kept) ≤ 2000) ⌝ }
-    requires { ⌜ Named (length (now forms)) (now kept) ⌝ }
-    requires { ⌜ 67 ≤ length (now out) ⌝ }
-    ensures { λ r. ⌜ Appended (now (out .entry)) (now (out .exit)) 0 r (asked18 (first, now (pool .entry)) (map (actAt (now (forms .entry))) (now (kept .entry))) (namedCall task n (history «machine» (first, now (pool .entry)) (map (actAt (now (forms .entry))) (now (kept .entry)))))) ⌝ }
-{
-    let s = frame_of(first);
-    let words = pool.len();
-    let mut p = copied(pool);
-    let mut r = record_space();
-    let sought = find_call(&mut p[..words], &mut r, s, forms, kept, task, n);
-    let Sought::Found(call) = sought else {
-        return put_bad(out, 0, 18);
-    };
-    let mut records = record_space();
-    put_nudge(
-        out,
-        first_nudge(pool, &mut records, s, forms, kept, task, call),
-    )
-}
 
 // What follows from the opening.
 fn print(
@@ -127,7 +73,6 @@ pub fn run_nudge(file: &[u8], task: u32, n: u32, out: &mut [u8]) -> usize
     let mut kept = action_space();
     let mut pool = pool_space();
     let begun = open_session(file, &mut values, &mut forms, &mut kept, &mut pool);
-    let first = begun.state;
     let opening = begun.opening;
-    print(out, first, opening, &mut pool, &forms, &kept, task, n)
+    print(out, begun.state, opening, &mut pool, &forms, &kept, task, n)
 }

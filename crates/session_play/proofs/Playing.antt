@@ -13,9 +13,9 @@ use Rattle.cells.specs.Open.{After, leaving}
 use Rattle.history.specs.History.{Action, taskOf, Attempt, untried, history, run}
 use Rattle.cells.specs.Events.{eventOf}
 use Rattle.cells.specs.Machine.{does, triedBy, pool}
-use Rattle.machine.proofs.Listed.{action-then, no-action as no-more}
+use Rattle.places.proofs.Listed.{action-then, no-action as no-more}
 use Rattle.session_file.specs.Session.{Verdict, bad, session, verdict}
-use Rattle.session_start.specs.Start.{Start, startAfter, startOf}
+use Rattle.starts.specs.Start.{Start, startAfter, startOf}
 use Rattle.session_start.proofs.Starting.{opened-cases}
 use Rattle.session_text.specs.Lines.{eventLine}
 use Rattle.session_text.specs.Printed.{Totals, eventLines, addEvent, addEvents, endText, afterOpen, blank, poolWords, verdictText, printed, printedWithin}

@@ -4,7 +4,7 @@ use Prim.Native.Nat.{ℕ, _+_, _<_}
 use Rattle.history.specs.History.{Action, Event, refused, accepted, answered, history, run}
 use Rattle.cells.specs.Machine.{Pool, pool}
 use Rattle.text.specs.Lines.{badLine}
-use Rattle.session_start.specs.Start.{Start, noSession, notOpened, ready}
+use Rattle.starts.specs.Start.{Start, noSession, notOpened, ready}
 use Rattle.session_text.specs.Lines.{noLine}
 use Rattle.session_text.specs.Printed.{Totals, eventLines, addEvents, endText, played}
 

@@ -8,15 +8,15 @@ use numbered::put_bad;
 use questions::State;
 use session_play::play;
 use session_play::printing;
-use session_start::Opening;
 use session_start::open_session;
+use starts::Opening;
 ghost use mathlib.Core.Path.{_≡_};
 ghost use mathlib.Core.List.{_++_};
 ghost use Prim.Native.Nat.{_≤_};
 ghost use lib.ListN.{length, drop};
 ghost use Rattle.io.specs.Counts.{Counts};
 ghost use Rattle.text.specs.Append.{Appended};
-ghost use Rattle.session_start.specs.Start.{startAt, Ready};
+ghost use Rattle.starts.specs.Start.{startAt, Ready};
 ghost use Rattle.session_text.specs.Printed.{printedWithin};
 ghost use Rattle.session_play.specs.Loop.{startText};
 
@@ -72,7 +72,6 @@ pub fn run_session(file: &[u8], out: &mut [u8]) -> usize
     let mut kept = action_space();
     let mut pool = pool_space();
     let begun = open_session(file, &mut values, &mut forms, &mut kept, &mut pool);
-    let first = begun.state;
     let opening = begun.opening;
-    print(out, first, opening, &mut pool, &forms, &kept)
+    print(out, begun.state, opening, &mut pool, &forms, &kept)
 }

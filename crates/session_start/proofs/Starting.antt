@@ -12,8 +12,7 @@ use Rattle.text.specs.Append.{Appended}
 use Rattle.text.proofs.Appending.{nothing, entire}
 use Rattle.questions.specs.declared.State.{State}
 use Rattle.questions.specs.Questions.{refusal, openQuestions}
-use Rattle.lines.specs.Answers.{Result}
-use Rattle.cells.specs.Answers.{Said, Refused, Acted, Ended, acts}
+use Rattle.cells.specs.Answers.{Said, Refused, Acted, acts}
 use Rattle.cells.specs.Open.{After, leaving, unless, openState, openPool, opened}
 use Rattle.cells.specs.Machine.{Pool}
 use Rattle.cells.proofs.Acts.{acts-iff, open-acts}
@@ -24,27 +23,9 @@ use Rattle.session_reading.specs.Kept.{Named}
 use Rattle.session_reading.proofs.Verdicts.{right-sizes}
 use Rattle.session_text.specs.Printed.{blank, poolWords}
 use Rattle.session_text.specs.Tools.{toolAfterOpen, toolText, toolPrinted, toolWithin}
-use Rattle.session_start.specs.Start.{Start, notOpened, ready, startAfter, startOf, toolStart, New, Opens, Ready}
-use Rattle.session_start.specs.declared.Opening.{Opening}
-use Rattle.session_start.specs.declared.Opening.the-variants as opening
-
--- BY THE OPENING'S OUTCOME
-
-module _ (n v : ℕ) (l : List Action) (s : State) (p : List ℕ) where
-  abbrev of : Said → Start
-  of x = startAfter n v l (leaving s p x)
-
-  pub on-refused : {o : Said} {q : ℕ} → o ≡ Refused q → notOpened q ≡ of o
-  unfolding startAfter
-  on-refused e = ap of (sym e)
-
-  pub on-acted : {o : Said} → o ≡ Acted → ready n v (s, p) l ≡ of o
-  unfolding startAfter
-  on-acted e = ap of (sym e)
-
-  pub on-ended : {o : Said} {f : Result} → o ≡ Ended f → notOpened 0 ≡ of o
-  unfolding startAfter
-  on-ended e = ap of (sym e)
+use Rattle.starts.specs.Start.{Start, startAfter, startOf, toolStart, New, Opens, Ready}
+use Rattle.starts.specs.declared.Opening.{Opening}
+use Rattle.starts.specs.declared.Opening.the-variants as opening
 
 -- ON A NEW POOL
 

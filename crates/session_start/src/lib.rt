@@ -1,37 +1,21 @@
 // Reads a session file and opens the cells for it, as every tool on a session does first.
-use cells::Outcome;
 use lines::records::idle;
 use questions::State;
 use session_reader::read_session;
 use session_reading::Reading;
+use starts::Opening;
+use starts::Started;
+use starts::opening_of;
+use starts::pool_words;
 ghost use mathlib.Core.Path.{_≡_};
 ghost use mathlib.Core.List.{List, map};
-ghost use Prim.Native.Nat.{ℕ, _≤_};
+ghost use Prim.Native.Nat.{ℕ};
 ghost use lib.ListN.{length, take, replicate};
-ghost use Rattle.questions.specs.declared.State.{State};
-ghost use Rattle.cells.specs.Answers.{said, Acted};
-ghost use Rattle.cells.specs.Open.{leaving, opened};
+ghost use Rattle.cells.specs.Open.{opened};
 ghost use Rattle.session_file.specs.Session.{verdict};
 ghost use Rattle.session_reading.specs.Reading.{actAt};
 ghost use Rattle.session_text.specs.Printed.{blank as «blankOf», poolWords};
-ghost use Rattle.session_start.specs.Start.{startAfter, startOf, startAt, New, Opens, Ready};
-
-// How many words of the pool are the cells', and how many actions were read.
-pub enum Opening {
-    NoSession(u32),
-    NotOpened(u32),
-    Open {
-        tasks: u32,
-        cells: u32,
-        words: usize,
-        actions: usize,
-    },
-}
-
-pub struct Started {
-    pub state: State,
-    pub opening: Opening,
-}
+ghost use Rattle.starts.specs.Start.{startAfter, startOf, startAt, Opens, Ready};
 
 fn blank() -> State
     ensures { λ s. ⌜ s ≡ «blankOf» ⌝ }
@@ -45,33 +29,6 @@ fn blank() -> State
         current: [0; 16],
         records: [r; 32],
         counts: [0; 128],
-    }
-}
-
-// Five words for each block, at most 128; more are refused whatever the pool has.
-fn pool_words(blocks: u32) -> usize
-    ensures { λ r. ⌜ (r ≡ poolWords blocks) × (r ≤ 640) ⌝ }
-{
-    if blocks <= 128 {
-        return 5 * blocks as usize;
-    }
-    640
-}
-
-fn opening_of(outcome: Outcome, tasks: u32, cells: u32, words: usize, actions: usize) -> Opening
-    ensures { λ r. ⌜ ((s : State) (forms kept p : List ℕ) → startAt r s forms kept p ≡ startAfter tasks cells (map (actAt forms) (take actions kept)) (leaving s (take words p) (said outcome))) ⌝ }
-    ensures { λ r. ⌜ ((s : State) (p : List ℕ) → (said outcome ≡ Acted → New tasks cells s words p) → Opens r s actions p) ⌝ }
-{
-    match outcome {
-        Outcome::Refused(n) => Opening::NotOpened(n),
-        Outcome::Acted => Opening::Open {
-            tasks,
-            cells,
-            words,
-            actions,
-        },
-        // An open ends no call.
-        Outcome::Ended(_) => Opening::NotOpened(0),
     }
 }
 

@@ -5,6 +5,7 @@ use lib.ListN.{replicate}
 use Rattle.history.specs.History.{read, swap, Action, begin, step}
 use Rattle.cells.specs.Open.{opened}
 use Rattle.cells.specs.Machine.{Pool, pool}
+use Rattle.session_file.specs.Session.{Opening}
 use Rattle.session_text.specs.Printed.{blank, poolWords}
 use Rattle.drawing.specs.Drawn.{drawnAction}
 
@@ -14,6 +15,9 @@ drawnActions n v zero g x = []
 drawnActions n v (suc k) g x =
     let d = drawnAction n v (x .0) g in
     d .action ∷ drawnActions n v k (d .generator) (pool x (d .action) .0)
+
+abbrev pub zeroOpening : (tasks cells blocks : ℕ) → Opening
+zeroOpening n v b = record { tasks = n; cells = v; blocks = b; values = replicate v 0 }
 
 -- what the session's opening leaves, all values 0
 unfoldable pub startOf : (tasks cells blocks : ℕ) → Pool

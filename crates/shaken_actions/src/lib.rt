@@ -1,4 +1,6 @@
-// Each action drawn, its line printed, and the action done, so that the next draw finds who is busy.
+// The opening's line; then each action drawn, its line printed, and the action done, so that the next draw finds who is busy.
+pub mod opening;
+
 ghost use mathlib.Core.Path.{_≡_};
 ghost use mathlib.Core.List.{map};
 ghost use Prim.Native.Nat.{_+_, _≤_, _<_};

@@ -13,8 +13,8 @@ use Rattle.cells.specs.Open.{opened}
 use Rattle.cells.specs.Machine.{pool}
 use Rattle.session_text.specs.Lines.{eventLine}
 use Rattle.session_text.specs.Printed.{eventLines, totals, addEvents, endText, played, afterOpen, blank, poolWords, playedFrom, verdictText, printed}
-use Rattle.shaken_actions.specs.Actions.{startOf}
-use Rattle.shaker.specs.Shaken.{shakeQuestions, zeroOpening, shakenActions, shaken}
+use Rattle.shaken_actions.specs.Actions.{startOf, zeroOpening}
+use Rattle.shaker.specs.Shaken.{shakeQuestions, shakenActions, shaken}
 use Rattle.shaker.specs.Played.{doneText, doneLines}
 use Rattle.shaker.proofs.Allowed.{opening-accepted}
 use Rattle.shaker.proofs.Accepted.{none-refused}

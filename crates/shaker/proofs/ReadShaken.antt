@@ -15,9 +15,9 @@ use Rattle.session_file.specs.Written.{writtenValues, openingLine, formLine, fo
 use Rattle.session_file.specs.Proper.{Small, numbersOf, SmallActions, ProperOpening}
 use Rattle.session_file.proofs.WrittenRead.{actions-read}
 use Rattle.drawing.specs.Drawn.{drawnAction}
-use Rattle.shaken_actions.specs.Actions.{drawnActions, startOf, Short}
-use Rattle.shaker.specs.Shaken.{shakeQuestions, zeroOpening, shakenActions, sessionText, shaken}
-use Rattle.shaker.proofs.Starting.{zeros-length, three-length}
+use Rattle.shaken_actions.specs.Actions.{drawnActions, startOf, Short, zeroOpening}
+use Rattle.shaker.specs.Shaken.{shakeQuestions, shakenActions, sessionText, shaken}
+use Rattle.shaken_actions.proofs.Zeros.{zeros-length, three-length}
 use Rattle.shaken_actions.proofs.Writing.{written-short, short-drawn}
 use Rattle.shaker.proofs.Allowed.{sizes-ok}
 

@@ -1,67 +1,21 @@
--- The opening: its line, and what it leaves.
-use mathlib.Core.Path.{_≡_, refl, sym, ap, subst, _∙_}
-use mathlib.Core.List.{List, [], _∷_, _++_, append-assoc, map}
-use Prim.Native.Nat.{ℕ, zero, suc, _+_, _-_, _*_, _≤_, _<_}
-use native.Mathlib.Omega.{arith}
+-- What the opening leaves.
+use mathlib.Core.Path.{_≡_}
+use mathlib.Core.List.{List, map}
+use Prim.Native.Nat.{ℕ, _*_, _≤_}
 use borrow.Author.Tests.{le-leb}
-use lib.ListN.{length, take, replicate, length-replicate}
-use Rattle.text.specs.Bytes.{bytes, digits}
-use Rattle.text.specs.Lines.{numbers}
+use lib.ListN.{replicate}
 use Rattle.text.specs.Append.{Appended}
 use Rattle.text.proofs.Appending.{then}
-use Rattle.text.proofs.Spaced.{decimal-32, numbers-length, none-length}
 use Rattle.questions.specs.declared.State.{State}
 use Rattle.cells.specs.Answers.{Said}
 use Rattle.cells.specs.Open.{leaving, opened}
 use Rattle.cells.specs.Machine.{Pool}
 use Rattle.session_file.specs.Session.{act}
-use Rattle.session_file.specs.Written.{writtenValues, openingLine, formLines, fileText}
+use Rattle.session_file.specs.Written.{openingLine, formLines, fileText}
 use Rattle.session_text.specs.Printed.{blank}
-use Rattle.shaken_actions.specs.Actions.{drawnActions, startOf}
-use Rattle.shaker.specs.Shaken.{zeroOpening, sessionText}
+use Rattle.shaken_actions.specs.Actions.{drawnActions, startOf, zeroOpening}
+use Rattle.shaker.specs.Shaken.{sessionText}
 use Rattle.shaken_actions.proofs.Acting.{moves}
-
--- A PART OF MANY ZEROS
-
-few-zeros : (n m : ℕ) → n ≤ m → take {A = ℕ} n (replicate m 0) ≡ replicate n 0
-few-zeros zero m h = refl
-few-zeros (suc n) zero h = absurd (omega arith)
-few-zeros (suc n) (suc m) h = ap (λ (l : List ℕ). 0 ∷ l) (few-zeros n m (omega arith))
-
-module _ {l : List ℕ} (n m : ℕ) (e : l ≡ replicate m 0) (h : n ≤ m) where
-  pub part-zeros : take n l ≡ replicate n 0
-  part-zeros = ap (take n) e ∙ few-zeros n m h
-
-  pub part-length : n ≡ length (take n l)
-  part-length = sym (ap length part-zeros ∙ length-replicate {A = ℕ} n 0)
-
--- THE LINE
-
-pub zeros-length : (m : ℕ) → length (numbers (replicate m 0)) ≡ 2 * m
-unfolding digits
-zeros-length zero = none-length
-zeros-length (suc m) = omega (arith, numbers-length 0 (replicate m 0), zeros-length m)
-
-pub three-length : (a b c : ℕ) → a ≤ 4294967295 → b ≤ 4294967295 → c ≤ 4294967295 → length (numbers (a ∷ b ∷ c ∷ [])) ≤ 33
-three-length a b c h i j = omega (arith, numbers-length a (b ∷ c ∷ []), numbers-length b (c ∷ []), numbers-length c [], none-length, decimal-32 a h, decimal-32 b i, decimal-32 c j)
-
--- the code prints the first value with the bracket before it
-values-text : (l : List ℕ) (v : ℕ) → 0 < v → (l ++ bytes " (0") ++ numbers (replicate (v - 1) 0) ≡ (l ++ bytes " (") ++ writtenValues (replicate v 0)
-unfolding digits writtenValues
-values-text l zero h = absurd (omega arith)
-values-text l (suc m) h =
-    let e : suc m - 1 ≡ m = omega arith in
-    let z = numbers (replicate m 0) in
-    rw e (append-assoc l (bytes " (0") z ∙ sym (append-assoc l (bytes " (") (48 ∷ z)))
-
-opening-text : (n v b : ℕ) → 0 < v → (((bytes "(open" ++ numbers (n ∷ v ∷ b ∷ [])) ++ bytes " (0") ++ numbers (replicate (v - 1) 0)) ++ bytes "))\n" ≡ openingLine (zeroOpening n v b)
-unfolding openingLine
-opening-text n v b h = ap (λ (l : List ℕ). l ++ bytes "))\n") (values-text (bytes "(open" ++ numbers (n ∷ v ∷ b ∷ [])) v h)
-
-pub opens : (n v b : ℕ) {x y z : ℕ} {l o p : List ℕ} {r : ℕ} → x ≡ n → y ≡ v → z ≡ b → l ≡ replicate (v - 1) 0 → 0 < v → Appended o p 0 r ((((bytes "(open" ++ numbers (x ∷ y ∷ z ∷ [])) ++ bytes " (0") ++ numbers l) ++ bytes "))\n") → Appended o p 0 r (openingLine (zeroOpening n v b))
-opens n v b {o = o} {p = p} {r = r} ex ey ez el h a = subst (Appended o p 0 r) (rw (ex, ey, ez, el) (opening-text n v b h)) a
-
--- WHAT IT LEAVES
 
 module _ (n v b : ℕ) where
   pub starts : {s s₀ : State} {p p₀ vs : List ℕ} {o : Said} → s₀ ≡ blank → p₀ ≡ replicate (5 * b) 0 → vs ≡ replicate v 0 → b ≤ 128 → leaving s p o ≡ opened s₀ p₀ n v b vs → (s, p) ≡ startOf n v b

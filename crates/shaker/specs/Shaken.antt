@@ -4,21 +4,17 @@ use mathlib.Core.Option.{none, some}
 use mathlib.Core.List.{List, [], _∷_, map}
 use Prim.Native.Nat.{ℕ, _*_}
 use lib.Dec.{leb}
-use lib.ListN.{replicate}
 use Rattle.history.specs.History.{Action}
 use Rattle.lines.specs.Basics.{within}
 use Rattle.questions.specs.Questions.{Question, refusal, tasksOk, cellsOk, blocksOk}
 use Rattle.text.specs.Lines.{badLine}
-use Rattle.session_file.specs.Session.{Opening, act}
+use Rattle.session_file.specs.Session.{act}
 use Rattle.session_file.specs.Written.{fileText}
-use Rattle.shaken_actions.specs.Actions.{drawnActions, startOf}
+use Rattle.shaken_actions.specs.Actions.{drawnActions, startOf, zeroOpening}
 
 -- document 01's questions on N, V and B, whose pool has five words for each block; then 17. Is the length 1 to 3,000 actions?
 unfoldable pub shakeQuestions : (tasks cells blocks length : ℕ) → List Question
 shakeQuestions n v b k = (1, tasksOk n) ∷ (2, cellsOk v) ∷ (3, blocksOk n v b (5 * b)) ∷ (17, within k 1 3000) ∷ []
-
-abbrev pub zeroOpening : (tasks cells blocks : ℕ) → Opening
-zeroOpening n v b = record { tasks = n; cells = v; blocks = b; values = replicate v 0 }
 
 -- the actions of the session, and its text, one action a line
 abbrev pub shakenActions : (seed tasks cells blocks length : ℕ) → List Action

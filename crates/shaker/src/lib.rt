@@ -2,9 +2,8 @@
 
 use lines::records::idle;
 use numbered::put_bad;
-use numbered::put_numbers;
-use numbered::wide;
 use questions::State;
+use shaken_actions::opening::put_opening;
 ghost use mathlib.Core.Path.{_≡_};
 ghost use mathlib.Core.Option.{Option·getD};
 ghost use mathlib.Core.List.{_++_};
@@ -13,9 +12,8 @@ ghost use lib.ListN.{length, drop, replicate};
 ghost use Rattle.io.specs.Counts.{Counts};
 ghost use Rattle.text.specs.Append.{Appended};
 ghost use Rattle.questions.specs.Questions.{refusal as «refusalOf»};
-ghost use Rattle.session_file.specs.Written.{openingLine};
 ghost use Rattle.session_text.specs.Printed.{blank as «blankOf»};
-ghost use Rattle.shaker.specs.Shaken.{shakeQuestions, zeroOpening, sessionText, shakenWithin};
+ghost use Rattle.shaker.specs.Shaken.{shakeQuestions, sessionText, shakenWithin};
 
 // As many bytes as a session may have; the longest that is drawn has fewer.
 const ROOM: usize = 65536;
@@ -33,28 +31,6 @@ fn refusal(tasks: u32, cells: u32, blocks: u32, count: u32) -> u32
     } else {
         17
     }
-}
-
-fn more_zeros() -> [u64; 16]
-    ensures { λ r. ⌜ r ≡ replicate 16 0 ⌝ }
-{
-    [0; 16]
-}
-
-// The first line, all values 0.
-fn put_opening(out: &mut [u8], tasks: u32, cells: u32, blocks: u32) -> usize
-    requires { ⌜ (0 < cells) × (cells ≤ 16) ⌝ }
-    requires { ⌜ 65536 ≤ length (now out) ⌝ }
-    ensures { λ r. ⌜ Appended (now (out .entry)) (now (out .exit)) 0 r (openingLine (zeroOpening tasks cells blocks)) ⌝ }
-    ensures { λ r. ⌜ r ≤ 100 ⌝ }
-{
-    let a = text::put(out, 0, b"(open");
-    let b = put_numbers(out, a, &[wide(tasks), wide(cells), wide(blocks)]);
-    let c = text::put(out, b, b" (0");
-    let values = more_zeros();
-    let more = cells as usize - 1;
-    let d = put_numbers(out, c, &values[..more]);
-    text::put(out, d, b"))\n")
 }
 
 fn blank() -> State
@@ -90,8 +66,7 @@ fn put_session(
 {
     let at = put_opening(out, tasks, cells, blocks);
     let first = entries::open(blank(), pool, tasks, cells, blocks, values);
-    let s = first.state;
-    shaken_actions::put_actions(out, at, s, pool, seed, tasks, cells, count)
+    shaken_actions::put_actions(out, at, first.state, pool, seed, tasks, cells, count)
 }
 
 fn pool_space() -> [u32; 640]

@@ -1,6 +1,6 @@
 use mathlib.Core.Path.{sym}
 use lib.Seq.{length-take-le}
-use Rattle.machine.proofs.Placing.{places-length}
+use Rattle.places.proofs.Placing.{places-length}
 use borrow.Author.Needs.{needs}
 use native.Mathlib.Omega.{arith}
 use Rattle.bus_runner.proofs.print.Statement.{statement}

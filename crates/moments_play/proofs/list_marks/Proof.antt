@@ -13,10 +13,10 @@ use Rattle.history.specs.History.{Action}
 use Rattle.refinement.specs.Reached.{Reached}
 use Rattle.refinement.proofs.Reaching.{reached-fit, reached-arrays}
 use Rattle.session_reading.specs.Reading.{actAt}
-use Rattle.machine.specs.Places.{wholeOf}
-use Rattle.machine.proofs.Placing.{records-length, idle-places}
+use Rattle.places.specs.Places.{wholeOf}
+use Rattle.places.proofs.Placing.{records-length, idle-places}
 use Rattle.machine.proofs.Turning.{reached-small, reached-then}
-use Rattle.machine.proofs.Listed.{action-then, no-action}
+use Rattle.places.proofs.Listed.{action-then, no-action}
 use Rattle.moments_notes.specs.Words.{Listed}
 use Rattle.moments_notes.specs.Notes.{slot, notesOf, Sized}
 use Rattle.moments_notes.specs.Loop.{allMarks}

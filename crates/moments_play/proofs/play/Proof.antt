@@ -2,7 +2,7 @@ use borrow.Author.Needs.{needs}
 use native.Mathlib.Omega.{arith}
 use mathlib.Core.List.{map}
 use Rattle.session_reading.specs.Reading.{actAt}
-use Rattle.machine.proofs.Placing.{places-length}
+use Rattle.places.proofs.Placing.{places-length}
 use Rattle.moments_play.proofs.Starting.{printed}
 use Rattle.moments_play.proofs.play.Statement.{statement}
 use Rattle.moments_play.proofs.play.Tie as tie

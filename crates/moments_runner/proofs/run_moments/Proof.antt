@@ -8,7 +8,7 @@ returns : tie.Need-returns
 returns c = nothing-printed 2400000 momentsText _ _ (c .if1 .taken)
 
 returns-2 : tie.Need-returns-2
-returns-2 c = all-printed 2400000 momentsText _ _ _ _ (c .before .before .before .print .ensures) (c .before .before .before .before .before .before .before .before .before .before .before .before .before .open-session .ensures .0) (c .before .before .before .before .before .before .before .before .before .before .before .before .before .before .before .before .before .before .before .before .before .before .if1 .left)
+returns-2 c = all-printed 2400000 momentsText _ _ _ _ (c .before .before .before .print .ensures) (c .before .before .before .before .before .before .before .before .before .before .before .before .open-session .ensures .0) (c .before .before .before .before .before .before .before .before .before .before .before .before .before .before .before .before .before .before .before .before .before .if1 .left)
 
 pub run-moments-spec : {M : Type 1} → statement M
 run-moments-spec =

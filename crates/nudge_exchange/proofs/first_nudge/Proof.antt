@@ -7,7 +7,7 @@ use lib.ListN.{length, length-map}
 use borrow.Author.Needs.{needs}
 use Rattle.cells.specs.Machine.{Pool}
 use Rattle.lines.specs.Answers.{answerOf}
-use Rattle.machine.specs.Places.{stateOf}
+use Rattle.places.specs.Places.{stateOf}
 use Rattle.refinement.proofs.Reaching.{reached-fit, reached-arrays}
 use Rattle.session_reading.specs.Reading.{actAt}
 use Rattle.nudge_text.specs.Nudge.{nudges, earliest}

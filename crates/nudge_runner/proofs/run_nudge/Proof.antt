@@ -8,7 +8,7 @@ returns : tie.Need-returns
 returns c = let a = c .before .before .before .args in nothing-printed 67 (nudgeText a.task a.n) _ _ (c .if1 .taken)
 
 returns-2 : tie.Need-returns-2
-returns-2 c = let a = c .before .before .before .before .before .before .before .before .before .before .before .before .before .before .before .before .before .before .before .before .before .before .before .before .before .args in all-printed 67 (nudgeText a.task a.n) _ _ _ _ (c .before .before .before .print .ensures) (c .before .before .before .before .before .before .before .before .before .before .before .before .before .open-session .ensures .0) (c .before .before .before .before .before .before .before .before .before .before .before .before .before .before .before .before .before .before .before .before .before .before .if1 .left)
+returns-2 c = let a = c .before .before .before .before .before .before .before .before .before .before .before .before .before .before .before .before .before .before .before .before .before .before .before .before .args in all-printed 67 (nudgeText a.task a.n) _ _ _ _ (c .before .before .before .print .ensures) (c .before .before .before .before .before .before .before .before .before .before .before .before .open-session .ensures .0) (c .before .before .before .before .before .before .before .before .before .before .before .before .before .before .before .before .before .before .before .before .before .if1 .left)
 
 pub run-nudge-spec : {M : Type 1} → statement M
 run-nudge-spec =

@@ -2,7 +2,7 @@ use mathlib.Core.Path.{sym}
 use native.Mathlib.Omega.{arith}
 use lib.Seq.{length-take-le}
 use borrow.Author.Needs.{needs}
-use Rattle.machine.proofs.Placing.{places-length}
+use Rattle.places.proofs.Placing.{places-length}
 use Rattle.session_runner.proofs.print.Statement.{statement}
 use Rattle.session_runner.proofs.print.Tie as tie
 

@@ -8,7 +8,7 @@ returns : tie.Need-returns
 returns c = none-printed _ _ (omega arith)
 
 returns-2 : tie.Need-returns-2
-returns-2 c = all-printed _ _ _ _ (c .before .before .before .print .ensures) (c .before .before .before .before .before .before .before .before .before .before .before .before .before .open-session .ensures .0) (c .before .before .before .before .before .before .before .before .before .before .before .before .before .before .before .before .before .before .before .before .before .before .if1 .left)
+returns-2 c = all-printed _ _ _ _ (c .before .before .before .print .ensures) (c .before .before .before .before .before .before .before .before .before .before .before .before .open-session .ensures .0) (c .before .before .before .before .before .before .before .before .before .before .before .before .before .before .before .before .before .before .before .before .before .if1 .left)
 
 pub run-session-spec : {M : Type 1} → statement M
 run-session-spec =

@@ -5,7 +5,7 @@ use lib.ListN.{take}
 use lib.Seq.{length-take-le}
 use borrow.Author.Needs.{needs}
 use Rattle.session_reading.specs.Reading.{actAt}
-use Rattle.session_start.specs.Start.{startAfter}
+use Rattle.starts.specs.Start.{startAfter}
 use Rattle.session_start.proofs.Starting.{new-length, opens, newly}
 use Rattle.session_start.proofs.open_pool.Statement.{statement}
 use Rattle.session_start.proofs.open_pool.Tie as tie

@@ -1,6 +1,6 @@
 use Prim.Native.Nat.{_*_}
 use native.Mathlib.Omega.{arith}
-use Rattle.shaker.proofs.Starting.{part-zeros, part-length}
+use Rattle.shaken_actions.proofs.Zeros.{part-zeros, part-length}
 use Rattle.shaker.proofs.Shaking.{none-shaken, all-refused, all-shaken, sizes}
 use borrow.Author.Needs.{needs}
 use Rattle.shaker.proofs.shake.Statement.{statement}

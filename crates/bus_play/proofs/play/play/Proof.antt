@@ -12,8 +12,8 @@ use Rattle.refinement.proofs.Reaching.{reached-fit, reached-arrays}
 use Rattle.cells.specs.Answers.{said, actOf}
 use Rattle.history.specs.History.{Report}
 use Rattle.session_reading.specs.Reading.{actAt}
-use Rattle.machine.specs.Places.{wholeOf}
-use Rattle.machine.proofs.Placing.{idle-places}
+use Rattle.places.specs.Places.{wholeOf}
+use Rattle.places.proofs.Placing.{idle-places}
 use Rattle.machine.proofs.Turning.{reached-then}
 use Rattle.text.proofs.Toward.{Toward, toward-start, toward-more, toward-last}
 use Rattle.bus_text.specs.Bus.{busCalls, callsText}

@@ -2,7 +2,7 @@ use borrow.Author.Needs.{needs}
 use mathlib.Core.Path.{ap, _∙_}
 use Rattle.lines.specs.declared.Record.{Record}
 use Rattle.cells.specs.Begin.{begun, readBegun, swapBegun}
-use Rattle.machine.specs.Places.{stateOf}
+use Rattle.places.specs.Places.{stateOf}
 use Rattle.machine.proofs.Advancing.{few-tasks}
 use Rattle.machine.proofs.advance.advance.Statement.{statement}
 use Rattle.machine.proofs.advance.advance.Tie as tie

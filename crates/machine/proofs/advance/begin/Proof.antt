@@ -4,7 +4,7 @@ use native.Mathlib.Omega.{arith}
 use Prim.Native.Nat.{_+_, _-_, _*_, _<_}
 use lib.ListN.{length, take, drop, set}
 use Rattle.pool.specs.Words.{recordsOf}
-use Rattle.machine.proofs.Placing.{place-read, place-length, place-back}
+use Rattle.places.proofs.Placing.{place-read, place-length, place-back}
 use Rattle.machine.proofs.Advancing.{begin-nowhere, begin-refused, begin-acts}
 use Rattle.machine.proofs.advance.begin.Statement.{statement}
 use Rattle.machine.proofs.advance.begin.Tie as tie

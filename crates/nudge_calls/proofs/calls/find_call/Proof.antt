@@ -7,7 +7,7 @@ use lib.ListN.{length, drop}
 use borrow.Author.Needs.{needs}
 use Rattle.cells.specs.Machine.{pool as machine}
 use Rattle.history.specs.History.{history}
-use Rattle.machine.specs.Places.{stateOf}
+use Rattle.places.specs.Places.{stateOf}
 use Rattle.cells.specs.Answers.{actOf}
 use Rattle.machine.proofs.Turning.{reached-then}
 use Rattle.refinement.specs.Reached.{Reached}

@@ -3,7 +3,7 @@ use Rattle.pool.specs.Words.{recordsOf}
 use mathlib.Core.Path.{refl}
 use native.Mathlib.Omega.{arith}
 use borrow.Author.Tests.{le-ltb}
-use Rattle.machine.proofs.Placing.{place-read}
+use Rattle.places.proofs.Placing.{place-read}
 use Rattle.nudge_calls.proofs.Steps.{idle-touches, busy-touches}
 use borrow.Author.Needs.{needs}
 use Rattle.nudge_calls.proofs.touching.cell_of_step.Statement.{statement}

@@ -14,10 +14,10 @@ use Rattle.session_reading.specs.Reading.{actAt}
 use Rattle.session_text.specs.Printed.{totals, played}
 use Rattle.session_play.specs.Loop.{playedOn, Few}
 use Rattle.cells.specs.Answers.{actOf}
-use Rattle.machine.specs.Places.{wholeOf}
+use Rattle.places.specs.Places.{wholeOf}
 use Rattle.session_play.specs.Totals.{totalsOf}
 use Rattle.text.proofs.Toward.{Toward, toward-start, toward-more, toward-last}
-use Rattle.machine.proofs.Placing.{records-length, idle-places}
+use Rattle.places.proofs.Placing.{records-length, idle-places}
 use Rattle.session_play.proofs.Playing.{one-action, no-action}
 use Rattle.cells.specs.Open.{After}
 use Rattle.cells.specs.Events.{eventOf}

@@ -1,0 +1,55 @@
+// The words of the calls that actions end.
+use cells::Outcome;
+use lines::Answer;
+use lines::Record;
+use moments_notes::Own;
+use moments_notes::Sight;
+use moments_spots::ending;
+use moments_words::enter;
+ghost use mathlib.Core.Path.{_≡_};
+ghost use Prim.Native.Nat.{_+_, _≤_, _<_};
+ghost use lib.ListN.{length, take};
+ghost use Rattle.lines.specs.Answers.{answerOf};
+ghost use Rattle.lines.specs.Record.{opOf};
+ghost use Rattle.cells.specs.Answers.{said};
+ghost use Rattle.moments_notes.specs.Words.{wordOf, insertWord, SortedWords};
+ghost use Rattle.moments_notes.specs.Loop.{endingSpot, endedWords, endedCount, EndFits};
+
+// The word of task t's call, which ends with that answer.
+fn end_with(list: &mut [u32], n: usize, a: Answer, r: Record, x: Sight, o: Own, i: u16, t: u32)
+    requires { ⌜ (n < length (now list)) × SortedWords (take n (now list)) ⌝ }
+    requires { ⌜ (t < 32) × (r .cell < 16) ⌝ }
+    ensures { λ _. ⌜ take (n + 1) (now (list .exit)) ≡ insertWord (wordOf (endingSpot i o r x (answerOf a)) (opOf r) t (answerOf a)) (take n (now (list .entry))) ⌝ }
+    ensures { λ _. ⌜ endingSpot i o r x (answerOf a) .moment ≤ 65535 ⌝ }
+{
+    let q = ending(r, x, a, i, o);
+    enter(list, n, q, r, a, t);
+}
+
+// The word of the call that the action ended, if it did.
+pub fn end_call(
+    list: &mut [u32],
+    n: usize,
+    outcome: Outcome,
+    r: Record,
+    x: Sight,
+    o: Own,
+    i: u16,
+    t: u32,
+) -> usize
+    requires { ⌜ (n < length (now list)) × SortedWords (take n (now list)) ⌝ }
+    requires { ⌜ (t < 32) × (r .cell < 16) ⌝ }
+    ensures { λ m. ⌜ (m ≡ endedCount (said outcome) n) × (m ≤ n + 1) ⌝ }
+    ensures { λ m. ⌜ take m (now (list .exit)) ≡ endedWords (endingSpot i o r x) (opOf r) t (said outcome) (take n (now (list .entry))) ⌝ }
+    ensures { λ _. ⌜ EndFits (endingSpot i o r x) (said outcome) ⌝ }
+{
+    match outcome {
+        Outcome::Refused(_) => n,
+        Outcome::Acted => n,
+        Outcome::Ended(f) => {
+            let a = f.answer;
+            end_with(list, n, a, r, x, o, i, t);
+            n + 1
+        }
+    }
+}

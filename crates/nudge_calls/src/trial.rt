@@ -1,0 +1,133 @@
+// One exchange of neighbouring actions, tried.
+use crate::calls::Call;
+use crate::calls::Frame;
+use crate::calls::Noted;
+use crate::calls::note;
+use crate::touching::collide;
+use machine::advance::advance;
+use nudge_moves::moved_to;
+use nudge_moves::same_answer;
+use places::actions::action_at;
+ghost use mathlib.Core.Path.{_≡_};
+ghost use mathlib.Core.List.{map};
+ghost use Prim.Native.Nat.{_+_, _≤_, _<_};
+ghost use lib.ListN.{length, take, drop};
+ghost use Rattle.cells.specs.Machine.{pool as «machine»};
+ghost use Rattle.history.specs.History.{history};
+ghost use Rattle.lines.specs.Answers.{answerOf};
+ghost use Rattle.nudge_text.specs.Exchange.{exchanged, movedTo};
+ghost use Rattle.nudge_text.specs.Nudge.{answersStill};
+ghost use Rattle.refinement.specs.Reached.{Reached};
+ghost use Rattle.session_reading.specs.Kept.{Named};
+ghost use Rattle.session_reading.specs.Reading.{actAt};
+ghost use Rattle.nudge_calls.specs.Calls.{calls, answerOfCall};
+ghost use Rattle.nudge_calls.specs.Exchange.{stateWith, tried};
+
+// The words, at the start of a buffer of their own.
+pub fn copied(from: &[u32]) -> [u32; 640]
+    requires { ⌜ length (now from) ≤ 640 ⌝ }
+    ensures { λ r. ⌜ (take (length (now (from .entry))) r ≡ now (from .entry)) × (640 ≡ length r) ⌝ }
+{
+    let mut to = [0; 640];
+    let mut i = 0;
+    while i < from.len() {
+        to[i] = from[i];
+        i += 1;
+    }
+    to
+}
+
+// Whether the call, followed to where exchange i has its begin, still answers the same. The actions up to i have been done. What is left of
+// pool and records is open.
+fn follow(
+    pool: &mut [u32],
+    records: &mut [u32],
+    s: Frame,
+    forms: &[u32],
+    kept: &[u32],
+    i: usize,
+    task: u32,
+    begun: usize,
+    call: Call,
+) -> bool
+    requires { ⌜ Reached (s .tasks) (s .cells) (stateWith s (now records)) (now pool) ⌝ }
+    requires { ⌜ (length (now records) ≡ 384) × (length (now kept) ≤ 2000) × (i + 1 < length (now kept)) ⌝ }
+    requires { ⌜ Named (length (now forms)) (now kept) ⌝ }
+    ensures { λ r. ⌜ r ≡ answersStill (answerOf (call .answer)) (answerOfCall (movedTo i (call .begun)) (calls task begun i (history «machine» (stateWith s (now (records .entry)), now (pool .entry)) (drop i (exchanged i (map (actAt (now (forms .entry))) (now (kept .entry)))))))) ⌝ }
+{
+    let target = moved_to(i, call.begun);
+    let answer = call.answer;
+    let mut j = i;
+    let mut k = begun;
+    let mut last = s.last;
+    let mut current = s.current;
+    let mut counts = s.counts;
+    while j < kept.len() {
+        let a = action_at(forms, kept[moved_to(i, j)]);
+        let done = advance(
+            pool,
+            records,
+            &mut current,
+            &mut counts,
+            s.tasks,
+            s.cells,
+            s.blocks,
+            last,
+            a,
+        );
+        last = done.last;
+        let outcome = done.outcome;
+        let noted = note(task, a, outcome, k, j);
+        match noted {
+            Noted::Pending(b) => {
+                k = b;
+            }
+            Noted::Ended(now) => {
+                if k == target {
+                    return same_answer(answer, now);
+                }
+            }
+        }
+        j += 1;
+    }
+    false
+}
+
+// Whether exchange i nudges the call, tried on a copy of the state before it. Actions that do not touch the same cell need no trial.
+pub fn try_exchange(
+    pool: &[u32],
+    records: &[u32],
+    s: Frame,
+    forms: &[u32],
+    kept: &[u32],
+    i: usize,
+    task: u32,
+    begun: usize,
+    call: Call,
+) -> bool
+    requires { ⌜ Reached (s .tasks) (s .cells) (stateWith s (now records)) (now pool) ⌝ }
+    requires { ⌜ (length (now records) ≡ 384) × (length (now kept) ≤ 2000) × (i + 1 < length (now kept)) ⌝ }
+    requires { ⌜ Named (length (now forms)) (now kept) ⌝ }
+    ensures { λ r. ⌜ r ≡ tried (stateWith s (now (records .entry)), now (pool .entry)) (map (actAt (now (forms .entry))) (now (kept .entry))) task begun (call .begun) (answerOf (call .answer)) i ⌝ }
+{
+    let a = action_at(forms, kept[i]);
+    let b = action_at(forms, kept[i + 1]);
+    if !collide(records, s.tasks, a, b) {
+        return false;
+    }
+    let words = pool.len();
+    let filled = records.len();
+    let mut p = copied(pool);
+    let mut r = copied(records);
+    !follow(
+        &mut p[..words],
+        &mut r[..filled],
+        s,
+        forms,
+        kept,
+        i,
+        task,
+        begun,
+        call,
+    )
+}

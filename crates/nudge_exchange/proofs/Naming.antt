@@ -1,0 +1,49 @@
+-- The named call, sought on newly opened cells.
+use mathlib.Core.Path.{_≡_, sym, ap, subst, _∙_}
+use mathlib.Core.Option.{none, some}
+use mathlib.Core.List.{List, []}
+use Prim.Native.Nat.{ℕ}
+use lib.ListN.{length}
+use Rattle.questions.specs.declared.State.{State}
+use Rattle.cells.specs.Machine.{Pool, pool}
+use Rattle.history.specs.History.{Action, FinishedCall, noCalls, history}
+use Rattle.refinement.specs.Reached.{Reached}
+use Rattle.text.specs.Lines.{badLine}
+use Rattle.nudge_text.specs.Nudge.{atPlace, namedCall, nudges, earliest, nudge, nudgeLine, asked18}
+use Rattle.nudge_text.proofs.Nudge.{named-is-finished}
+use Rattle.nudge_calls.specs.Calls.{Summary, summary, calls, Finishes}
+use Rattle.nudge_calls.specs.Exchange.{Fresh}
+use Rattle.nudge_calls.proofs.Following.{Between, named-none, named-some}
+use Rattle.nudge_calls.proofs.Exchanging.{whoOf, between}
+use Rattle.nudge_calls.proofs.Steps.{before-start, reached-before}
+
+module _ {s : State} {p : List ℕ} (F : Fresh s p) (l : List Action) (t n : ℕ) where
+  known : Between (whoOf l) (s .cells) noCalls (history pool (s, p) l)
+  known = subst (λ (x : Pool). Between (whoOf l) (s .cells) noCalls (history pool x l)) (sym (F .came)) (between (F .old) (F .words) (s .tasks) (s .cells) (F .blocks) (F .values) (F .allowed) l l)
+
+  pub sought-none : atPlace n (calls t 0 0 (history pool (s, p) l)) ≡ none → badLine 18 ≡ asked18 (s, p) l (namedCall t n (history pool (s, p) l))
+  sought-none e = ap (asked18 (s, p) l) (sym (named-none t n (history pool (s, p) l) known e))
+
+  module _ (c : Summary) (e : atPlace n (calls t 0 0 (history pool (s, p) l)) ≡ some c) where
+    abbrev f : FinishedCall
+    f = named-some t n (history pool (s, p) l) known c e .0
+
+    is : namedCall t n (history pool (s, p) l) ≡ some f
+    is = named-some t n (history pool (s, p) l) known c e .1 .0
+
+    same : summary f ≡ c
+    same = named-some t n (history pool (s, p) l) known c e .1 .1
+
+    pub sought-finishes : Finishes (history pool (s, p) l) t c
+    sought-finishes = let d = named-is-finished t n (history pool (s, p) l) f is in record { call = f; finished = d .0; its-task = d .1; kept = same }
+
+    pub sought-nudge : nudgeLine (earliest (nudges (s, p) l (c .begun) (c .answer)) 0 (length l)) ≡ asked18 (s, p) l (namedCall t n (history pool (s, p) l))
+    unfolding nudge
+    sought-nudge = ap (λ (c : Summary). nudgeLine (earliest (nudges (s, p) l (c .begun) (c .answer)) 0 (length l))) (sym same) ∙ ap (asked18 (s, p) l) (sym is)
+
+-- the same in other words
+pub fresh-as : {s s′ : State} {p p′ : List ℕ} → Fresh s p → s′ ≡ s → p′ ≡ p → Fresh s′ p′
+fresh-as {s} {s′} {p} {p′} F es ep = subst (λ (x : State). Fresh x p′) (sym es) (subst (λ (q : List ℕ). Fresh s q) (sym ep) F)
+
+pub fresh-reached : {s : State} {p : List ℕ} → Fresh s p → Reached (s .tasks) (s .cells) s p
+fresh-reached {s} {p} F = reached-before [] 0 0 F (before-start (s, p) [] 0)

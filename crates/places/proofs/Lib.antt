@@ -1,0 +1,3 @@
+mod Acting
+pub mod Placing
+pub mod Listed

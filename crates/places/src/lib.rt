@@ -1,0 +1,12 @@
+// What actions are done on: the forms that the reader kept, the tasks' records in their places of twelve words, and a busy task's own move.
+use cells::Outcome;
+
+pub mod actions;
+pub mod moves;
+pub mod records;
+
+// What an action leaves besides what is lent.
+pub struct Advanced {
+    pub last: u32,
+    pub outcome: Outcome,
+}

@@ -1,0 +1,63 @@
+-- What a session file leads to: no session, cells that are not opened, or cells that are and the actions to do on them.
+use mathlib.Core.Path.{_≡_}
+use mathlib.Core.List.{List, [], map}
+use Prim.Native.Nat.{ℕ, _≤_}
+use lib.ListN.{length, take, replicate}
+use Rattle.questions.specs.declared.State.{State}
+use Rattle.lines.specs.Record.{idle}
+use Rattle.cells.specs.Answers.{Refused, Acted, Ended}
+use Rattle.cells.specs.Open.{After}
+use Rattle.cells.specs.Machine.{Pool}
+use Rattle.refinement.specs.Reached.{Reached}
+use Rattle.history.specs.History.{Action}
+use Rattle.session_file.specs.Session.{Verdict, bad, session}
+use Rattle.session_reading.specs.Reading.{actAt}
+use Rattle.session_reading.specs.Kept.{Named}
+use Rattle.session_text.specs.Printed.{openedBy}
+use Rattle.text.specs.Lines.{badLine}
+use Rattle.starts.specs.declared.Opening.{Opening}
+use Rattle.starts.specs.declared.Opening.the-variants as opening
+
+pub data Start : Type 0 where
+  noSession : ℕ → Start
+  notOpened : ℕ → Start
+  ready : (tasks cells : ℕ) → Pool → List Action → Start
+
+-- an open ends no call
+unfoldable pub startAfter : (tasks cells : ℕ) → List Action → After → Start
+startAfter n v l r = elim (r .outcome) [ Refused q ↦ notOpened q | Acted ↦ ready n v (r .state, r .pool) l | Ended f ↦ notOpened 0 ]
+
+abbrev pub startOf : Verdict → Start
+startOf (bad n) = noSession n
+startOf (session o l) = startAfter (o .tasks) (o .cells) l (openedBy o)
+
+-- what the tool with that text prints of it
+abbrev pub toolStart : ((tasks : ℕ) → Pool → List Action → List ℕ) → Start → List ℕ
+toolStart text (noSession n) = badLine n
+toolStart text (notOpened n) = badLine n
+toolStart text (ready n v x l) = text n x l
+
+-- THE CODE'S ANSWER, and the buffers that it speaks of
+
+abbrev pub startAt : Opening → State → (forms kept pool : List ℕ) → Start
+startAt (opening.NoSession n) s f k p = noSession n
+startAt (opening.NotOpened n) s f k p = notOpened n
+startAt (opening.Open n v w i) s f k p = ready n v (s, take w p) (map (actAt f) (take i k))
+
+-- newly opened: no task has begun
+pub record New (n v : ℕ) (s : State) (w : ℕ) (p : List ℕ) : Type 0 where
+  pub within : w ≤ length p
+  pub reached : Reached n v s (take w p)
+  pub no-actions : reached .actions ≡ []
+  pub all-idle : s .records ≡ replicate 32 idle
+
+abbrev pub Opens : Opening → State → (actions : ℕ) → (pool : List ℕ) → Type 0
+Opens (opening.NoSession n) s i p = Unit {0}
+Opens (opening.NotOpened n) s i p = Unit {0}
+Opens (opening.Open n v w j) s i p = New n v s w p × (j ≡ i)
+
+-- the actions were kept, and each numbers a form
+abbrev pub Ready : Opening → State → (forms kept pool : List ℕ) → Type 0
+Ready (opening.NoSession n) s f k p = Unit {0}
+Ready (opening.NotOpened n) s f k p = Unit {0}
+Ready (opening.Open n v w i) s f k p = New n v s w p × (i ≤ length k) × (length k ≡ 65535) × Named (length f) (take i k)

@@ -1,0 +1,57 @@
+// What a session file leads to: types, definitions and two steps of an opening.
+use cells::Outcome;
+use questions::State;
+ghost use mathlib.Core.Path.{_≡_};
+ghost use mathlib.Core.List.{List, map};
+ghost use Prim.Native.Nat.{ℕ, _≤_};
+ghost use lib.ListN.{take};
+ghost use Rattle.questions.specs.declared.State.{State};
+ghost use Rattle.cells.specs.Answers.{said, Acted};
+ghost use Rattle.cells.specs.Open.{leaving};
+ghost use Rattle.session_reading.specs.Reading.{actAt};
+ghost use Rattle.session_text.specs.Printed.{poolWords};
+ghost use Rattle.starts.specs.Start.{startAfter, startAt, New, Opens};
+
+// How many words of the pool are the cells', and how many actions were read.
+pub enum Opening {
+    NoSession(u32),
+    NotOpened(u32),
+    Open {
+        tasks: u32,
+        cells: u32,
+        words: usize,
+        actions: usize,
+    },
+}
+
+pub struct Started {
+    pub state: State,
+    pub opening: Opening,
+}
+
+// Five words for each block, at most 128; more are refused whatever the pool has.
+pub fn pool_words(blocks: u32) -> usize
+    ensures { λ r. ⌜ (r ≡ poolWords blocks) × (r ≤ 640) ⌝ }
+{
+    if blocks <= 128 {
+        return 5 * blocks as usize;
+    }
+    640
+}
+
+pub fn opening_of(outcome: Outcome, tasks: u32, cells: u32, words: usize, actions: usize) -> Opening
+    ensures { λ r. ⌜ ((s : State) (forms kept p : List ℕ) → startAt r s forms kept p ≡ startAfter tasks cells (map (actAt forms) (take actions kept)) (leaving s (take words p) (said outcome))) ⌝ }
+    ensures { λ r. ⌜ ((s : State) (p : List ℕ) → (said outcome ≡ Acted → New tasks cells s words p) → Opens r s actions p) ⌝ }
+{
+    match outcome {
+        Outcome::Refused(n) => Opening::NotOpened(n),
+        Outcome::Acted => Opening::Open {
+            tasks,
+            cells,
+            words,
+            actions,
+        },
+        // An open ends no call.
+        Outcome::Ended(_) => Opening::NotOpened(0),
+    }
+}
