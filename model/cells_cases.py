@@ -14,6 +14,9 @@ say that the refusal changed something.
 
 The state's counts of uses (change request 7) are those of a fresh reading, but
 for the block that z names, if there is one: its stored count is Z.
+
+After the cases stand the steps of calls whose record the caller keeps and lends:
+the record's line after each step, and what the step answers.
 """
 
 import re
@@ -155,8 +158,58 @@ def run(text):
     return "".join(printed(line) + "\n" for line in text.splitlines())
 
 
+def step_line(state, task, record):
+    """A step that is lent this record."""
+    before = record.words()
+    result = state.step(task)
+    if result is None:
+        said = "acted"
+    elif isinstance(result, cells.Refused):
+        assert record.words() == before, result
+        said = "refused %d" % result.number
+    else:
+        said = "ended %s, steps %d, won %d, lost %d" % (
+            "yes" if result.answer else "no", result.steps, result.won,
+            result.lost)
+    return "line %d: %s" % (record.line, said)
+
+
+def record_at(line, held=0, steps=0, won=0):
+    """Of a swap of 5 for 7 on cell 0."""
+    record = cells.Record()
+    record.kind = cells.SWAP
+    record.expected = 5
+    record.new = 7
+    record.line = line
+    record.held = held
+    record.steps = steps
+    record.won = won
+    return record
+
+
+def lent_steps():
+    """A swap from its begin to its end, a step after that, a step of a task
+    beyond the records, and line 4 where every block is used."""
+    state = cells.open_cells(2, 1, 5, [0] * 25, (5,))
+    state.begin_swap(0, 0, 5, 7)
+    record = state.tasks[0]
+    yield "begun at line %d" % record.line
+    first = record_at(record.line)
+    assert first.words() == record.words()
+    for _ in range(11):
+        yield step_line(state, 0, record)
+    same = "the record is as before"
+    yield step_line(state, 40, first)
+    yield same
+    fourth = record_at(4, held=2, steps=7, won=1)
+    full = cells.Cells.found(1, 2, 3, [0] * 15, [0, 1], 1, [fourth])
+    yield step_line(full, 0, fourth)
+    yield same
+
+
 def main():
     sys.stdout.write(run(sys.stdin.read()))
+    sys.stdout.writelines(line + "\n" for line in lent_steps())
 
 
 if __name__ == "__main__":

@@ -7,6 +7,9 @@
 // - t .. w, of the calls: task, cell, expected, new
 // - x: how many values open is given, or 0 to try begin a read, begin a swap, step and look; y: the second value
 // - z: a block, and Z: its stored count, 255 for any above; the other counts are those of a fresh reading
+// After the cases stand the steps of lent_step.
+mod lent_step;
+
 use cells::Looked;
 use cells::Outcome;
 use cells::Reply;
@@ -314,4 +317,5 @@ fn main() {
     let mut text = io::large_buffer();
     let n = io::read_full(0, &mut text);
     run(&text[..n]);
+    lent_step::run();
 }

@@ -47,23 +47,23 @@ use Rattle.cells.specs.Lent.{lent, steppedLent}
 use Rattle.lines.specs.declared.Record.{Record}
 use Rattle.questions.specs.declared.State.{State}
 use Rattle.cells.specs.declared.Reply.{Reply}
-use Rattle.lent_step.specs.declared.Kept.{Kept}
+use Rattle.cells_cases.specs.declared.lent_step.Kept.{Kept}
 use Rattle.lines.proofs.Record as R
 use Rattle.lines.proofs.Record.Laws as R′
 use Rattle.questions.proofs.State as S
 use Rattle.questions.proofs.State.Laws as S′
 use Rattle.cells.proofs.Reply as G
 use Rattle.cells.proofs.Reply.Laws as G′
-use Rattle.lent_step.proofs.Kept as P
-use Rattle.lent_step.proofs.Kept.Laws as P′
+use Rattle.cells_cases.proofs.lent_step.Kept as P
+use Rattle.cells_cases.proofs.lent_step.Kept.Laws as P′
 use Rattle.lent.proofs.step_lent as step-lent
 use Rattle.lent.proofs.step_lent.Symbol as step-lent-def
 use Rattle.lent.proofs.step_lent.Symbol.{name as #lent·step-lent}
 use Rattle.lent.proofs.step_lent.Met as step-lent-thm
-use Rattle.lent_step.proofs.lend.Key.{name as #lent_step·lend}
-use Rattle.lent_step.proofs.lend as lend
-use Rattle.lent_step.proofs.lend.Statement as stated
-use Rattle.lent_step.proofs.lend.Code as code
+use Rattle.cells_cases.proofs.lent_step.lend.Key.{name as #lent_step·lend}
+use Rattle.cells_cases.proofs.lent_step.lend as lend
+use Rattle.cells_cases.proofs.lent_step.lend.Statement as stated
+use Rattle.cells_cases.proofs.lent_step.lend.Code as code
 
 abbrev stayed : Stays (lend.ended .signature .params) (lend.ended .kept)
 stayed = (stay-none (λ _. S.the-row) yes, (gave-slice (0 ∷ []) tt (plain (λ _. u32)), (stay-none (λ _. u32) yes, (stay-none (λ _. R.the-row) yes, tt))))

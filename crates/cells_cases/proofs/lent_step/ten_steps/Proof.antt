@@ -2,8 +2,8 @@
 use mathlib.Core.Path.{_≡_}
 use lib.ListN.{length}
 use borrow.Author.Needs.{needs}
-use Rattle.lent_step.proofs.ten_steps.Statement.{statement}
-use Rattle.lent_step.proofs.ten_steps.Tie as tie
+use Rattle.cells_cases.proofs.lent_step.ten_steps.Statement.{statement}
+use Rattle.cells_cases.proofs.lent_step.ten_steps.Tie as tie
 
 abbrev Inv-loop : tie.InvT-loop
 Inv-loop pool₀ k₀ left₀ pool k left = length pool ≡ length pool₀

@@ -3,6 +3,7 @@ ghost use mathlib.Core.Path.{_≡_};
 ghost use Rattle.cells.specs.Answers.{said};
 ghost use Rattle.cells.specs.Open.{leaving};
 ghost use Rattle.cells.specs.Lent.{lent, steppedLent};
+use crate::print;
 use cells::Outcome;
 use cells::Reply;
 use lines::Answer;
@@ -51,11 +52,6 @@ fn same(a: Record, b: Record) -> bool {
 }
 
 // WHAT IS PRINTED
-
-fn print(text: &[u8], n: u32) {
-    io::write_all(1, text);
-    io::print_decimal(1, n as u64);
-}
 
 fn print_finished(f: Finished) {
     let answer = f.answer;
@@ -146,7 +142,7 @@ fn lack_a_block() {
     }
 }
 
-fn main() {
+pub fn run() {
     let mut pool: [u32; 25] = [0; 25];
     let values: [u32; 1] = [5];
     let opened = entries::open(unopened(), &mut pool, 2, 1, 5, &values);
