@@ -1,5 +1,6 @@
 // The exchanges of neighbouring actions, tried one after the other, for the call that is named.
 use buffers::record_space;
+use machine::actions::action_at;
 use machine::advance::advance;
 use nudge_calls::calls::Call;
 use nudge_calls::calls::Frame;
@@ -12,7 +13,6 @@ use nudge_calls::calls::note;
 use nudge_calls::printing::put_nudge;
 use nudge_calls::trial::copied;
 use nudge_calls::trial::try_exchange;
-use places::actions::action_at;
 use questions::State;
 use text::numbered::put_bad;
 ghost use mathlib.Core.Path.{_≡_};
