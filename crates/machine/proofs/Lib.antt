@@ -1,3 +1,4 @@
+mod Acting
 mod Quiet
 pub mod Advancing
 pub mod Turning

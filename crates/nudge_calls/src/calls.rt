@@ -2,9 +2,9 @@
 use cells::Action;
 use cells::Outcome;
 use lines::Answer;
+use machine::actions::action_at;
+use machine::actions::task_of;
 use machine::advance::advance;
-use places::actions::action_at;
-use places::actions::task_of;
 use questions::State;
 ghost use mathlib.Core.Path.{_≡_};
 ghost use mathlib.Core.List.{List, map};

@@ -1,6 +1,6 @@
 // Whether two actions touch the same cell.
 use cells::Action;
-use places::actions::task_of;
+use machine::actions::task_of;
 use pool::words::record_of;
 ghost use mathlib.Core.Path.{_≡_};
 ghost use Prim.Native.Nat.{_≤_};

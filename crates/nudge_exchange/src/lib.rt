@@ -1,5 +1,6 @@
 // The exchanges of neighbouring actions, tried one after the other, for the call that is named.
 use buffers::record_space;
+use machine::actions::action_at;
 use machine::advance::advance;
 use nudge_calls::calls::Call;
 use nudge_calls::calls::Frame;
@@ -13,7 +14,6 @@ use nudge_calls::printing::put_nudge;
 use nudge_calls::trial::copied;
 use nudge_calls::trial::try_exchange;
 use numbered::put_bad;
-use places::actions::action_at;
 use questions::State;
 ghost use mathlib.Core.Path.{_≡_};
 ghost use mathlib.Core.List.{map};

@@ -1,3 +1,2 @@
-mod Acting
 pub mod Placing
 pub mod Listed

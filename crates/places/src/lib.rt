@@ -1,7 +1,6 @@
-// What actions are done on: the forms that the reader kept, the tasks' records in their places of twelve words, and a busy task's own move.
+// The tasks' records in their places of twelve words, and a busy task's own move.
 use cells::Outcome;
 
-pub mod actions;
 pub mod moves;
 pub mod records;
 

@@ -2,9 +2,9 @@
 use crate::printing;
 use cells::Looked;
 use cells::Outcome;
+use machine::actions;
 use machine::advance::advance;
-use places::actions;
-use places::records::with_records;
+use machine::whole::with_records;
 use questions::State;
 ghost use mathlib.Core.Path.{_≡_};
 ghost use mathlib.Core.List.{map};

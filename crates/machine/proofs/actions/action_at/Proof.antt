@@ -1,8 +1,8 @@
-use Rattle.places.proofs.Acting as acting
+use Rattle.machine.proofs.Acting as acting
 use borrow.Author.Needs.{needs}
-use Rattle.places.proofs.actions.action_at.Statement.{statement}
-use Rattle.places.proofs.actions.action_at.Tie as tie
-use Rattle.places.proofs.actions.action_at.Reads as reads
+use Rattle.machine.proofs.actions.action_at.Statement.{statement}
+use Rattle.machine.proofs.actions.action_at.Tie as tie
+use Rattle.machine.proofs.actions.action_at.Reads as reads
 
 returns : tie.Need-returns
 returns c = let a = c .before .before .before .before .args in acting.reads a.forms.now a.f (c .before .match .keys1)

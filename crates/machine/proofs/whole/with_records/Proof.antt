@@ -7,10 +7,10 @@ use Rattle.lines.specs.declared.Record.{Record}
 use Rattle.lines.specs.Record.{idle}
 use Rattle.pool.specs.Words.{recordsOf}
 use Rattle.questions.specs.declared.State.{State}
 use Rattle.places.proofs.Placing.{records-length, one-more, all-copied}
 use borrow.Author.Needs.{needs}
-use Rattle.places.proofs.records.with_records.Statement.{statement}
-use Rattle.places.proofs.records.with_records.Tie as tie
+use Rattle.machine.proofs.whole.with_records.Statement.{statement}
+use Rattle.machine.proofs.whole.with_records.Tie as tie
 
 abbrev with : State → List Record → State
 with s l = record { tasks = s .tasks; cells = s .cells; blocks = s .blocks; last = s .last; current = s .current; records = l; counts = s .counts }
