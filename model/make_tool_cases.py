@@ -8,6 +8,8 @@ The layout is make_cases.py's; each tool's cases stand in a folder of data, and
 their names begin with it.  Everything is the same on every run.
 """
 
+from concurrent.futures import ProcessPoolExecutor
+
 import make_bus_cases
 import make_cases
 import make_moments_cases
@@ -34,22 +36,35 @@ def shaken_cases():
     return cases
 
 
-MAKERS = (make_moments_cases, make_nudge_cases, make_bus_cases,
-          make_shake_cases)
+# each tool's folder, who makes its cases, and who says what there is of them
+MAKERS = {
+    "session": (make_cases.make, None),
+    "moments": (make_moments_cases.make, make_moments_cases.say),
+    "nudge": (make_nudge_cases.make, make_nudge_cases.say),
+    "bus": (make_bus_cases.make, make_bus_cases.say),
+    "shake": (make_shake_cases.make, make_shake_cases.say),
+    "shaken": (shaken_cases, None),
+}
+
+
+def made(tool):
+    """One tool's files, what the model prints of them, and what is said."""
+    maker, say = MAKERS[tool]
+    cases = maker()
+    return tool, cases.files, cases.prints, say and say(cases)
 
 
 def make():
     """The tools' cases as those of one program, and what is said of them."""
-    moments, nudge, bus, shake = (maker.make() for maker in MAKERS)
     all_cases = make_cases.Cases(None)
-    for tool, cases in (("session", make_cases.make()), ("moments", moments),
-                        ("nudge", nudge), ("bus", bus), ("shake", shake),
-                        ("shaken", shaken_cases())):
-        for name, data in cases.files.items():
-            all_cases.files[tool + "/" + name] = data
-            all_cases.prints[tool + "/" + name] = cases.prints[name]
-    return all_cases, [maker.say(cases) for maker, cases in zip(
-        MAKERS, (moments, nudge, bus, shake))]
+    said = []
+    with ProcessPoolExecutor() as pool:
+        for tool, files, prints, line in pool.map(made, MAKERS):
+            for name, data in files.items():
+                all_cases.files[tool + "/" + name] = data
+                all_cases.prints[tool + "/" + name] = prints[name]
+            said += [line] if line else []
+    return all_cases, said
 
 
 def main():

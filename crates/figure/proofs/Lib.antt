@@ -11,7 +11,6 @@ pub mod Quietly
 pub mod Dated
 pub mod Simulation
 pub mod Reachable
-pub mod Ninth
 pub mod TracedCalls
 pub mod Attempts
 pub mod RunExamples

@@ -12,9 +12,9 @@ use counting::same_counts;
 use lines::Record;
 use lines::records::NO_VALUE;
 use questions::State;
-use questions::blocks_ok;
-use questions::cells_ok;
-use questions::tasks_ok;
+use sizes::blocks_ok;
+use sizes::cells_ok;
+use sizes::tasks_ok;
 
 fn is_read(r: Record) -> bool
     ensures { λ b. ⌜ b ≡ reads r ⌝ }

@@ -9,7 +9,7 @@ use lib.Dec.{eqb, leb}
 use borrow.Author.Tests.{le-leb, lt-leb, leb-true, leb-false, eqb-true, eqb-false}
 use Rattle.history.specs.History.{cellOf, Kind, aRead, aSwap, kindOf}
 use Rattle.history.specs.Moments.{Side, before, itself, after, Rule, R1, R2, C1, C2, C3, C4, C5, C6, Mark, changing, sideNumber, key, notAfter, insert, sort}
-use Rattle.moments_text.specs.Lines.{atLine, markLine, markLines}
+use Rattle.moments_lines.specs.Lines.{atLine, markLine, markLines}
 use Rattle.moments_notes.specs.Words.{ruleNumber, kindNumber, rank, joined, encode, insertWord, Small, AllSmall, Listed, sideAt, kindBit, ruleAt, wordLine, wordLines}
 use Rattle.moments_notes.proofs.Sorting.{insert-sorted}
 

@@ -6,7 +6,7 @@ use Prim.Native.Nat.{ℕ, _+_, _*_, _/_, _%_, _≤_, _<_}
 use lib.Dec.{eqb, leb, ltb}
 use Rattle.history.specs.History.{Op, cellOf, Kind, aRead, aSwap, kindOf, Response}
 use Rattle.history.specs.Moments.{Side, before, itself, after, Rule, R1, R2, C1, C2, C3, C4, C5, C6, Spot, Mark, changes, sideNumber, sort}
-use Rattle.moments_text.specs.Lines.{atLine}
+use Rattle.moments_lines.specs.Lines.{atLine}
 
 abbrev pub ruleNumber : Rule → ℕ
 ruleNumber R1 = 0

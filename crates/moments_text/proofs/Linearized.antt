@@ -16,7 +16,7 @@ use Rattle.refinement.proofs.Moments.{cell-moments-linearize, cell-moments-answ
 use Rattle.session_file.specs.Session.{Opening, session, verdict}
 use Rattle.session_text.specs.Printed.{blank, poolWords, openedBy}
 use Rattle.session_text.specs.Tools.{leftBy, toolAfterOpen, toolText, toolPrinted}
-use Rattle.moments_text.specs.Lines.{markLines}
+use Rattle.moments_lines.specs.Lines.{markLines}
 use Rattle.moments_text.specs.Printed.{momentsText, momentsPrinted}
 
 module _ (file : List ℕ) (o : Opening) (actions : List Action) (is-session : verdict file ≡ session o actions) (opens : openedBy o .outcome ≡ Acted) where

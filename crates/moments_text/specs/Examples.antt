@@ -15,7 +15,7 @@ use Rattle.cells.specs.Step.{ran, stepped}
 use Rattle.session_shape.specs.Shape.{fits, deeper, shapedAfter}
 use Rattle.session_file.specs.Session as reader
 use Rattle.session_text.specs.Tools.{toolAfterOpen, toolPrinted}
-use Rattle.moments_text.specs.Lines.{atLine, markLines}
+use Rattle.moments_lines.specs.Lines.{atLine, markLines}
 use Rattle.moments_text.specs.Printed.{momentsPrinted}
 
 abbrev pub Prints : List (String × String) → Type 0

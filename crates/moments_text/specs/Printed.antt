@@ -5,7 +5,7 @@ use Rattle.cells.specs.Machine.{Pool}
 use Rattle.history.specs.History.{Action}
 use Rattle.refinement.specs.Moments.{poolMoments}
 use Rattle.session_text.specs.Tools.{toolPrinted, toolWithin}
-use Rattle.moments_text.specs.Lines.{markLines}
+use Rattle.moments_lines.specs.Lines.{markLines}
 
 abbrev pub momentsText : (tasks : ℕ) → Pool → List Action → List ℕ
 momentsText n x l = markLines (poolMoments n x l)

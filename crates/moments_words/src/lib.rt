@@ -9,7 +9,7 @@ ghost use Rattle.lines.specs.Record.{opOf};
 ghost use Rattle.text.specs.Append.{Appended};
 ghost use Rattle.text.specs.Bytes.{decimal};
 ghost use Rattle.session_text.specs.Lines.{kindWord};
-ghost use Rattle.moments_text.specs.Lines.{sideWord, ruleWord};
+ghost use Rattle.moments_lines.specs.Lines.{sideWord, ruleWord};
 ghost use Rattle.moments_notes.specs.Words.{wordWith, insertWord, SortedWords, sideAt, kindBit, ruleAt, wordLine, wordLines};
 use lines::Answer;
 use lines::Record;

@@ -10,8 +10,8 @@ use consensus::OnceReply;
 use consensus::OnceState;
 use consensus::Progress;
 use lines::records::NO_VALUE;
-use questions::cells_ok;
-use questions::tasks_ok;
+use sizes::cells_ok;
+use sizes::tasks_ok;
 
 // The number of the first question that is answered no, or 0.
 fn open_refusal(tasks: u32, cells: u32) -> u32

@@ -11,8 +11,8 @@ ghost use Rattle.consensus.specs.Questions.{isIdleOffer, offerFit, onceFit};
 use consensus::Offer;
 use consensus::OnceState;
 use lines::records::NO_VALUE;
-use questions::cells_ok;
-use questions::tasks_ok;
+use sizes::cells_ok;
+use sizes::tasks_ok;
 
 // WHEN A STATE IS FIT
 

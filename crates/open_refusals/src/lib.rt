@@ -3,9 +3,9 @@ ghost use mathlib.Core.Path.{_≡_};
 ghost use mathlib.Core.Option.{Option·getD};
 ghost use Rattle.questions.specs.Questions.{refusal, hasNone, openQuestions};
 use lines::records::NO_VALUE;
-use questions::blocks_ok;
-use questions::cells_ok;
-use questions::tasks_ok;
+use sizes::blocks_ok;
+use sizes::cells_ok;
+use sizes::tasks_ok;
 
 fn has_none(values: &[u32]) -> bool
     ensures { λ b. ⌜ b ≡ hasNone (now (values .entry)) ⌝ }

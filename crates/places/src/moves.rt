@@ -3,7 +3,7 @@ use crate::Advanced;
 use blocks::Found;
 use lines::Record;
 use pool::words::record_of;
-use turns::counts::recount;
+use recounting::recount;
 use turns::make_move;
 ghost use mathlib.Core.Path.{_≡_};
 ghost use mathlib.Core.Bool.{false};

@@ -16,7 +16,7 @@ use Rattle.figure_cell.specs.Paths.{reached, count, steps}
 use Rattle.figure.specs.Traces.{Traced, Trace, noTrace, Counted, finishedReport, tracedReport, figureTraces}
 use Rattle.figure_cell.proofs.LineLaws.{on-paths}
 use Rattle.figure.proofs.Paths.{calls-on-paths, row}
-use Rattle.figure.proofs.Ninth.{never-ninth, own-path, one-of-twelve}
+use Rattle.refinement.proofs.Ninth.{never-ninth, own-path, one-of-twelve}
 use Rattle.figure.proofs.TracedCalls.{same-calls}
 use Rattle.cells.specs.Machine.{pool}
 use Rattle.refinement.specs.Terms.{start}

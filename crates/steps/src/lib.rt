@@ -9,8 +9,8 @@ use cells::Reply;
 use fitness::is_fit;
 use lines::records;
 use questions::State;
+use recounting::recount;
 use refusals::step_refusal;
-use turns::counts::recount;
 use turns::take_turn;
 
 // A busy task's next line.

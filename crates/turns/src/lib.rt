@@ -9,9 +9,6 @@ ghost use Rattle.pool.specs.Words.{recordOf};
 ghost use Rattle.pool.specs.LineRun.{followed, Within};
 ghost use Rattle.cells.specs.Answers.{said};
 ghost use Rattle.cells.specs.Turn.{turned, ending, turn, Ready};
-
-pub mod counts;
-
 use blocks::Found;
 use cells::Outcome;
 use lines::Finished;

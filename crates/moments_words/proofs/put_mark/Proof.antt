@@ -1,7 +1,7 @@
 use borrow.Author.Needs.{needs}
 use native.Mathlib.Omega.{arith}
 use Rattle.text.proofs.Appending.{then}
-use Rattle.moments_text.specs.Lines.{atLine}
+use Rattle.moments_lines.specs.Lines.{atLine}
 use Rattle.moments_words.proofs.put_mark.Statement.{statement}
 use Rattle.moments_words.proofs.put_mark.Tie as tie
 

@@ -3,8 +3,8 @@ use mathlib.Core.Path.{_∙_}
 use denote.Ref.{now}
 use Rattle.cells.specs.Counts.{recounted}
 use Rattle.cells.proofs.Recount.{old-named, new-room, block-names}
-use Rattle.turns.proofs.counts.recount.Statement.{statement}
-use Rattle.turns.proofs.counts.recount.Tie as tie
+use Rattle.recounting.proofs.recount.Statement.{statement}
+use Rattle.recounting.proofs.recount.Tie as tie
 
 release-requires : tie.Need-release-requires
 release-requires c κs = let a = c .before .args in old-named (now (a .counts)) (a .r) (a .q) (a .c) (a .d) (c .before .pre)

@@ -3,8 +3,8 @@ use mathlib.Core.Path.{sym, _∙_}
 use denote.Ref.{now}
 use borrow.Author.Needs.{needs}
 use Rattle.cells.proofs.Recount.{held-counted, taken-counted}
-use Rattle.turns.proofs.counts.release.Statement.{statement}
-use Rattle.turns.proofs.counts.release.Tie as tie
+use Rattle.recounting.proofs.release.Statement.{statement}
+use Rattle.recounting.proofs.release.Tie as tie
 
 discount-if-requires : tie.Need-discount-if-requires
 discount-if-requires c κs = λ e. let a = c .before .before .args in held-counted (now (a .counts)) (a .r) (c .before .before .pre) (sym (c .is-holding .ensures) ∙ e)

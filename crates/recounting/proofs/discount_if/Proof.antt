@@ -1,6 +1,6 @@
 -- The test decides.
-use Rattle.turns.proofs.counts.discount_if.Statement.{statement}
-use Rattle.turns.proofs.counts.discount_if.Tie as tie
+use Rattle.recounting.proofs.discount_if.Statement.{statement}
+use Rattle.recounting.proofs.discount_if.Tie as tie
 
 discount-requires : tie.Need-discount-requires
 discount-requires c κs = c .before .before .pre (c .before .if1 .taken)

@@ -3,8 +3,8 @@ use mathlib.Core.Path.{sym, _∙_}
 use lib.Seq.{getD-set-other}
 use denote.Ref.{now}
 use borrow.Author.Tests.{eq-eqb, ne-eqb}
-use Rattle.turns.proofs.counts.rename.Statement.{statement}
-use Rattle.turns.proofs.counts.rename.Tie as tie
+use Rattle.recounting.proofs.rename.Statement.{statement}
+use Rattle.recounting.proofs.rename.Tie as tie
 
 discount-requires : tie.Need-discount-requires
 discount-requires c κs = let h = c .before .before .pre in (h .0, h .1)

@@ -1,0 +1,1 @@
+// The line of a call that moments prints: definitions only.
