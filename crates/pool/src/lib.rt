@@ -1,5 +1,5 @@
 // The lent pool of words, and what follows a line of figure 2 run on it. A task's record stands in its place as twelve words.
-pub mod after;
+pub mod follows;
 pub mod memory;
 pub mod words;
 

@@ -11,7 +11,7 @@ use filling::fill_line;
 use installing::install_line;
 use pool::Next;
 use pool::Ran;
-use pool::after::leave;
+use pool::follows::leave;
 use pool::words::LINE;
 use reading::read_line;
 use swapping::swap_line;

@@ -1,4 +1,5 @@
 use borrow.Author.Needs.{needs}
+use mathlib.Core.Path.{_∙_}
 use Rattle.blocks.specs.Blocks.{foundOf}
 use Rattle.pool.specs.Memory.{touched}
 use Rattle.pool.proofs.LineRuns.{by-taking}
@@ -17,5 +18,5 @@ allocate-spec =
     (λ c κs. search needs)
     (λ c κs. search needs)
     (λ c. search needs)
-    (λ c. rw (c .leave .ensures) (c .before .take .ensures .0, λ w t e g. by-taking (c .before .before .before .before .before .before .before .before .before .before .args .pool .now) t w (c .before .before .before .before .before .before .before .before .before .before .args .current) (c .before .before .before .before .before .before .before .before .before .before .args .last) (foundOf (c .before .before .before .before .before .before .before .before .before .before .args .free)) (touched _ _ _ _) e g (rw (c .before .before .before .before .before .before .before .free .given .1, c .before .before .before .before .store .ensures)) (c .before .take .ensures .1 w e)))
-    (λ c. rw (c .leave2 .ensures) (c .before .take2 .ensures .0, λ w t e g. by-taking (c .before .before .before .before .before .args .pool .now) t w (c .before .before .before .before .before .args .current) (c .before .before .before .before .before .args .last) (foundOf (c .before .before .before .before .before .args .free)) (touched _ _ _ _) e g (rw (c .before .before .enum-told .given .1)) (c .before .take2 .ensures .1 w e))))
+    (λ c. (c .leave .ensures .0 (c .before .take .ensures .0), λ w t e g. c .leave .ensures .1 _ _ ∙ by-taking (c .before .before .before .before .before .before .before .before .before .before .args .pool .now) t w (c .before .before .before .before .before .before .before .before .before .before .args .current) (c .before .before .before .before .before .before .before .before .before .before .args .last) (foundOf (c .before .before .before .before .before .before .before .before .before .before .args .free)) (touched _ _ _ _) e g (rw (c .before .before .before .before .before .before .before .free .given .1, c .before .before .before .before .store .ensures)) (c .before .take .ensures .1 w e)))
+    (λ c. (c .leave2 .ensures .0 (c .before .take2 .ensures .0), λ w t e g. c .leave2 .ensures .1 _ _ ∙ by-taking (c .before .before .before .before .before .args .pool .now) t w (c .before .before .before .before .before .args .current) (c .before .before .before .before .before .args .last) (foundOf (c .before .before .before .before .before .args .free)) (touched _ _ _ _) e g (rw (c .before .before .enum-told .given .1)) (c .before .take2 .ensures .1 w e))))

@@ -1,5 +1,5 @@
 use borrow.Author.Needs.{needs}
-use mathlib.Core.Path.{_≡_, refl}
+use mathlib.Core.Path.{_∙_, _≡_, refl}
 use native.Mathlib.Omega.{arith}
 use lib.ListN.{getD}
 use Rattle.lines.specs.declared.Field.the-variants.{Y, C, D}
@@ -35,10 +35,10 @@ fill-line-spec =
     (λ c. search needs)
     (λ c. (c .before .before .allocate .ensures .0, λ t. c .before .before .allocate .ensures .1 (c .before .before .before .before .before .before .before .before .before .args .rec .now) t (c .before .before .before .before .before .before .before .before .before .pre .0 .size) (c .before .before .before .before .match .keys1)))
     (λ c. search needs)
-    (λ c. let w = c .before .before .before .before .before .before .before .before .before .before .before .args .rec .now in let r = recordOf w in let p = c .before .before .before .before .before .before .before .before .before .before .before .args .pool .now in rw (c .leave .ensures) (c .before .goto .ensures .0, λ t. by-store p t r (c .before .before .before .before .before .before .before .before .before .before .before .args .current) (c .before .before .before .before .before .before .before .before .before .before .before .args .last) (foundOf (c .before .before .before .before .before .before .before .before .before .before .before .args .free)) l5 (line-at r 5 (c .before .before .before .before .before .before .match .keys2)) Y refl (c .before .before .before .before .store .ensures) (c .before .goto .ensures .1 w (c .before .before .before .before .before .before .before .before .before .before .before .pre .0 .size))))
+    (λ c. let w = c .before .before .before .before .before .before .before .before .before .before .before .args .rec .now in let r = recordOf w in let p = c .before .before .before .before .before .before .before .before .before .before .before .args .pool .now in (c .leave .ensures .0 (c .before .goto .ensures .0), λ t. c .leave .ensures .1 _ _ ∙ by-store p t r (c .before .before .before .before .before .before .before .before .before .before .before .args .current) (c .before .before .before .before .before .before .before .before .before .before .before .args .last) (foundOf (c .before .before .before .before .before .before .before .before .before .before .before .args .free)) l5 (line-at r 5 (c .before .before .before .before .before .before .match .keys2)) Y refl (c .before .before .before .before .store .ensures) (c .before .goto .ensures .1 w (c .before .before .before .before .before .before .before .before .before .before .before .pre .0 .size))))
     (λ c. search needs)
-    (λ c. let w = c .before .before .before .before .before .before .before .before .before .before .before .args .rec .now in let r = recordOf w in let p = c .before .before .before .before .before .before .before .before .before .before .before .args .pool .now in rw (c .leave2 .ensures) (c .before .goto2 .ensures .0, λ t. by-store p t r (c .before .before .before .before .before .before .before .before .before .before .before .args .current) (c .before .before .before .before .before .before .before .before .before .before .before .args .last) (foundOf (c .before .before .before .before .before .before .before .before .before .before .before .args .free)) l6 (line-at r 6 (c .before .before .before .before .before .before .match .keys3)) C refl (c .before .before .before .before .store2 .ensures) (c .before .goto2 .ensures .1 w (c .before .before .before .before .before .before .before .before .before .before .before .pre .0 .size))))
+    (λ c. let w = c .before .before .before .before .before .before .before .before .before .before .before .args .rec .now in let r = recordOf w in let p = c .before .before .before .before .before .before .before .before .before .before .before .args .pool .now in (c .leave2 .ensures .0 (c .before .goto2 .ensures .0), λ t. c .leave2 .ensures .1 _ _ ∙ by-store p t r (c .before .before .before .before .before .before .before .before .before .before .before .args .current) (c .before .before .before .before .before .before .before .before .before .before .before .args .last) (foundOf (c .before .before .before .before .before .before .before .before .before .before .before .args .free)) l6 (line-at r 6 (c .before .before .before .before .before .before .match .keys3)) C refl (c .before .before .before .before .store2 .ensures) (c .before .goto2 .ensures .1 w (c .before .before .before .before .before .before .before .before .before .before .before .pre .0 .size))))
     (λ c. search needs)
-    (λ c. let w = c .before .before .before .before .before .before .before .before .before .before .before .args .rec .now in let r = recordOf w in let p = c .before .before .before .before .before .before .before .before .before .before .before .args .pool .now in rw (c .leave3 .ensures) (c .before .goto3 .ensures .0, λ t. by-store p t r (c .before .before .before .before .before .before .before .before .before .before .before .args .current) (c .before .before .before .before .before .before .before .before .before .before .before .args .last) (foundOf (c .before .before .before .before .before .before .before .before .before .before .before .args .free)) l7 (line-at r 7 (c .before .before .before .before .before .before .match .keys4)) D refl (c .before .before .before .before .store3 .ensures) (c .before .goto3 .ensures .1 w (c .before .before .before .before .before .before .before .before .before .before .before .pre .0 .size))))
+    (λ c. let w = c .before .before .before .before .before .before .before .before .before .before .before .args .rec .now in let r = recordOf w in let p = c .before .before .before .before .before .before .before .before .before .before .before .args .pool .now in (c .leave3 .ensures .0 (c .before .goto3 .ensures .0), λ t. c .leave3 .ensures .1 _ _ ∙ by-store p t r (c .before .before .before .before .before .before .before .before .before .before .before .args .current) (c .before .before .before .before .before .before .before .before .before .before .before .args .last) (foundOf (c .before .before .before .before .before .before .before .before .before .before .before .args .free)) l7 (line-at r 7 (c .before .before .before .before .before .before .match .keys4)) D refl (c .before .before .before .before .store3 .ensures) (c .before .goto3 .ensures .1 w (c .before .before .before .before .before .before .before .before .before .before .before .pre .0 .size))))
     (λ c. search needs)
-    (λ c. let w = c .before .before .before .before .before .before .before .before .before .before .before .before .args .rec .now in let r = recordOf w in let p = c .before .before .before .before .before .before .before .before .before .before .before .before .args .pool .now in let e : getD w 0 0 ≡ 8 = omega (arith, c .before .before .before .before .before .before .before .before .before .before .before .before .pre .2, c .before .before .before .before .before .before .before .before .before .before .before .before .pre .3, c .before .before .before .before .before .before .before .match .rest) in rw (c .leave4 .ensures) (c .before .goto4 .ensures .0, λ t. by-store p t r (c .before .before .before .before .before .before .before .before .before .before .before .before .args .current) (c .before .before .before .before .before .before .before .before .before .before .before .before .args .last) (foundOf (c .before .before .before .before .before .before .before .before .before .before .before .before .args .free)) l8 (line-at r 8 e) Field.V refl (c .before .before .before .before .store4 .ensures) (c .before .goto4 .ensures .1 w (c .before .before .before .before .before .before .before .before .before .before .before .before .pre .0 .size)))))
+    (λ c. let w = c .before .before .before .before .before .before .before .before .before .before .before .before .args .rec .now in let r = recordOf w in let p = c .before .before .before .before .before .before .before .before .before .before .before .before .args .pool .now in let e : getD w 0 0 ≡ 8 = omega (arith, c .before .before .before .before .before .before .before .before .before .before .before .before .pre .2, c .before .before .before .before .before .before .before .before .before .before .before .before .pre .3, c .before .before .before .before .before .before .before .match .rest) in (c .leave4 .ensures .0 (c .before .goto4 .ensures .0), λ t. c .leave4 .ensures .1 _ _ ∙ by-store p t r (c .before .before .before .before .before .before .before .before .before .before .before .before .args .current) (c .before .before .before .before .before .before .before .before .before .before .before .before .args .last) (foundOf (c .before .before .before .before .before .before .before .before .before .before .before .before .args .free)) l8 (line-at r 8 e) Field.V refl (c .before .before .before .before .store4 .ensures) (c .before .goto4 .ensures .1 w (c .before .before .before .before .before .before .before .before .before .before .before .before .pre .0 .size)))))

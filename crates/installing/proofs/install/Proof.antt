@@ -1,5 +1,5 @@
 use borrow.Author.Needs.{needs}
-use mathlib.Core.Path.{_≡_, refl}
+use mathlib.Core.Path.{_∙_, _≡_, refl}
 use borrow.Author.Tests.{eq-eqb, ne-eqb}
 use Rattle.lines.specs.declared.Answer.the-variants as code
 use Rattle.lines.specs.declared.Access.the-variants.{InstallCas}
@@ -24,5 +24,5 @@ install-spec =
     (λ c κs. search needs)
     (λ c. search needs)
     (λ c κs. search needs)
-    (λ c. let w = c .before .before .before .before .before .before .before .args .rec .now in let r = recordOf w in rw (c .leave .ensures) (tt, λ p t f. by-access p t r (c .before .before .before .before .before .before .before .args .current) (c .before .before .before .before .before .before .before .args .last) f l30 (line-at r 30 (c .before .before .before .before .before .before .before .pre .2)) (InstallCas (r .cell) (r .held) (r .taken)) (touched p (r .taken) (c .before .before .before .before .before .before .before .args .last) 1) refl (rw (eq-eqb _ _ (c .before .before .if1 .taken))) (ends-won code.Yes w)))
-    (λ c. let w = c .before .before .before .before .before .before .args .rec .now in let r = recordOf w in rw (c .leave2 .ensures) (tt, λ p t f. by-access p t r (c .before .before .before .before .before .before .args .current) (c .before .before .before .before .before .before .args .last) f l30 (line-at r 30 (c .before .before .before .before .before .before .pre .2)) (InstallCas (r .cell) (r .held) (r .taken)) (touched p (c .before .before .before .before .before .before .args .current) (c .before .before .before .before .before .before .args .last) 0) refl (rw (ne-eqb _ _ (c .before .if1 .left))) (ends-lost code.No w))))
+    (λ c. let w = c .before .before .before .before .before .before .before .args .rec .now in let r = recordOf w in (c .leave .ensures .0 tt, λ p t f. c .leave .ensures .1 _ _ ∙ by-access p t r (c .before .before .before .before .before .before .before .args .current) (c .before .before .before .before .before .before .before .args .last) f l30 (line-at r 30 (c .before .before .before .before .before .before .before .pre .2)) (InstallCas (r .cell) (r .held) (r .taken)) (touched p (r .taken) (c .before .before .before .before .before .before .before .args .last) 1) refl (rw (eq-eqb _ _ (c .before .before .if1 .taken))) (ends-won code.Yes w)))
+    (λ c. let w = c .before .before .before .before .before .before .args .rec .now in let r = recordOf w in (c .leave2 .ensures .0 tt, λ p t f. c .leave2 .ensures .1 _ _ ∙ by-access p t r (c .before .before .before .before .before .before .args .current) (c .before .before .before .before .before .before .args .last) f l30 (line-at r 30 (c .before .before .before .before .before .before .pre .2)) (InstallCas (r .cell) (r .held) (r .taken)) (touched p (c .before .before .before .before .before .before .args .current) (c .before .before .before .before .before .before .args .last) 0) refl (rw (ne-eqb _ _ (c .before .if1 .left))) (ends-lost code.No w))))

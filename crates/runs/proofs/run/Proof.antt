@@ -1,4 +1,5 @@
 use borrow.Author.Needs.{needs}
+use mathlib.Core.Path.{_∙_}
 use lib.Dec.{lit<}
 use Rattle.blocks.specs.Blocks.{foundOf}
 use Rattle.pool.proofs.LineRuns.{stays}
@@ -19,13 +20,13 @@ run-spec =
     (λ c κs. search needs)
     (λ c κs. (c .before .before .before .before .before .before .before .before .before .pre .0, search needs, search needs))
     (λ c. search needs)
-    (λ c. let x = c .before .before .before .decide-line .ensures (c .before .before .before .before .before .before .before .before .before .before .before .args .task) (c .before .before .before .before .before .before .before .before .before .before .before .args .current) in rw (c .leave .ensures) (x .0, x .1 (c .before .before .before .before .before .before .before .before .before .before .before .args .last) (foundOf (c .before .before .before .before .before .before .before .before .before .before .before .args .free))))
+    (λ c. let x = c .before .before .before .decide-line .ensures (c .before .before .before .before .before .before .before .before .before .before .before .args .task) (c .before .before .before .before .before .before .before .before .before .before .before .args .current) in (c .leave .ensures .0 (x .0), c .leave .ensures .1 _ _ ∙ x .1 (c .before .before .before .before .before .before .before .before .before .before .before .args .last) (foundOf (c .before .before .before .before .before .before .before .before .before .before .before .args .free))))
     (λ c. search needs)
     (λ c. (c .before .before .fill-line .ensures .0, c .before .before .fill-line .ensures .1 (c .before .before .before .before .before .before .before .before .before .before .before .args .task)))
     (λ c. search needs)
-    (λ c. let x = c .before .read-line .ensures (c .before .before .before .before .before .before .before .before .before .before .before .args .task) in rw (c .leave2 .ensures) (x .0, x .1 (c .before .before .before .before .before .before .before .before .before .before .before .args .last) (foundOf (c .before .before .before .before .before .before .before .before .before .before .before .args .free))))
+    (λ c. let x = c .before .read-line .ensures (c .before .before .before .before .before .before .before .before .before .before .before .args .task) in (c .leave2 .ensures .0 (x .0), c .leave2 .ensures .1 _ _ ∙ x .1 (c .before .before .before .before .before .before .before .before .before .before .before .args .last) (foundOf (c .before .before .before .before .before .before .before .before .before .before .before .args .free))))
     (λ c. search needs)
-    (λ c. let x = c .before .before .before .swap-line .ensures in rw (c .leave3 .ensures) (x .0, x .1 (c .before .before .before .before .before .before .before .before .before .before .before .args .last) (foundOf (c .before .before .before .before .before .before .before .before .before .before .before .args .free))))
+    (λ c. let x = c .before .before .before .swap-line .ensures in (c .leave3 .ensures .0 (x .0), c .leave3 .ensures .1 _ _ ∙ x .1 (c .before .before .before .before .before .before .before .before .before .before .before .args .last) (foundOf (c .before .before .before .before .before .before .before .before .before .before .before .args .free))))
     (λ c. search needs)
     (λ c. (c .before .before .install-line .ensures .0, c .before .before .install-line .ensures .1 (c .before .before .before .before .before .before .before .before .before .before .before .before .args .task) (foundOf (c .before .before .before .before .before .before .before .before .before .before .before .before .args .free))))
     (λ c. (lit< tt, stays (c .before .before .before .before .before .args .pool .now) (c .before .before .before .before .before .args .task) (c .before .before .before .before .before .args .rec .now) (c .before .before .before .before .before .args .current) (c .before .before .before .before .before .args .last) (foundOf (c .before .before .before .before .before .args .free)) (c .before .before .before .before .before .pre .0 .size) (search needs)))

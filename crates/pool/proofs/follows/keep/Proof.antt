@@ -1,7 +1,7 @@
 use lib.Dec.{lit<}
 use Rattle.pool.proofs.Twelve.{loads}
-use Rattle.pool.proofs.after.keep.Statement.{statement}
-use Rattle.pool.proofs.after.keep.Tie as tie
+use Rattle.pool.proofs.follows.keep.Statement.{statement}
+use Rattle.pool.proofs.follows.keep.Tie as tie
 
 pub keep-spec : {M : Type 1} → statement M
 keep-spec =

@@ -1,7 +1,7 @@
 use lib.Dec.{lit<}
 use Rattle.pool.proofs.Twelve.{holds}
-use Rattle.pool.proofs.after.hold.Statement.{statement}
-use Rattle.pool.proofs.after.hold.Tie as tie
+use Rattle.pool.proofs.follows.hold.Statement.{statement}
+use Rattle.pool.proofs.follows.hold.Tie as tie
 
 pub hold-spec : {M : Type 1} → statement M
 hold-spec =

@@ -6,7 +6,7 @@ ghost use lib.ListN.{length};
 ghost use Rattle.lines.specs.Answers.{answerOf as «responseOf»};
 ghost use Rattle.lines.specs.Lines.{goto as «gotoOf», decide as «decideOf», hold as «holdOf», load as «loadOf», take as «takeOf», answer as «answerOf», readAnswer};
 ghost use Rattle.pool.specs.Words.{recordOf};
-ghost use Rattle.pool.specs.LineRun.{once, followed, Within};
+ghost use Rattle.pool.specs.LineRun.{once, left, followed, Within};
 use crate::Next;
 use crate::Ran;
 use crate::words::EXPECTED;
@@ -75,7 +75,7 @@ pub fn answer_read(rec: &[u32], v: u32) -> Next
 }
 
 pub fn leave(current: u32, last: u32, next: Next) -> Ran
-    ensures { λ r. ⌜ r ≡ record { next = next; current = current; last = last } ⌝ }
+    ensures { λ r. ⌜ (Within next → Within (r .next)) × ((p w : List ℕ) → left p (r .current) (r .last) (followed w (r .next)) ≡ left p current last (followed w next)) ⌝ }
 {
     Ran {
         next,

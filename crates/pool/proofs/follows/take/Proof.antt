@@ -1,7 +1,7 @@
 use lib.Dec.{lit<}
 use Rattle.pool.proofs.Twelve.{takes}
-use Rattle.pool.proofs.after.take.Statement.{statement}
-use Rattle.pool.proofs.after.take.Tie as tie
+use Rattle.pool.proofs.follows.take.Statement.{statement}
+use Rattle.pool.proofs.follows.take.Tie as tie
 
 pub take-spec : {M : Type 1} → statement M
 take-spec =

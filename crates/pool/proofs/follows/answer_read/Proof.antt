@@ -1,7 +1,7 @@
 use borrow.Author.Needs.{needs}
 use borrow.Author.Tests.{eq-eqb, ne-eqb}
-use Rattle.pool.proofs.after.answer_read.Statement.{statement}
-use Rattle.pool.proofs.after.answer_read.Tie as tie
+use Rattle.pool.proofs.follows.answer_read.Statement.{statement}
+use Rattle.pool.proofs.follows.answer_read.Tie as tie
 
 pub answer-read-spec : {M : Type 1} → statement M
 answer-read-spec =

@@ -1,7 +1,7 @@
 use lib.Dec.{lit<}
 use Rattle.pool.proofs.Twelve.{decides}
-use Rattle.pool.proofs.after.decide.Statement.{statement}
-use Rattle.pool.proofs.after.decide.Tie as tie
+use Rattle.pool.proofs.follows.decide.Statement.{statement}
+use Rattle.pool.proofs.follows.decide.Tie as tie
 
 pub decide-spec : {M : Type 1} → statement M
 decide-spec =

@@ -1,7 +1,7 @@
 use lib.Dec.{lit<}
 use Rattle.pool.proofs.Twelve.{goes}
-use Rattle.pool.proofs.after.goto.Statement.{statement}
-use Rattle.pool.proofs.after.goto.Tie as tie
+use Rattle.pool.proofs.follows.goto.Statement.{statement}
+use Rattle.pool.proofs.follows.goto.Tie as tie
 
 pub goto-spec : {M : Type 1} → statement M
 goto-spec =

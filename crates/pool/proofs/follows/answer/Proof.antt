@@ -1,7 +1,7 @@
 use borrow.Author.Needs.{needs}
 use Rattle.pool.proofs.Twelve.{ends}
-use Rattle.pool.proofs.after.answer.Statement.{statement}
-use Rattle.pool.proofs.after.answer.Tie as tie
+use Rattle.pool.proofs.follows.answer.Statement.{statement}
+use Rattle.pool.proofs.follows.answer.Tie as tie
 
 pub answer-spec : {M : Type 1} → statement M
 answer-spec =
