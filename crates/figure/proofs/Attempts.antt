@@ -13,13 +13,14 @@ use Rattle.lines.specs.declared.Access.{Access}
 use Rattle.lines.specs.declared.Access.the-variants.{DecideCas, InstallCas}
 use Rattle.lines.specs.Record.{noValue}
 use Rattle.lines.specs.Lines.{Line, for13, for25, for28, l2, l30, lineOf, accessAt, accessOf, hardware, found, attempt}
+use Rattle.lines.proofs.Cas.{decide-value, install-value}
 use Rattle.figure_cell.proofs.Tries.{none-tried}
 use Rattle.questions.specs.Questions.{lineFit}
 use Rattle.questions.proofs.Numbers.{number, at-number}
 use Rattle.cells.specs.Events.{tried}
 use Rattle.history.specs.History.{success, failure, untried, Action, run}
 use Rattle.history.proofs.Basics.{either}
-use Rattle.figure_cell.specs.Memory.{Cell, wordOf, store, install, accessed}
+use Rattle.figure_cell.specs.Memory.{Cell, wordOf, cellKeeping}
 use Rattle.figure.specs.Figure.{World, figureAnswers, triedIn, opening, figure}
 use Rattle.figure.specs.Moments.{sight, sees}
 use Rattle.figure.specs.Attempts.{judged}
@@ -78,10 +79,6 @@ module _ (records : ℕ → Record) (current : ℕ → ℕ) (words : ℕ → ℕ
 
 -- THE FIGURE
 
-value-of : (c : Bool) (m m′ : Cell) → cond c (accessed m 1) (accessed m′ 0) .value ≡ cond c 1 0
-value-of true m m′ = refl
-value-of false m m′ = refl
-
 figure-attempts : (w : World) → AllOnPath w → (task : ℕ) → triedIn w task (w .records task) ≡ judged (sees w task)
 figure-attempts w p t = go (p t .1)
   where
@@ -92,7 +89,7 @@ figure-attempts w p t = go (p t .1)
     go (inl e) = subst (λ (f : Record). tried t f (figureAnswers w f) ≡ judged (sight (λ u. f) (λ k. w .cell k .current) (λ k. wordOf (w .cell k)) t)) (sym (e .0)) refl
     go (inr (l, o)) =
         judge (w .records) (λ k. w .cell k .current) (λ k. wordOf (w .cell k)) t (figureAnswers w (w .records t)) (o .line)
-        (λ b n. value-of (eqb (m .d b) noValue) (store m b D n) m) (λ k b n. value-of (eqb (m .current) b) (install m n) m)
+        (decide-value cellKeeping m (λ a. a .value) (λ c v. refl)) (install-value cellKeeping m (λ a. a .value) (λ c v. refl))
 
 -- A step's attempt is won exactly if the memory before it had D none, at line 2, or the held block current, at line 30; neither is guessed.
 pub attempts-judged : (tasks cells : ℕ) (values : List ℕ) (actions : List Action) (task : ℕ) → let now = run figure (opening tasks cells values) actions in

@@ -1,12 +1,9 @@
 -- The memory of figure 2 with a new block each time. The cells share nothing: each numbers its own blocks.
-use mathlib.Core.Bool.{cond}
 use Prim.Native.Nat.{ℕ, suc}
-use lib.Dec.{eqb}
 use Rattle.lines.specs.declared.Field.{Field}
 use Rattle.lines.specs.declared.Field.the-variants.{X, Y, C, D}
 use Rattle.lines.specs.declared.Access.{Access}
-use Rattle.lines.specs.declared.Access.the-variants.{LoadCell, Load, Store, DecideCas, InstallCas, Allocate, Nothing}
-use Rattle.lines.specs.Record.{noValue}
+use Rattle.lines.specs.Memory.{Keeping, accessIn}
 use Rattle.pool.specs.Pool.{noTask}
 use Rattle.history.specs.Basics.{upd}
 
@@ -49,11 +46,15 @@ pub record Accessed : Type 0 where
 abbrev pub accessed : Cell → ℕ → Accessed
 accessed m n = record { cell = m; value = n }
 
+abbrev pub cellKeeping : Keeping Cell Accessed
+cellKeeping = record {
+  named = λ m. m .current;
+  word = wordOf;
+  store = store;
+  install = install;
+  allocate = λ m. accessed (allocate m) (m .next);
+  give = accessed;
+}
+
 abbrev pub accessCell : Cell → Access → Accessed
-accessCell m (LoadCell k) = accessed m (m .current)
-accessCell m (Load b f) = accessed m (wordOf m b f)
-accessCell m (Store b f n) = accessed (store m b f n) 0
-accessCell m (DecideCas b n) = cond (eqb (m .d b) noValue) (accessed (store m b D n) 1) (accessed m 0)
-accessCell m (InstallCas k b n) = cond (eqb (m .current) b) (accessed (install m n) 1) (accessed m 0)
-accessCell m Allocate = accessed (allocate m) (m .next)
-accessCell m Nothing = accessed m 0
+accessCell m a = accessIn cellKeeping m a

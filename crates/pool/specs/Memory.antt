@@ -1,14 +1,13 @@
--- What an access does to memory, given numbers only: the block that the task's cell names, the block taken last, and what the search for an
--- unused block answers. No line names another cell than the task's own (questions/proofs/Accesses.antt).
-use mathlib.Core.Bool.{cond}
+-- The pool as memory (lines/specs/Memory.antt), given numbers only: the block that the task's cell names, the block taken last, and what the
+-- search for an unused block answers. No line names another cell than the task's own (questions/proofs/Accesses.antt).
 use mathlib.Core.Option.{Option, none, some}
 use mathlib.Core.List.{List}
 use Prim.Native.Nat.{ℕ, _+_, _*_, _<_}
-use lib.Dec.{eqb}
-use Rattle.lines.specs.declared.Field.the-variants.{X, D}
+use Rattle.lines.specs.declared.Field.the-variants.{X}
 use Rattle.lines.specs.declared.Access.{Access}
 use Rattle.lines.specs.declared.Access.the-variants.{LoadCell, Load, Store, DecideCas, InstallCas, Allocate, Nothing}
 use Rattle.lines.specs.Record.{noValue}
+use Rattle.lines.specs.Memory.{Keeping, accessIn}
 use Rattle.pool.specs.Pool.{word, setWord, noTask}
 
 -- what an access leaves, and the value that it answers
@@ -27,14 +26,25 @@ abbrev pub taking : Option ℕ → List ℕ → (current last : ℕ) → Touched
 taking none p c l = touched p c l noValue
 taking (some b) p c l = touched (setWord p b X noTask) c b b
 
+-- the pool, the block that the task's cell names, and the block taken last
+pub record Shared : Type 0 where
+  pub words : List ℕ
+  pub named : ℕ
+  pub last : ℕ
+
+-- free is what the search for an unused block answers
+abbrev pub poolKeeping : (free : Option ℕ) → Keeping Shared Touched
+poolKeeping f = record {
+  named = λ m. m .named;
+  word = λ m b g. word (m .words) b g;
+  store = λ m b g v. record { words = setWord (m .words) b g v; named = m .named; last = m .last };
+  install = λ m n. record { words = m .words; named = n; last = m .last };
+  allocate = λ m. taking f (m .words) (m .named) (m .last);
+  give = λ m v. touched (m .words) (m .named) (m .last) v;
+}
+
 abbrev pub performed : List ℕ → (current last : ℕ) → Option ℕ → Access → Touched
-performed p c l f (LoadCell k) = touched p c l c
-performed p c l f (Load b g) = touched p c l (word p b g)
-performed p c l f (Store b g v) = touched (setWord p b g v) c l 0
-performed p c l f (DecideCas b v) = cond (eqb (word p b D) noValue) (touched (setWord p b D v) c l 1) (touched p c l 0)
-performed p c l f (InstallCas k b n) = cond (eqb c b) (touched p n l 1) (touched p c l 0)
-performed p c l f Allocate = taking f p c l
-performed p c l f Nothing = touched p c l 0
+performed p c l f a = accessIn (poolKeeping f) (record { words = p; named = c; last = l }) a
 
 -- WHAT MEMORY NEEDS (this part only helps the proofs)
 

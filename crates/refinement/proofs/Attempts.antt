@@ -10,7 +10,9 @@ use Rattle.lines.specs.Record.{noValue, recordAt}
 use Rattle.questions.specs.declared.State.{State}
 use Rattle.questions.specs.Questions.{refusal}
 use Rattle.pool.specs.Pool.{word}
-use Rattle.pool.specs.Memory.{Touched}
+use Rattle.pool.specs.Memory.{Shared, poolKeeping}
+use Rattle.lines.proofs.Cas.{decide-value, install-value}
+use Rattle.blocks.specs.Blocks.{unused}
 use Rattle.cells.specs.Step.{current, stepAsks, answers}
 use Rattle.cells.specs.Machine.{triedBy}
 use Rattle.cells.proofs.Stepping.{own-acting}
@@ -19,14 +21,11 @@ use Rattle.figure.specs.Attempts.{judged}
 use Rattle.figure.proofs.Attempts.{judge}
 use Rattle.refinement.specs.Moments.{seesPool}
 
-value-of : (c : Bool) (m m′ : Touched) → m .value ≡ 1 → m′ .value ≡ 0 → cond c m m′ .value ≡ cond c 1 0
-value-of true m m′ e f = e
-value-of false m m′ e f = f
-
 -- A step's attempt is won exactly if the memory before it had D none, at line 2, or the held block current, at line 30; neither is guessed.
 pub cell-attempts-judged : (state : State) (words : List ℕ) (task : ℕ) → refusal (stepAsks state words task) ≡ none
     → triedBy state words (step task) ≡ judged (seesPool (state, words) task)
 cell-attempts-judged s p t g =
     let r = recordAt (s .records) t in
+    let m : Shared = record { words = p; named = current s (r .cell); last = s .last } in
     judge (recordAt (s .records)) (current s) (λ k. word p) t (answers s p r) (own-acting s p t g .line)
-    (λ b n. value-of (eqb (word p b D) noValue) _ _ refl refl) (λ k b n. value-of (eqb (current s (r .cell)) b) _ _ refl refl)
+    (decide-value (poolKeeping (unused s)) m (λ a. a .value) (λ x v. refl)) (install-value (poolKeeping (unused s)) m (λ a. a .value) (λ x v. refl))
