@@ -17,6 +17,9 @@ use Rattle.cells.specs.Open.{After, leaving, Untouched}
 use Rattle.cells.specs.Begin.{withRecord}
 use Rattle.cells.specs.Step.{stepAsks, stepped}
 use Rattle.cells.specs.Lent.{isRefused, Lent, lent, steppedLent}
+use Rattle.cells.specs.Events.{eventOf}
+use Rattle.cells.specs.Machine.{does, doesLent, triedBy, pool, lentPool}
+use Rattle.history.specs.History.{Action, begin, step}
 use Rattle.cells.proofs.Acts.{acts-iff, step-acts, step-untouched}
 use Rattle.cells.proofs.Replies.{asked-below}
 
@@ -69,3 +72,11 @@ module _ (s : State) (p : List ℕ) (t : ℕ) where
   pub lent-own : steppedLent s p t (recordAt (s .records) t) ≡ lent (stepped s p t) (recordAt (stepped s p t .state .records) t)
   unfolding steppedLent
   lent-own = rw (set-getD (s .records) t idle) (same (stepped s p t) (stepped s p t .outcome) refl (step-untouched s p t))
+
+lent-does : (s : State) (p : List ℕ) (a : Action) → doesLent s p a ≡ does s p a
+lent-does s p (begin t op) = refl
+lent-does s p (step t) = ap (λ (x : Lent). x .entry) (lent-own s p t)
+
+-- So the machine whose steps are lent is the machine of demands 2 and 3: what holds of every list of actions holds of those lists.
+pub lent-machine : lentPool ≡ pool
+lent-machine = λ i x a. let r = lent-does (x .0) (x .1) a i in ((r .state, r .pool), eventOf (triedBy (x .0) (x .1) a) (r .outcome))

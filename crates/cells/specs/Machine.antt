@@ -6,6 +6,7 @@ use Rattle.lines.specs.Record.{recordAt}
 use Rattle.cells.specs.Open.{After}
 use Rattle.cells.specs.Begin.{readBegun, swapBegun}
 use Rattle.cells.specs.Step.{triedAt, stepped}
+use Rattle.cells.specs.Lent.{steppedLent}
 use Rattle.cells.specs.Events.{eventOf}
 use Rattle.history.specs.History.{Op, read, swap, Action, begin, step, Attempt, untried, Event}
 
@@ -28,3 +29,11 @@ triedBy s p (step t) = triedAt s p t (recordAt (s .records) t)
 
 abbrev pub pool : Pool → Action → Pool × Event
 pool x a = let r = does (x .0) (x .1) a in ((r .state, r .pool), eventOf (triedBy (x .0) (x .1) a) (r .outcome))
+
+-- the same machine where every step is lent the task's own record
+abbrev pub doesLent : State → List ℕ → Action → After
+doesLent s p (begin t op) = begins s p t op
+doesLent s p (step t) = steppedLent s p t (recordAt (s .records) t) .entry
+
+abbrev pub lentPool : Pool → Action → Pool × Event
+lentPool x a = let r = doesLent (x .0) (x .1) a in ((r .state, r .pool), eventOf (triedBy (x .0) (x .1) a) (r .outcome))
