@@ -30,12 +30,12 @@ use Rattle.session_items.proofs.space.Reads as space-reads
 use Rattle.session_forms.proofs.+form+list.{statement}
 use Rattle.session_forms.proofs.+form+list.Tie.{close}
 
--- depth left and bytes left, together
+-- the depth left, counted twice so that it falls from a list to its forms too, and the bytes left: each falls at every call
 abbrev μ-form : Measures 3 form-kinds.ps ℕ
-μ-form κs a = a .1 .1 .0 + (length (a .0 .now) - a .1 .0)
+μ-form κs a = a .1 .1 .0 + a .1 .1 .0 + (length (a .0 .now) - a .1 .0)
 
 abbrev μ-list : Measures 3 list-kinds.ps ℕ
-μ-list κs a = a .1 .1 .0 + (length (a .0 .now) - a .1 .0)
+μ-list κs a = a .1 .1 .0 + a .1 .1 .0 + 1 + (length (a .0 .now) - a .1 .0)
 
 abbrev form-at : ℕ → In 3 form-kinds.ps
 form-at t = and 3 form-kinds.ps (is 3 form-kinds.ps μ-form t) form.Pre
