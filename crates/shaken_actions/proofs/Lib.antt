@@ -1,3 +1,1 @@
 pub mod Acting
-pub mod Writing
-pub mod Zeros

@@ -10,7 +10,7 @@ ghost use Rattle.cells.specs.Machine.{pool as «machine»};
 ghost use Rattle.session_file.specs.Session.{act as «actForm»};
 ghost use Rattle.session_file.specs.Written.{formLine, formLines};
 ghost use Rattle.cells.specs.Answers.{actOf};
-ghost use Rattle.shaken_actions.specs.Actions.{drawnActions, Short};
+ghost use Rattle.shaker_text.specs.Actions.{drawnActions, Short};
 use cells::Action;
 use drawing::draw_action;
 use numbered::put_line;

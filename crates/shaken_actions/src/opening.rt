@@ -6,7 +6,7 @@ ghost use Prim.Native.Nat.{_≤_, _<_};
 ghost use lib.ListN.{length, replicate};
 ghost use Rattle.text.specs.Append.{Appended};
 ghost use Rattle.session_file.specs.Written.{openingLine};
-ghost use Rattle.shaken_actions.specs.Actions.{zeroOpening};
+ghost use Rattle.shaker_text.specs.Actions.{zeroOpening};
 
 fn more_zeros() -> [u64; 16]
     ensures { λ r. ⌜ r ≡ replicate 16 0 ⌝ }

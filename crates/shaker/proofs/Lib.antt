@@ -1,6 +1,1 @@
 mod Starting
-mod Shaking
-pub mod Allowed
-pub mod Accepted
-pub mod ReadShaken
-pub mod NoNoLine

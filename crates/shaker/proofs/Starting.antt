@@ -13,15 +13,15 @@ use Rattle.cells.specs.Machine.{Pool}
 use Rattle.session_file.specs.Session.{act}
 use Rattle.session_file.specs.Written.{openingLine, formLines, fileText}
 use Rattle.session_text.specs.Printed.{blank}
-use Rattle.shaken_actions.specs.Actions.{drawnActions, startOf, zeroOpening}
-use Rattle.shaker.specs.Shaken.{sessionText}
+use Rattle.shaker_text.specs.Actions.{drawnActions, zeroStart, zeroOpening}
+use Rattle.shaker_text.specs.Shaken.{sessionText}
 use Rattle.shaken_actions.proofs.Acting.{moves}
 
 module _ (n v b : ℕ) where
-  pub starts : {s s₀ : State} {p p₀ vs : List ℕ} {o : Said} → s₀ ≡ blank → p₀ ≡ replicate (5 * b) 0 → vs ≡ replicate v 0 → b ≤ 128 → leaving s p o ≡ opened s₀ p₀ n v b vs → (s, p) ≡ startOf n v b
-  unfolding startOf
+  pub starts : {s s₀ : State} {p p₀ vs : List ℕ} {o : Said} → s₀ ≡ blank → p₀ ≡ replicate (5 * b) 0 → vs ≡ replicate v 0 → b ≤ 128 → leaving s p o ≡ opened s₀ p₀ n v b vs → (s, p) ≡ zeroStart n v b
+  unfolding zeroStart
   starts es ep ev h e = rw (le-leb b 128 h, ← es, ← ep, ← ev) (moves e)
 
-  pub whole-session : (g k : ℕ) {o₀ o₁ o₂ : List ℕ} {at r : ℕ} {x : Pool} → x ≡ startOf n v b → Appended o₀ o₁ 0 at (openingLine (zeroOpening n v b)) → Appended o₁ o₂ at r (formLines (map act (drawnActions n v k g x))) → Appended o₀ o₂ 0 r (sessionText g n v b k)
+  pub whole-session : (g k : ℕ) {o₀ o₁ o₂ : List ℕ} {at r : ℕ} {x : Pool} → x ≡ zeroStart n v b → Appended o₀ o₁ 0 at (openingLine (zeroOpening n v b)) → Appended o₁ o₂ at r (formLines (map act (drawnActions n v k g x))) → Appended o₀ o₂ 0 r (sessionText g n v b k)
   unfolding fileText
   whole-session g k e x y = then x (rw e at y)

@@ -13,7 +13,7 @@ ghost use Rattle.io.specs.Counts.{Counts};
 ghost use Rattle.text.specs.Append.{Appended};
 ghost use Rattle.questions.specs.Questions.{refusal as «refusalOf»};
 ghost use Rattle.session_text.specs.Printed.{blank as «blankOf»};
-ghost use Rattle.shaker.specs.Shaken.{shakeQuestions, sessionText, shakenWithin};
+ghost use Rattle.shaker_text.specs.Shaken.{shakeQuestions, sessionText, shakenWithin};
 
 // As many bytes as a session may have; the longest that is drawn has fewer.
 const ROOM: usize = 65536;

@@ -1,6 +1,6 @@
 use native.Mathlib.Omega.{arith}
 use Rattle.history.specs.History.{read, swap, begin, step}
-use Rattle.shaken_actions.proofs.Writing.{step-room, read-room, swap-room, puts}
+use Rattle.shaker_text.proofs.Writing.{step-room, read-room, swap-room, puts}
 use borrow.Author.Needs.{needs}
 use Rattle.shaken_actions.proofs.put_action.Statement.{statement}
 use Rattle.shaken_actions.proofs.put_action.Tie as tie

@@ -9,8 +9,8 @@ use Rattle.text.proofs.Toward.{Toward, toward-start, toward-more, toward-end}
 use Rattle.session_file.specs.Session.{act}
 use Rattle.session_file.specs.Written.{formLines}
 use Rattle.drawing.specs.Drawn.{Drawn}
-use Rattle.shaken_actions.specs.Actions.{drawnActions, Short}
-use Rattle.shaken_actions.proofs.Writing.{short-drawn, one-line, no-line}
+use Rattle.shaker_text.specs.Actions.{drawnActions, Short}
+use Rattle.shaker_text.proofs.Writing.{short-drawn, one-line, no-line}
 use Rattle.shaken_actions.proofs.put_actions.Statement.{statement}
 use Rattle.shaken_actions.proofs.put_actions.Tie as tie
 

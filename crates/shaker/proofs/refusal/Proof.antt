@@ -1,6 +1,6 @@
 use mathlib.Core.Path.{sym, ap, _∙_}
 use mathlib.Core.Bool.{Bool, cond}
-use Rattle.shaker.proofs.Shaking.{asks-first, asks-last}
+use Rattle.shaker_text.proofs.Shaking.{asks-first, asks-last}
 use borrow.Author.Needs.{needs}
 use Rattle.shaker.proofs.refusal.Statement.{statement}
 use Rattle.shaker.proofs.refusal.Tie as tie

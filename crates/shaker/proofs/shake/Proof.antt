@@ -1,7 +1,7 @@
 use Prim.Native.Nat.{_*_}
 use native.Mathlib.Omega.{arith}
-use Rattle.shaken_actions.proofs.Zeros.{part-zeros, part-length}
-use Rattle.shaker.proofs.Shaking.{none-shaken, all-refused, all-shaken, sizes}
+use Rattle.shaker_text.proofs.Zeros.{part-zeros, part-length}
+use Rattle.shaker_text.proofs.Shaking.{none-shaken, all-refused, all-shaken, sizes}
 use borrow.Author.Needs.{needs}
 use Rattle.shaker.proofs.shake.Statement.{statement}
 use Rattle.shaker.proofs.shake.Tie as tie

@@ -5,7 +5,7 @@ use native.Mathlib.Omega.{arith}
 use lib.ListN.{length}
 use Rattle.text.specs.Lines.{numbers}
 use Rattle.text.proofs.Appending.{then}
-use Rattle.shaken_actions.proofs.Zeros.{part-zeros, part-length, zeros-length, three-length, opens}
+use Rattle.shaker_text.proofs.Zeros.{part-zeros, part-length, zeros-length, three-length, opens}
 use borrow.Author.Needs.{needs}
 use Rattle.shaken_actions.proofs.opening.put_opening.Statement.{statement}
 use Rattle.shaken_actions.proofs.opening.put_opening.Tie as tie

@@ -14,8 +14,8 @@ use Rattle.cells.specs.Step.{ran, stepped}
 use Rattle.session_file.specs.Written.{written, writtenValues, openingLine, formLines, fileText}
 use Rattle.generator.specs.Generator.{next, below}
 use Rattle.drawing.specs.Drawn.{drawnBegin, drawnAction}
-use Rattle.shaken_actions.specs.Actions.{drawnActions, startOf}
-use Rattle.shaker.specs.Shaken.{shakeQuestions, shaken}
+use Rattle.shaker_text.specs.Actions.{drawnActions, zeroStart}
+use Rattle.shaker_text.specs.Shaken.{shakeQuestions, shaken}
 
 -- five numbers, and what they print
 abbrev Shakes : List ((ℕ × ℕ × ℕ × ℕ × ℕ) × String) → Type 0
@@ -39,5 +39,5 @@ shakes :
     ((0, 32, 16, 128, 3001), "(bad 17)\n") ∷
     []
     )
-unfolding digits numbers next below fit recordFit cellsFit recordsFit hasNone openQuestions uses countsTrue found recounted opened readBegun swapBegun ran stepped written writtenValues openingLine formLines fileText drawnBegin drawnAction drawnActions startOf shakeQuestions shaken
+unfolding digits numbers next below fit recordFit cellsFit recordsFit hasNone openQuestions uses countsTrue found recounted opened readBegun swapBegun ran stepped written writtenValues openingLine formLines fileText drawnBegin drawnAction drawnActions zeroStart shakeQuestions shaken
 shakes = (refl, (refl, (refl, (refl, (refl, (refl, (refl, (refl, (refl, (refl, tt))))))))))

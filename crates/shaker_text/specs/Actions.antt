@@ -3,10 +3,9 @@ use mathlib.Core.List.{List, [], _∷_}
 use Prim.Native.Nat.{ℕ, zero, suc, _<_}
 use lib.ListN.{replicate}
 use Rattle.history.specs.History.{read, swap, Action, begin, step}
-use Rattle.cells.specs.Open.{opened}
 use Rattle.cells.specs.Machine.{Pool, pool}
 use Rattle.session_file.specs.Session.{Opening}
-use Rattle.session_text.specs.Printed.{blank, poolWords}
+use Rattle.session_text.specs.Tools.{leftBy}
 use Rattle.drawing.specs.Drawn.{drawnAction}
 
 -- k actions, drawn as the cells go on from the state and pool x
@@ -20,8 +19,8 @@ abbrev pub zeroOpening : (tasks cells blocks : ℕ) → Opening
 zeroOpening n v b = record { tasks = n; cells = v; blocks = b; values = replicate v 0 }
 
 -- what the session's opening leaves, all values 0
-unfoldable pub startOf : (tasks cells blocks : ℕ) → Pool
-startOf n v b = let a = opened blank (replicate (poolWords b) 0) n v b (replicate v 0) in (a .state, a .pool)
+unfoldable pub zeroStart : (tasks cells blocks : ℕ) → Pool
+zeroStart n v b = leftBy (zeroOpening n v b)
 
 -- a drawn action's task and cell have at most two digits, its values one
 abbrev pub Short : Action → Type 0

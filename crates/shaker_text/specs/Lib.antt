@@ -1,3 +1,4 @@
+pub mod Actions
 pub mod Shaken
 pub mod Played
 pub mod Examples

@@ -20,7 +20,7 @@ use Rattle.session_file.specs.Session.{act}
 use Rattle.session_file.specs.Written.{actionStart, written, formLine, formLines}
 use Rattle.generator.specs.Generator.{next, below}
 use Rattle.drawing.specs.Drawn.{Drawn, drawn, drawnBegin, drawnAction}
-use Rattle.shaken_actions.specs.Actions.{drawnActions, Short}
+use Rattle.shaker_text.specs.Actions.{drawnActions, Short}
 
 -- ROOM FOR ANY NUMBERS OF 32 BITS
 

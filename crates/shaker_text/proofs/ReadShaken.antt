@@ -15,11 +15,11 @@ use Rattle.session_file.specs.Written.{writtenValues, openingLine, formLine, fo
 use Rattle.session_file.specs.Proper.{Small, numbersOf, SmallActions, ProperOpening}
 use Rattle.session_file.proofs.WrittenRead.{actions-read}
 use Rattle.drawing.specs.Drawn.{drawnAction}
-use Rattle.shaken_actions.specs.Actions.{drawnActions, startOf, Short, zeroOpening}
-use Rattle.shaker.specs.Shaken.{shakeQuestions, shakenActions, sessionText, shaken}
-use Rattle.shaken_actions.proofs.Zeros.{zeros-length, three-length}
-use Rattle.shaken_actions.proofs.Writing.{written-short, short-drawn}
-use Rattle.shaker.proofs.Allowed.{sizes-ok}
+use Rattle.shaker_text.specs.Actions.{drawnActions, zeroStart, Short, zeroOpening}
+use Rattle.shaker_text.specs.Shaken.{shakeQuestions, shakenActions, sessionText, shaken}
+use Rattle.shaker_text.proofs.Zeros.{zeros-length, three-length}
+use Rattle.shaker_text.proofs.Writing.{written-short, short-drawn}
+use Rattle.shaker_text.proofs.Allowed.{sizes-ok}
 
 -- THE ACTIONS
 
@@ -73,7 +73,7 @@ text-length : (g n v b k : ℕ) → refusal (shakeQuestions n v b k) ≡ none �
 unfolding fileText
 text-length g n v b k e =
     let h = sizes-ok n v b k e in
-    omega (arith, length-append (openingLine (zeroOpening n v b)) (formLines (map act (shakenActions g n v b k))), opening-length n v b (h .1) (h .3) (h .4), lines-length n v (h .0) (h .1) (h .2) (h .3) k g (startOf n v b), h .5)
+    omega (arith, length-append (openingLine (zeroOpening n v b)) (formLines (map act (shakenActions g n v b k))), opening-length n v b (h .1) (h .3) (h .4), lines-length n v (h .0) (h .1) (h .2) (h .3) k g (zeroStart n v b), h .5)
 
 allowed-text : (o : Option ℕ) (t : List ℕ) → o ≡ none → elim o [ none ↦ t | some m ↦ badLine m ] ≡ t
 allowed-text none t e = refl
@@ -89,6 +89,6 @@ pub shaken-is-read : (seed tasks cells blocks length : ℕ) → refusal (shakeQu
 shaken-is-read g n v b k e =
     let h = sizes-ok n v b k e in
     let o : ProperOpening (zeroOpening n v b) = (omega (arith, h .1), (omega (arith, h .3), (omega (arith, h .4), small-zeros v))) in
-    let drawn = drawn-small n v (h .0) (h .1) (h .2) (h .3) k g (startOf n v b) in
-    let few : length (shakenActions g n v b k) ≤ 65535 = omega (arith, drawn-count n v k g (startOf n v b), h .5) in
+    let drawn = drawn-small n v (h .0) (h .1) (h .2) (h .3) k g (zeroStart n v b) in
+    let few : length (shakenActions g n v b k) ≤ 65535 = omega (arith, drawn-count n v k g (zeroStart n v b), h .5) in
     ap verdict (shaken-text g n v b k e) ∙ actions-read (zeroOpening n v b) (shakenActions g n v b k) o drawn (text-length g n v b k e) few

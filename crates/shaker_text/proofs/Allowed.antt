@@ -14,9 +14,9 @@ use Rattle.questions.proofs.Tests.{all-yes, nth}
 use Rattle.cells.specs.Answers.{Acted}
 use Rattle.cells.specs.Open.{opened}
 use Rattle.session_text.specs.Printed.{blank, poolWords}
-use Rattle.shaken_actions.specs.Actions.{startOf}
-use Rattle.shaker.specs.Shaken.{shakeQuestions}
-use Rattle.shaker.proofs.Shaking.{sizes}
+use Rattle.shaker_text.specs.Actions.{zeroStart}
+use Rattle.shaker_text.specs.Shaken.{shakeQuestions}
+use Rattle.shaker_text.proofs.Shaking.{sizes}
 use Rattle.refinement.specs.Reached.{Reached}
 use Rattle.refinement.proofs.Reaching.{reached-open}
 
@@ -52,8 +52,8 @@ module _ (n v b k : ℕ) (e : refusal (shakeQuestions n v b k) ≡ none) where
   unfolding openQuestions
   allowed = rw (words, yes-at 0, yes-at 1, yes-at 2, eq-eqb (length {A = ℕ} (replicate v 0)) v (length-replicate {A = ℕ} v 0), no-none v)
 
-  pub start-reached : Reached n v (startOf n v b .0) (startOf n v b .1)
-  unfolding startOf
+  pub start-reached : Reached n v (zeroStart n v b .0) (zeroStart n v b .1)
+  unfolding zeroStart
   start-reached = reached-open blank (replicate (poolWords b) 0) n v b (replicate v 0) allowed
 
 -- The opening is not refused.

@@ -9,7 +9,7 @@ use Rattle.text.specs.Lines.{numbers}
 use Rattle.text.specs.Append.{Appended}
 use Rattle.text.proofs.Spaced.{decimal-32, numbers-length, none-length}
 use Rattle.session_file.specs.Written.{writtenValues, openingLine}
-use Rattle.shaken_actions.specs.Actions.{zeroOpening}
+use Rattle.shaker_text.specs.Actions.{zeroOpening}
 
 -- A PART OF MANY ZEROS
 

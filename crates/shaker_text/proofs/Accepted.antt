@@ -22,10 +22,10 @@ use Rattle.refinement.proofs.Refines.{together}
 use Rattle.refinement.proofs.Reaching.{reached-next, reached-fit, reached-20}
 use Rattle.generator.specs.Generator.{next, below}
 use Rattle.drawing.specs.Drawn.{Drawn, drawn, drawnBegin, drawnAction}
-use Rattle.shaken_actions.specs.Actions.{drawnActions, startOf}
-use Rattle.shaker.specs.Shaken.{shakeQuestions, shakenActions}
-use Rattle.shaken_actions.proofs.Writing.{below-lt}
-use Rattle.shaker.proofs.Allowed.{sizes-ok, start-reached}
+use Rattle.shaker_text.specs.Actions.{drawnActions, zeroStart}
+use Rattle.shaker_text.specs.Shaken.{shakeQuestions, shakenActions}
+use Rattle.shaker_text.proofs.Writing.{below-lt}
+use Rattle.shaker_text.proofs.Allowed.{sizes-ok, start-reached}
 
 -- the sizes stay those of the opening
 module _ {n v : ℕ} {s : State} {p : List ℕ} (r : Reached n v s p) where
@@ -105,7 +105,7 @@ all-accepted {n} {v} hn hv (suc k) g {s} {p} r a m (inr x) =
 
 -- No action of a session that is drawn is refused when it is run.
 pub none-refused : (seed tasks cells blocks length : ℕ) → refusal (shakeQuestions tasks cells blocks length) ≡ none
-    → (action : Action) (number : ℕ) → ¬ ((action, refused number) ∈ history pool (startOf tasks cells blocks) (shakenActions seed tasks cells blocks length))
+    → (action : Action) (number : ℕ) → ¬ ((action, refused number) ∈ history pool (zeroStart tasks cells blocks) (shakenActions seed tasks cells blocks length))
 none-refused seed tasks cells blocks length e =
     let h = sizes-ok tasks cells blocks length e in
     all-accepted (h .0) (h .2) length seed (start-reached tasks cells blocks length e)

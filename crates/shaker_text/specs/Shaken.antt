@@ -10,7 +10,7 @@ use Rattle.questions.specs.Questions.{Question, refusal, tasksOk, cellsOk, bloc
 use Rattle.text.specs.Lines.{badLine}
 use Rattle.session_file.specs.Session.{act}
 use Rattle.session_file.specs.Written.{fileText}
-use Rattle.shaken_actions.specs.Actions.{drawnActions, startOf, zeroOpening}
+use Rattle.shaker_text.specs.Actions.{drawnActions, zeroStart, zeroOpening}
 
 -- document 01's questions on N, V and B, whose pool has five words for each block; then 17. Is the length 1 to 3,000 actions?
 unfoldable pub shakeQuestions : (tasks cells blocks length : ℕ) → List Question
@@ -18,7 +18,7 @@ shakeQuestions n v b k = (1, tasksOk n) ∷ (2, cellsOk v) ∷ (3, blocksOk n v 
 
 -- the actions of the session, and its text, one action a line
 abbrev pub shakenActions : (seed tasks cells blocks length : ℕ) → List Action
-shakenActions g n v b k = drawnActions n v k g (startOf n v b)
+shakenActions g n v b k = drawnActions n v k g (zeroStart n v b)
 
 abbrev pub sessionText : (seed tasks cells blocks length : ℕ) → List ℕ
 sessionText g n v b k = fileText (zeroOpening n v b) (map act (shakenActions g n v b k))

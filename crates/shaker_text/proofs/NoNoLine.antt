@@ -13,12 +13,12 @@ use Rattle.cells.specs.Open.{opened}
 use Rattle.cells.specs.Machine.{pool}
 use Rattle.session_text.specs.Lines.{eventLine}
 use Rattle.session_text.specs.Printed.{eventLines, totals, addEvents, endText, played, afterOpen, blank, poolWords, playedFrom, verdictText, printed}
-use Rattle.shaken_actions.specs.Actions.{startOf, zeroOpening}
-use Rattle.shaker.specs.Shaken.{shakeQuestions, shakenActions, shaken}
-use Rattle.shaker.specs.Played.{doneText, doneLines}
-use Rattle.shaker.proofs.Allowed.{opening-accepted}
-use Rattle.shaker.proofs.Accepted.{none-refused}
-use Rattle.shaker.proofs.ReadShaken.{shaken-is-read}
+use Rattle.shaker_text.specs.Actions.{zeroStart, zeroOpening}
+use Rattle.shaker_text.specs.Shaken.{shakeQuestions, shakenActions, shaken}
+use Rattle.shaker_text.specs.Played.{doneText, doneLines}
+use Rattle.shaker_text.proofs.Allowed.{opening-accepted}
+use Rattle.shaker_text.proofs.Accepted.{none-refused}
+use Rattle.shaker_text.proofs.ReadShaken.{shaken-is-read}
 
 -- an event that is no refusal
 one-line : (i t : ℕ) (e : Event) → ((m : ℕ) → ¬ (refused m ≡ e)) → eventLine i t e ≡ doneText t e
@@ -33,13 +33,13 @@ same-lines i [] f = refl
 same-lines i ((a, e) ∷ h) f =
     rw (one-line i (taskOf a) e (λ m q. f a m (inl (ap (λ (y : Event). (a, y)) q))), same-lines (i + 1) h (λ b m x. f b m (inr x)))
 
-plays : (n v b : ℕ) (l : List Action) → opened blank (replicate (poolWords b) 0) n v b (replicate v 0) .outcome ≡ Acted → playedFrom (zeroOpening n v b) l ≡ played n v (startOf n v b) l
-unfolding afterOpen startOf
+plays : (n v b : ℕ) (l : List Action) → opened blank (replicate (poolWords b) 0) n v b (replicate v 0) .outcome ≡ Acted → playedFrom (zeroOpening n v b) l ≡ played n v (zeroStart n v b) l
+unfolding afterOpen zeroStart
 plays n v b l e = rw e
 
 -- So the session program prints for it the lines of the finished calls, then the cells and the end, and no `(no ..)` line.
 pub no-no-line : (seed tasks cells blocks length : ℕ) → refusal (shakeQuestions tasks cells blocks length) ≡ none →
-    let start = startOf tasks cells blocks in
+    let start = zeroStart tasks cells blocks in
     let actions = shakenActions seed tasks cells blocks length in
     let events = history pool start actions in
     let end = run pool start actions in
@@ -47,7 +47,7 @@ pub no-no-line : (seed tasks cells blocks length : ℕ) → refusal (shakeQuesti
 unfolding printed played
 no-no-line g n v b k e =
     let l = shakenActions g n v b k in
-    let h = history pool (startOf n v b) l in
-    let y = run pool (startOf n v b) l in
+    let h = history pool (zeroStart n v b) l in
+    let y = run pool (zeroStart n v b) l in
     ap verdictText (shaken-is-read g n v b k e) ∙ plays n v b l (opening-accepted n v b k e)
     ∙ ap (λ (t : List ℕ). t ++ endText n v (addEvents (totals 0 0) h) (y .0) (y .1)) (same-lines 0 h (none-refused g n v b k e))

@@ -15,7 +15,7 @@ use Rattle.text.proofs.Appending.{nothing, entire}
 use Rattle.lines.specs.Basics.{within}
 use Rattle.questions.specs.Questions.{Question, refusal, tasksOk, cellsOk, blocksOk, hasNone, openQuestions}
 use Rattle.questions.proofs.Tests.{within-true, blocks-most}
-use Rattle.shaker.specs.Shaken.{shakeQuestions, sessionText, shaken, shakenWithin}
+use Rattle.shaker_text.specs.Shaken.{shakeQuestions, sessionText, shaken, shakenWithin}
 
 -- THE QUESTIONS, of an opening without values and of the shaker
 

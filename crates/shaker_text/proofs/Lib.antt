@@ -1,0 +1,7 @@
+pub mod Writing
+pub mod Zeros
+pub mod Shaking
+pub mod Allowed
+pub mod Accepted
+pub mod ReadShaken
+pub mod NoNoLine
