@@ -3,9 +3,9 @@ use mathlib.Core.Path.{_≡_, refl}
 use mathlib.Core.Bool.{Bool, true, false}
 use mathlib.Core.List.{List, [], _∷_, _++_}
 use mathlib.Core.Option.{Option, none, some}
-use Prim.Native.Nat.{ℕ, zero, suc}
+use Prim.Native.Nat.{ℕ}
 use Rattle.text.specs.Bytes.{bytes}
-use Rattle.text.specs.Readers.{Reader, pure, _>>=_, _>>_, word, digitsAfter, number}
+use Rattle.text.specs.Readers.{Reader, pure, _>>=_, _>>_, word, digitsAfter, number, several}
 
 -- a number by question 14's rule, and the argument's end
 abbrev pub argument : Reader ℕ
@@ -15,12 +15,8 @@ argument = do
   pure n
 
 -- k of them
-unfoldable pub given : ℕ → Reader (List ℕ)
-given zero = pure []
-given (suc k) = do
-  n ← argument
-  l ← given k
-  pure (n ∷ l)
+abbrev pub given : ℕ → Reader (List ℕ)
+given = several argument
 
 -- and no more
 abbrev pub whole : Option (List ℕ × List ℕ) → Option (List ℕ)
@@ -42,7 +38,7 @@ ended : List ℕ
 ended = 0 ∷ []
 
 two : numbersGiven 2 (bytes "7" ++ ended ++ bytes "4294967295" ++ ended) ≡ some (7 ∷ 4294967295 ∷ [])
-unfolding ended word digitsAfter number given numbersGiven
+unfolding ended word digitsAfter number several numbersGiven
 two = refl
 
 no-two :
@@ -53,5 +49,5 @@ no-two :
     × (numbersGiven 2 (bytes "7" ++ ended ++ ended) ≡ none)
     × (numbersGiven 2 (bytes "-7" ++ ended ++ bytes "8" ++ ended) ≡ none)
     × (numbersGiven 2 (bytes "7 8" ++ ended) ≡ none)
-unfolding ended word digitsAfter number given numbersGiven
+unfolding ended word digitsAfter number several numbersGiven
 no-two = (refl, refl, refl, refl, refl, refl, refl)

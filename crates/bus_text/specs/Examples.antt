@@ -4,7 +4,7 @@ use mathlib.Core.List.{List, [], _∷_}
 use Prim.Native.String.{String}
 use Rattle.text.specs.Bytes.{bytes, digits}
 use Rattle.text.specs.Lines.{numbers}
-use Rattle.text.specs.Readers.{word, digitsAfter, number}
+use Rattle.text.specs.Readers.{word, digitsAfter, number, several}
 use Rattle.lines.specs.Paths.{rowOf}
 use Rattle.questions.specs.Questions.{fit, recordFit, cellsFit, recordsFit, uses, countsTrue, hasNone, openQuestions}
 use Rattle.blocks.specs.Blocks.{found}
@@ -56,5 +56,5 @@ prints :
     (times 1 0 0 0 0 0, ("(open 2 1 3 (5))", "(bad 13)\n")) ∷
     []
     )
-unfolding digits word digitsAfter number rowOf fit recordFit cellsFit recordsFit hasNone openQuestions uses countsTrue found recounted opened readBegun swapBegun ran stepped fits deeper shapedAfter reader.numbers reader.manyWithin reader.values reader.opening reader.keyword reader.head reader.body reader.form reader.line reader.count reader.times reader.actions reader.asked14 reader.formed reader.verdict numbers callLines busText toolAfterOpen toolPrinted reader.asked15
+unfolding digits word digitsAfter number rowOf fit recordFit cellsFit recordsFit hasNone openQuestions uses countsTrue found recounted opened readBegun swapBegun ran stepped fits deeper shapedAfter several reader.manyWithin reader.values reader.opening reader.keyword reader.head reader.body reader.form reader.line reader.count reader.times reader.actions reader.asked14 reader.formed reader.verdict numbers callLines busText toolAfterOpen toolPrinted reader.asked15
 prints = (refl, (refl, (refl, (refl, (refl, (refl, (refl, (refl, (refl, (refl, (refl, (refl, (refl, (refl, (refl, (refl, (refl, tt)))))))))))))))))

@@ -4,7 +4,7 @@ use mathlib.Core.List.{List, [], _∷_}
 use Prim.Native.String.{String}
 use Rattle.text.specs.Bytes.{bytes, digits}
 use Rattle.text.specs.Lines.{numbers}
-use Rattle.text.specs.Readers.{word, digitsAfter, number}
+use Rattle.text.specs.Readers.{word, digitsAfter, number, several}
 use Rattle.history.specs.Basics.{upd}
 use Rattle.questions.specs.Questions.{fit, recordFit, cellsFit, recordsFit, uses, countsTrue, hasNone, openQuestions}
 use Rattle.blocks.specs.Blocks.{found}
@@ -42,5 +42,5 @@ prints :
     ("(open 2 1 5 (5))\n(step 0)\n", "") ∷
     []
     )
-unfolding upd digits word digitsAfter number fit recordFit cellsFit recordsFit hasNone openQuestions uses countsTrue found recounted opened readBegun swapBegun ran stepped fits deeper shapedAfter reader.numbers reader.manyWithin reader.values reader.opening reader.keyword reader.head reader.body reader.form reader.line reader.count reader.times reader.actions reader.asked14 reader.formed reader.verdict reader.asked15 numbers atLine markLines toolAfterOpen toolPrinted
+unfolding upd digits word digitsAfter number fit recordFit cellsFit recordsFit hasNone openQuestions uses countsTrue found recounted opened readBegun swapBegun ran stepped fits deeper shapedAfter several reader.manyWithin reader.values reader.opening reader.keyword reader.head reader.body reader.form reader.line reader.count reader.times reader.actions reader.asked14 reader.formed reader.verdict reader.asked15 numbers atLine markLines toolAfterOpen toolPrinted
 prints = (refl, (refl, (refl, (refl, (refl, (refl, (refl, (refl, (refl, tt)))))))))

@@ -8,7 +8,7 @@ use native.Mathlib.Omega.{arith}
 use lib.ListN.{length, length-append}
 use Rattle.text.specs.Bytes.{decimal}
 use Rattle.text.specs.Lines.{numbers as spaced}
-use Rattle.text.specs.Readers.{word}
+use Rattle.text.specs.Readers.{word, several}
 use Rattle.text.proofs.ReadBack.{startsDigit, number-back}
 use Rattle.session_file.specs.Session.{close, item, numbers, manyWithin, snoc}
 use Rattle.session_file.specs.Proper.{Small}
@@ -25,7 +25,7 @@ item-back n s h e = number-back n s h e
 
 -- as many numbers as are asked for
 pub numbers-back : (l s : List ℕ) → Small l → startsDigit s ≡ false → numbers (length l) (spaced l ++ s) ≡ some (l, s)
-unfolding numbers spaced
+unfolding several spaced
 numbers-back [] s h e = refl
 numbers-back (n ∷ l) s h e =
     rw (append-assoc (decimal n) (spaced l) s, item-back n (spaced l ++ s) (h .0) (numbers-apart l s e), numbers-back l s (h .1) e)

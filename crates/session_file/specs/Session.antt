@@ -8,7 +8,7 @@ use lib.ListN.{length, getD}
 use Rattle.history.specs.History.{read, swap, Action, begin, step}
 use Rattle.session_shape.specs.Shape.{shaped}
 use Rattle.text.specs.Bytes.{bytes}
-use Rattle.text.specs.Readers.{Reader, pure, either, _>>=_, _>>_, word, number}
+use Rattle.text.specs.Readers.{Reader, pure, either, _>>=_, _>>_, word, number, several}
 
 pub record Opening : Type 0 where
   pub tasks : ℕ
@@ -39,12 +39,8 @@ close = word (bytes ")")
 abbrev pub item : Reader ℕ
 item = space >> number
 
-unfoldable pub numbers : ℕ → Reader (List ℕ)
-numbers zero = pure []
-numbers (suc k) = do
-  n ← item
-  l ← numbers k
-  pure (n ∷ l)
+abbrev pub numbers : ℕ → Reader (List ℕ)
+numbers = several item
 
 module _ {A B : Type 0} (add : B → A → B) (each : Reader A) (end : Reader (Unit {0})) where
   -- items up to what ends them, added to those before; fuel bounds how many

@@ -4,3 +4,4 @@ pub mod Toward
 pub mod Spaced
 pub mod Reading
 pub mod ReadBack
+pub mod Several

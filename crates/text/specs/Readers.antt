@@ -3,7 +3,7 @@ use mathlib.Core.Path.{_≡_}
 use mathlib.Core.Bool.{Bool, cond, _&&_}
 use mathlib.Core.List.{List, [], _∷_}
 use mathlib.Core.Option.{Option, none, some}
-use Prim.Native.Nat.{ℕ, _+_, _-_, _*_, _≤_}
+use Prim.Native.Nat.{ℕ, zero, suc, _+_, _-_, _*_, _≤_}
 use lib.Dec.{leb, eqb}
 use lib.ListN.{length, drop}
 
@@ -32,6 +32,14 @@ module _ {A B : Type 0} where
 
   abbrev pub _>>_ : Reader A → Reader B → Reader B
   _>>_ p q s = onward (p s) λ _. q
+
+-- k of them, one after another
+unfoldable pub several : {A : Type 0} → Reader A → ℕ → Reader (List A)
+several p zero = pure []
+several p (suc k) = do
+  a ← p
+  l ← several p k
+  pure (a ∷ l)
 
 -- the word w
 unfoldable pub word : List ℕ → Reader (Unit {0})
