@@ -24,7 +24,7 @@ use Rattle.cells.specs.Turn.{turn}
 use Rattle.cells.specs.Step.{current, withBlocks, withCounts, ran, stepAsks, stepped}
 use Rattle.cells.specs.Lent.{isRefused, Lent, lent, steppedLent}
 use Rattle.cells.specs.Machine.{does}
-use Rattle.questions.proofs.Tests.{all-yes, all-at, all-from, nth, within-true, blocks-most}
+use Rattle.questions.proofs.Tests.{all-at, all-from, nth, within-true, blocks-most, yes-at}
 use Rattle.questions.proofs.Fits.{busy-test}
 use Rattle.questions.proofs.Uses.{named-used, uses-changed, count-is}
 use Rattle.cells.proofs.Recount.{recounted-at}
@@ -95,9 +95,6 @@ first-names-none k e n b = go (eqb e n) refl
 module _ (s : State) (p : List ℕ) (a : Arrays s) (e : countsTrue s ≡ true) (t : ℕ) where
   abbrev r : Record
   r = recordAt (s .records) t
-
-  yes-at : (l : List Question) → refusal l ≡ none → (k : ℕ) → getD (answers l) k true ≡ true
-  yes-at l h = nth (answers l) (all-yes l h)
 
   read-keeps : (k : ℕ) → countsTrue (readBegun s p t k .state) ≡ true
   unfolding readBegun

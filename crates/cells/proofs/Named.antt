@@ -18,10 +18,8 @@ use Rattle.questions.proofs.Numbers.{number}
 use Rattle.questions.proofs.Accesses.{Keeps, keeps}
 use Rattle.pool.specs.Pool.{word}
 use Rattle.pool.specs.Memory.{Touched, performed}
+use Rattle.history.proofs.Basics.{no-such}
 use Rattle.cells.specs.Turn.{ending, turn}
-
-no-such : {A : Type 0} → false ≡ true → A
-no-such e = absurd (false≢true e)
 
 same-current : (m : Touched) (o : Next) → ending m o .current ≡ m .current
 same-current m (Go q) = refl

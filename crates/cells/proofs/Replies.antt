@@ -12,11 +12,8 @@ use borrow.Author.Tests.{ltb-true, eqb-true}
 use Rattle.lines.specs.declared.Record.{Record}
 use Rattle.questions.specs.declared.State.{State}
 use Rattle.questions.specs.Questions.{Question, refusal, fit, openQuestions, answers}
-use Rattle.questions.proofs.Tests.{all-yes, nth, within-true, blocks-true}
+use Rattle.questions.proofs.Tests.{within-true, blocks-true, yes-at}
 use Rattle.questions.proofs.Fits.{sizes}
-
-yes-at : (l : List Question) → refusal l ≡ none → (k : ℕ) → getD (answers l) k true ≡ true
-yes-at l e = nth (answers l) (all-yes l e)
 
 -- the record is asked about only of a task of a fit state
 pub asked-of : (x f y : Bool) (q r : Record) (l : Record → List Question) → x ≡ f → (((x && y) ≡ true) × (q ≡ r)) ⊎ ((x && y) ≡ false)

@@ -1,6 +1,7 @@
 -- Laws of a function changed at one number, which callers use and not its text; of options; a call at a moment; a history of two lists.
 use mathlib.Core.Path.{_≡_, refl, ap}
 use mathlib.Core.Logic.{_≢_, _⊎_, inl, inr}
+use mathlib.Core.Bool.{true, false, false≢true}
 use mathlib.Core.Option.{Option, none, some}
 use mathlib.Core.List.{List, [], _∷_, _++_}
 use Prim.Native.Nat.{ℕ}
@@ -36,6 +37,10 @@ upd-cases Q f n a m here there = go (either m n)
     go : (m ≡ n) ⊎ (m ≢ n) → Q (upd f n a m)
     go (inl e) = rw (upd-at f n a m e) (here e)
     go (inr e) = rw (upd-off f n a m e) (there e)
+
+-- a test that failed did not hold
+pub no-such : {A : Type 0} → false ≡ true → A
+no-such e = absurd (false≢true e)
 
 pub clash : {A : Type 0} {o : Option A} {a : A} → o ≡ none → o ≡ some a → ⊥
 clash p q = let z : _≡_ {A = ℕ} 0 1 = cc in omega arith

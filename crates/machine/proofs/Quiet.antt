@@ -7,14 +7,11 @@ use Prim.Native.Nat.{ℕ}
 use native.Mathlib.Omega.{arith}
 use lib.Dec.{eqb}
 use Rattle.lines.specs.declared.Record.{Record}
-use Rattle.lines.specs.declared.Access.{Access}
-use Rattle.lines.specs.declared.Access.the-variants.{LoadCell, Load, Store, DecideCas, InstallCas, Allocate, Nothing}
-use Rattle.lines.specs.declared.Field.the-variants.{D}
 use Rattle.lines.specs.Answers.{Next, Go, Done}
-use Rattle.lines.specs.Record.{noValue}
 use Rattle.lines.specs.Lines.{Line, for13, for25, for28, l1, l2, l3, l4, l5, l6, l7, l8, l10, l11, l12, l15, l16, l17, l18, l19, l20, l21, l22, l23, l24, l26, l27, l30, nowhere, lineOf, accessAt, accessOf, nextAt, attempt, counted}
-use Rattle.pool.specs.Pool.{word}
 use Rattle.pool.specs.Memory.{Touched, performed}
+use Rattle.pool.proofs.Installs.{installs, block-stays}
+use Rattle.history.proofs.Basics.{no-such}
 use Rattle.questions.specs.Questions.{reads, swaps, ofKind, lineFit, holdsBefore, takenBefore}
 use Rattle.questions.specs.Counts.{claimed}
 use Rattle.questions.proofs.Numbers.{number, at-number}
@@ -34,34 +31,8 @@ takenAt n = not (eqb n 0) && takenBefore n
 abbrev Same : ℕ → (r q : Record) → Type 0
 Same n r q = (q .held ≡ r .held) × (q .taken ≡ r .taken) × (holdsAt (q .line) ≡ holdsAt n) × (takenAt (q .line) ≡ takenAt n)
 
-abbrev installs : Access → Bool
-installs (LoadCell k) = false
-installs (Load b f) = false
-installs (Store b f v) = false
-installs (DecideCas b v) = false
-installs (InstallCas k b n) = true
-installs Allocate = false
-installs Nothing = false
-
-stays : (p : List ℕ) (c l : ℕ) (f : Option ℕ) (a : Access) → installs a ≡ false → performed p c l f a .current ≡ c
-stays p c l f (LoadCell k) h = refl
-stays p c l f (Load b g) h = refl
-stays p c l f (Store b g v) h = refl
-stays p c l f (DecideCas b v) h = go (eqb (word p b D) noValue) refl
-  where
-    go : (x : Bool) → eqb (word p b D) noValue ≡ x → performed p c l f (DecideCas b v) .current ≡ c
-    go true e = rw e
-    go false e = rw e
-stays p c l f (InstallCas k b n) h = absurd (false≢true (sym h))
-stays p c l none Allocate h = refl
-stays p c l (some b) Allocate h = refl
-stays p c l f Nothing h = refl
-
-no-such : {A : Type 0} → false ≡ true → A
-no-such e = absurd (false≢true e)
-
 not-plain : {A : Type 0} → true ≡ false → A
-not-plain e = absurd (false≢true (sym e))
+not-plain e = no-such (sym e)
 
 -- what follows a line, unless it ends the call
 module _ (t : ℕ) (r : Record) (v : ℕ) where
@@ -124,7 +95,7 @@ module _ (p : List ℕ) (t : ℕ) (r : Record) (c l : ℕ) (f : Option ℕ) (fit
 
   -- what follows leaves a call pending
   goes : (x : Next) → Kept t r′ (m .value) (lineOf r) x → renames (r .line) (ending m x .record .line) ≡ false → (ending m x .current ≡ c) × Same (r .line) r (ending m x .record)
-  goes (Go q) h z = (stays p c l f (accessOf t r) (h .1 r), rw (at-number r fits) (h .0))
+  goes (Go q) h z = (block-stays p c l f (accessOf t r) (h .1 r), rw (at-number r fits) (h .0))
   goes (Done y) h z = absurd (false≢true (sym z))
 
   plain : renames (r .line) (turn p t r c l f .record .line) ≡ false → Plain t r′ (m .value) (lineOf r)

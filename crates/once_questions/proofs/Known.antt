@@ -9,13 +9,10 @@ use lib.Dec.{ltb}
 use lib.ListN.{getD}
 use borrow.Author.Tests.{ltb-true}
 use Rattle.questions.specs.Questions.{Question, refusal, answers}
-use Rattle.questions.proofs.Tests.{all-yes, nth}
+use Rattle.questions.proofs.Tests.{yes-at}
 use Rattle.consensus.specs.declared.OnceState.{OnceState}
 use Rattle.consensus.specs.Questions.{onceFit}
 use Rattle.once_questions.proofs.Fits.{sizes}
-
-yes-at : (l : List Question) → refusal l ≡ none → (k : ℕ) → getD (answers l) k true ≡ true
-yes-at l e = nth (answers l) (all-yes l e)
 
 module _ (s : OnceState) (t : ℕ) where
   abbrev pub ofTask : List Question

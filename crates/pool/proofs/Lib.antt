@@ -1,3 +1,4 @@
 pub mod Parts
 pub mod Twelve
 pub mod LineRuns
+pub mod Installs

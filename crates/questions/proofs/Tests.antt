@@ -68,6 +68,9 @@ all-yes [] e = refl
 all-yes ((n, true) ∷ l) e = all-yes l e
 all-yes ((n, false) ∷ l) e = cc
 
+pub yes-at : (l : List Question) → refusal l ≡ none → (k : ℕ) → getD (answers l) k true ≡ true
+yes-at l e = nth (answers l) (all-yes l e)
+
 -- the answer to a question by its number, wherever it stands
 abbrev pub answerTo : ℕ → List Question → Bool
 answerTo n [] = true

@@ -22,6 +22,7 @@ use Rattle.blocks.specs.Blocks.{unused}
 use Rattle.questions.specs.Questions.{refusal, openQuestions}
 use Rattle.cells.specs.Open.{After}
 use Rattle.pool.specs.Memory.{Touched, touched, performed}
+use Rattle.pool.proofs.Installs.{installs, block-stays}
 use Rattle.cells.specs.Step.{current}
 use Rattle.cells.specs.Events.{eventOf}
 use Rattle.cells.specs.Machine.{Pool, pool}
@@ -43,25 +44,12 @@ use Rattle.refinement.proofs.Stepped.{set-either, touchedAt, triesAt, r
 
 -- ANY STATE
 
-abbrev installing : Access → Bool
-installing (LoadCell k) = false
-installing (Load b f) = false
-installing (Store b f v) = false
-installing (DecideCas b v) = false
-installing (InstallCas k b n) = true
-installing Allocate = false
-installing Nothing = false
-
--- every other access leaves the cell's block
-only-installs : (p : List ℕ) (c l : ℕ) (f : Option ℕ) (a : Access) → performed p c l f a .current ≢ c → T (installing a)
-only-installs p c l f (LoadCell k) n = absurd (n refl)
-only-installs p c l f (Load b g) n = absurd (n refl)
-only-installs p c l f (Store b g v) n = absurd (n refl)
-only-installs p c l f (DecideCas b v) n = absurd (n (by-test (λ (m : Touched). m .current ≡ c) (eqb (word p b D) noValue) (touched (setWord p b D v) c l 1) (touched p c l 0) (λ z. refl) (λ z. refl)))
-only-installs p c l f (InstallCas k b m) n = tt
-only-installs p c l none Allocate n = absurd (n refl)
-only-installs p c l (some b) Allocate n = absurd (n refl)
-only-installs p c l f Nothing n = absurd (n refl)
+only-installs : (p : List ℕ) (c l : ℕ) (f : Option ℕ) (a : Access) → performed p c l f a .current ≢ c → T (installs a)
+only-installs p c l f a n = go (installs a) refl
+  where
+    go : (x : Bool) → installs a ≡ x → T x
+    go true e = tt
+    go false e = absurd (n (block-stays p c l f a e))
 
 module _ (s : State) (p : List ℕ) (t k : ℕ) where
   abbrev r : Record
@@ -102,7 +90,7 @@ module _ (s : State) (p : List ℕ) (t k : ℕ) where
   replaced : {f : After} → Stepped s p t f → Changes f
   replaced (refuses n) d = absurd (d refl)
   replaced (runs h) d =
-      let e : lineOf r ≡ l30 = same-is (lineOf r) l30 (lies-in (λ ℓ. installing (accessAt ℓ t r)) (λ ℓ. same ℓ l30) tt (lineOf r) (only-installs p c (s .last) (unused s) (accessAt (lineOf r) t r) (changed _ d .2))) in
+      let e : lineOf r ≡ l30 = same-is (lineOf r) l30 (lies-in (λ ℓ. installs (accessAt ℓ t r)) (λ ℓ. same ℓ l30) tt (lineOf r) (only-installs p c (s .last) (unused s) (accessAt (lineOf r) t r) (changed _ d .2))) in
       (h .line ∙ ap number e, subst (λ ℓ. named (touchedAt s p t ℓ .current) ≢ current s k → Won (triesAt s p t ℓ) (eventOf (triesAt s p t ℓ) (ranAt s p t ℓ .outcome)) (named (touchedAt s p t ℓ .current))) (sym e) line-30 d)
 
   step-replaces : current (pool (s, p) (step t) .0 .0) k ≢ current s k → Replaces (s, p) (step t) k
