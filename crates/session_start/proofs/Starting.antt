@@ -7,6 +7,7 @@ use native.Mathlib.Omega.{arith}
 use lib.ListN.{length, take, drop, replicate, length-replicate, length-append}
 use lib.Seq.{length-take-le, take-at}
 use borrow.Author.Tests.{le-leb, lt-leb}
+use Rattle.text.proofs.Zeros.{take-zeros}
 use Rattle.io.specs.Counts.{Counts}
 use Rattle.text.specs.Append.{Appended}
 use Rattle.text.proofs.Appending.{nothing, entire}
@@ -29,11 +30,6 @@ use Rattle.starts.specs.declared.Opening.the-variants as opening
 
 -- ON A NEW POOL
 
-zeros : (n m : ℕ) → n ≤ m → take {A = ℕ} n (replicate m 0) ≡ replicate n 0
-zeros zero m h = refl
-zeros (suc n) zero h = absurd (omega arith)
-zeros (suc n) (suc m) h = ap (λ (l : List ℕ). 0 ∷ l) (zeros n m (omega arith))
-
 pub new-length : {l : List ℕ} → l ≡ replicate 640 0 → length l ≡ 640
 new-length e = ap length e ∙ length-replicate {A = ℕ} 640 0
 
@@ -54,7 +50,7 @@ module _ (n v b : ℕ) (vs new : List ℕ) {w : ℕ} (en : new ≡ replicate 640
   pub opens : leaving s (take w whole) o ≡ opened blank (replicate (poolWords b) 0) n v b vs
   opens =
       ap (λ (q : List ℕ). leaving s q o) theirs ∙ e ∙ ap (λ (t : State). opened t (take w new) n v b vs) eb
-      ∙ ap (λ (q : List ℕ). opened blank q n v b vs) (ap (take w) en ∙ zeros w 640 hw ∙ ap (λ (k : ℕ). replicate k 0) ew)
+      ∙ ap (λ (q : List ℕ). opened blank q n v b vs) (ap (take w) en ∙ take-zeros w 640 hw ∙ ap (λ (k : ℕ). replicate k 0) ew)
 
   pub newly : o ≡ Acted → New n v s w whole
   unfolding opened

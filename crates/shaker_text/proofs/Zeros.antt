@@ -4,6 +4,7 @@ use mathlib.Core.List.{List, [], _∷_, _++_, append-assoc}
 use Prim.Native.Nat.{ℕ, zero, suc, _-_, _*_, _≤_, _<_}
 use native.Mathlib.Omega.{arith}
 use lib.ListN.{length, take, replicate, length-replicate}
+use Rattle.text.proofs.Zeros.{take-zeros}
 use Rattle.text.specs.Bytes.{bytes, digits}
 use Rattle.text.specs.Lines.{numbers}
 use Rattle.text.specs.Append.{Appended}
@@ -13,14 +14,9 @@ use Rattle.shaker_text.specs.Actions.{zeroOpening}
 
 -- A PART OF MANY ZEROS
 
-few-zeros : (n m : ℕ) → n ≤ m → take {A = ℕ} n (replicate m 0) ≡ replicate n 0
-few-zeros zero m h = refl
-few-zeros (suc n) zero h = absurd (omega arith)
-few-zeros (suc n) (suc m) h = ap (λ (l : List ℕ). 0 ∷ l) (few-zeros n m (omega arith))
-
 module _ {l : List ℕ} (n m : ℕ) (e : l ≡ replicate m 0) (h : n ≤ m) where
   pub part-zeros : take n l ≡ replicate n 0
-  part-zeros = ap (take n) e ∙ few-zeros n m h
+  part-zeros = ap (take n) e ∙ take-zeros n m h
 
   pub part-length : n ≡ length (take n l)
   part-length = sym (ap length part-zeros ∙ length-replicate {A = ℕ} n 0)

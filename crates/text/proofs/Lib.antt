@@ -5,3 +5,4 @@ pub mod Spaced
 pub mod Reading
 pub mod ReadBack
 pub mod Several
+pub mod Zeros
