@@ -1,5 +1,6 @@
 // Sessions drawn from a seed.
 
+use buffers::pool_space;
 use lines::records::idle;
 use numbered::put_bad;
 use questions::State;
@@ -67,12 +68,6 @@ fn put_session(
     let at = put_opening(out, tasks, cells, blocks);
     let first = entries::open(blank(), pool, tasks, cells, blocks, values);
     shaken_actions::put_actions(out, at, first.state, pool, seed, tasks, cells, count)
-}
-
-fn pool_space() -> [u32; 640]
-    ensures { λ r. ⌜ r ≡ replicate 640 0 ⌝ }
-{
-    [0; 640]
 }
 
 fn value_space() -> [u32; 16]
