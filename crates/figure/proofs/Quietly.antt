@@ -28,8 +28,7 @@ use Rattle.figure_cell.proofs.Classes.{busy, swapping, marking, lies-in, holdin
 use Rattle.figure_cell.proofs.Invariant.{none, Knowledge, line}
 use Rattle.figure.proofs.Views.{on, on-in, on-it, on-changed, on-elsewhere, view, on-others}
 use Rattle.figure.proofs.Operations.{busy-line, busy-doing, is-unequal}
-use Rattle.figure.proofs.Worlds.{Good, cellAfter, nextAfter, stepAfter, pending-at}
-use Rattle.figure.proofs.Begins.{was-idle, idle-to, its-cell}
+use Rattle.figure.proofs.Worlds.{Good, cellAfter, nextAfter, stepAfter, pending-at, was-idle, idle-to, its-cell}
 use Rattle.figure.proofs.Marks.{Marks, marks-kept}
 use Rattle.figure_cell.proofs.Quiet.{signed, Quiet, quiet-step, no-attempt, others-step, others-begin}
 

@@ -15,8 +15,8 @@ use Rattle.cells.specs.Step.{current, stepAsks, answers}
 use Rattle.cells.specs.Machine.{triedBy}
 use Rattle.cells.proofs.Stepping.{own-acting}
 use Rattle.history.specs.History.{step}
-use Rattle.figure.specs.Attempts.{judged}
-use Rattle.figure.proofs.Attempts.{judge}
+use Rattle.figure_moments.specs.Attempts.{judged}
+use Rattle.figure_moments.proofs.Attempts.{judge}
 use Rattle.refinement.specs.Moments.{seesPool}
 
 value-of : (c : Bool) (m m′ : Touched) → m .value ≡ 1 → m′ .value ≡ 0 → cond c m m′ .value ≡ cond c 1 0

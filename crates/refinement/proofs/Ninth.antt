@@ -26,7 +26,7 @@ use Rattle.figure.specs.Figure.{World, withBoth, WorldAfter, recordAfter, outco
 use Rattle.cells.specs.Events.{eventOf}
 use Rattle.figure_cell.specs.Paths.{paths, reached, by25, pathsOf}
 use Rattle.figure.specs.Traces.{Traced, Trace, noTrace, didLine, enterLine, figureTraces}
-use Rattle.figure.proofs.Reachable.{trivial, Reachable, next-reachable, opening-reachable}
+use Rattle.figure_moments.proofs.Reachable.{trivial, Reachable, next-reachable, opening-reachable}
 use Rattle.history.proofs.ListTests.{every, every-in, has, imp, has-in, by-test}
 use Rattle.figure_cell.proofs.LineLaws.{every-line, same, same-is, before, waysOf}
 use Rattle.figure.proofs.Records.{OnPath, Sound, with-first, upd-both, Begun, starts, begin-cases, Stepped, runs, step-cases, act-sound}
@@ -34,7 +34,8 @@ use Rattle.figure.proofs.Paths.{start-sound, last-line}
 use Rattle.figure_cell.proofs.Classes.{is, holding, swapping, taking, lies-in}
 use Rattle.figure_cell.proofs.Invariant.{none, TaskOf}
 use Rattle.figure.proofs.Views.{on-in, view}
-use Rattle.figure.proofs.Worlds.{known, facts}
+use Rattle.figure_moments.proofs.Known.{known}
+use Rattle.figure.proofs.Worlds.{facts}
 
 -- CALLS THAT LINE 25 DID NOT ANSWER
 
