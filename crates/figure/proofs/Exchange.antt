@@ -14,6 +14,7 @@ use Rattle.history.proofs.Basics.{either, upd-at, upd-same, upd-off, clash, som
 use Rattle.figure_cell.specs.Memory.{Cell, accessCell}
 use Rattle.figure.specs.Figure.{World, worldAfter, withTask, unlessRefused, recordAfter, outcomeOf, firstOf, figureRan, figureStepped, figureBegun, triedIn, figure}
 use Rattle.figure.specs.Exchange.{ifAccepted, touches, Apart}
+use Rattle.figure.proofs.Records.{cell-elsewhere}
 
 -- WHAT AN ACTION LEAVES AS IT WAS: sizes, the records of other tasks, the cells that it does not touch
 record Leaves (w : World) (t : ℕ) (touch : Option ℕ) (w′ : World) : Type 0 where
@@ -35,7 +36,7 @@ step-leaves w t none = record {
   tasks = refl;
   cells = refl;
   others = λ u n. upd-off (w .records) t _ u n;
-  untouched = λ k n. upd-off (w .cell) (w .records t .cell) _ k (λ e. n (ap some (sym e)));
+  untouched = λ k n. cell-elsewhere w (w .records t .cell) _ t (w .records t) k (λ e. n (ap some (sym e)));
 }
 step-leaves w t (some n) = all-left w t none
 

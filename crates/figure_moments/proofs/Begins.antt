@@ -13,7 +13,7 @@ use Rattle.lines.specs.Record.{noValue, idle, first, firstRead}
 use Rattle.lines.specs.Lines.{lineOf, l10, l15}
 use Rattle.questions.specs.Questions.{valuesFit}
 use Rattle.history.specs.History.{Op, read, swap, cellOf}
-use Rattle.history.proofs.Basics.{either, upd-same, upd-off}
+use Rattle.history.proofs.Basics.{either, clash, upd-same, upd-off}
 use Rattle.linearizing.proofs.Simulation.{late, Ghost, unplaced, Grown}
 use Rattle.figure.specs.Figure.{World, withTask, opening, figure, firstOf}
 use Rattle.figure_moments.specs.Moments.{Notes, nothingNoted, names, sees}
@@ -123,7 +123,7 @@ pub opening-good : (n v : ℕ) (vs : List ℕ) → ((k : ℕ) → getD vs k 0 �
 unfolding none
 opening-good n v vs ok κ = record {
   on-path = opening-on-path n v vs;
-  eager = λ u n z. absurd (let x : _≡_ {A = ℕ} 0 1 = cc in omega arith);
+  eager = λ u n z. absurd (clash refl z);
   cells = λ k. record {
     current = record { low = omega arith; P-some = ok k; v-some = ok k; decided-inactive = λ z. absurd (z refl); decision = λ z. absurd (z refl); phase-is = λ z. (refl, refl) };
     tasks = λ u. rw (on-idle (λ t. idle) k u refl) (idle-task (view (opening n v vs) (Sim.fresh (λ k. getD vs k 0)) k) κ u idle (settled≢late u));

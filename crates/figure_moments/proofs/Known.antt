@@ -18,7 +18,7 @@ use Rattle.figure_cell.specs.Memory.{Cell, accessCell}
 use Rattle.figure.specs.Figure.{World, withBoth, figure}
 use Rattle.figure_moments.specs.Moments.{Notes, noted, names, sees}
 use Rattle.history.proofs.ListTests.{every}
-use Rattle.figure.proofs.Records.{Pending, AllOnPath, OnPath}
+use Rattle.figure.proofs.Records.{Pending, AllOnPath, cell-there, cell-elsewhere}
 use Rattle.figure_cell.proofs.AsBegun.{cell-of}
 use Rattle.figure.proofs.Tallies.{tally, tallyOf, doing}
 use Rattle.figure_cell.proofs.Classes.{busy, holding, swapping, stored, viewing, lies-in}
@@ -227,10 +227,10 @@ module _ (w : World) (notes : Notes) (g : Ghost) (κ : Sim.Knowledge) (G : Good 
     w′ = withBoth w k m t q′
 
     view-here : view w′ (g′ x) k ≡ viewAfter s t m q′ x
-    view-here = λ i. record { cell = upd-same (w .cell) k m i; task = on-changed (w .records) t q′ k stays i; value = value-here x c i; placed = placed-is x i; phase = phase-here x i }
+    view-here = λ i. record { cell = cell-there w k m t q′ i; task = on-changed (w .records) t q′ k stays i; value = value-here x c i; placed = placed-is x i; phase = phase-here x i }
 
     view-there : (j : ℕ) → j ≢ k → view w′ (g′ x) j ≡ record { cell = w .cell j; task = on (w .records) j; value = g .cells j; placed = g′ x .placed; phase = g .phase j }
-    view-there j n = λ i. record { cell = upd-off (w .cell) k m j n i; task = on-others (w .records) t q′ j n stays i; value = value-there j n x c i; placed = g′ x .placed; phase = phase-there j n x i }
+    view-there j n = λ i. record { cell = cell-elsewhere w k m t q′ j n i; task = on-others (w .records) t q′ j n stays i; value = value-there j n x c i; placed = g′ x .placed; phase = phase-there j n x i }
 
     was-doing : (u : ℕ) (n′ : Tally) → doing w′ u ≡ some n′ → (n : Tally) × (doing w u ≡ some n)
     was-doing u n′ e = go (either u t)
