@@ -45,7 +45,7 @@ prints :
     ((7, 0), ("(open 2 1 5 (5))\n(step 7)\n(read 1 0)\n(again 3 (step 1))\n", "(bad 18)\n")) ∷
     ((1, 0), ("(open 2 1 5 (5))\n(read 1 0)\n(again 2 (step 1))\n", "(bad 18)\n")) ∷
     -- 19 before 18, the open's before 19, and 13 before the open's
-    ((1, 0), ("(open 2 1 5 (5))\n(again 2001 (step 0))\n", "(bad 19)\n")) ∷
+    ((0, 0), ("(open 1 1 2 (5))\n(again 2001 (step 7))\n", "(bad 19)\n")) ∷
     ((1, 0), ("(open 2 1 3 (5))\n(again 2001 (step 0))\n", "(bad 3)\n")) ∷
     ((1, 0), ("(open 2 1 3 (5))", "(bad 13)\n")) ∷
     []
