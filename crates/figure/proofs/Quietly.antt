@@ -19,7 +19,7 @@ use Rattle.linearizing.proofs.Simulation.{Ghost, Tally, QuietStarts, QuietSteps
 use Rattle.figure_cell.specs.Memory.{Cell, accessCell}
 use Rattle.figure.specs.Figure.{World, withTask, recordAfter, clear, figureAnswers, triedIn, firstOf}
 use Rattle.figure_cell.proofs.LineLaws.{Leads, goes, done}
-use Rattle.figure.proofs.Records.{Pending, OnPath, AllOnPath, Accepted, led}
+use Rattle.figure.proofs.Records.{Pending, OnPath, AllOnPath, Accepted, led, cell-there, cell-elsewhere}
 use Rattle.figure_cell.proofs.AsBegun.{cell-of}
 use Rattle.figure.proofs.Tallies.{tally, tallyOf, doing}
 use Rattle.figure_cell.proofs.Classes.{busy, swapping, marking, lies-in, holding, uncontended}
@@ -75,15 +75,15 @@ module _ (w : World) (g : Ghost) (κ : Knowledge) (G : Good w g κ) (marks : (k 
   marks-after j = go (either j k)
     where
       go : (j ≡ k) ⊎ (j ≢ k) → Marks (w′ .cell j) (on (w′ .records) j)
-      go (inl e) = subst (λ j. Marks (upd (w .cell) k m j) (on (upd (w .records) t (recordAfter n)) j)) (sym e) (rw (upd-same (w .cell) k m, on-changed (w .records) t (recordAfter n) k (stays .0))
+      go (inl e) = subst (λ j. Marks (upd (w .cell) k m j) (on (upd (w .records) t (recordAfter n)) j)) (sym e) (rw (cell-there w k m t (recordAfter n), on-changed (w .records) t (recordAfter n) k (stays .0))
           (subst (λ (r : Record). let x = accessCell (w .cell k) (accessOf t r) in Marks (x .cell) (upd (on (w .records) k) t (recordAfter (nextOf t r (x .value))))) here
           (marks-kept (view w g k) κ t (G .cells k) (marks k) (lineOf (on (w .records) k t)) refl (rw here (busy-line q (o .line))))))
-      go (inr e) = rw (upd-off (w .cell) k m j e, on-others (w .records) t (recordAfter n) j e (stays .0)) (marks j)
+      go (inr e) = rw (cell-elsewhere w k m t (recordAfter n) j e, on-others (w .records) t (recordAfter n) j e (stays .0)) (marks j)
 
   own-kept : (x : Next) → n ≡ x → (a : Tally) → tallyOf (recordAfter x) ≡ some a → QuietIn w t → Quiet (upd (w .cell) k m (recordAfter n .cell)) (on (w′ .records) (recordAfter n .cell)) t
   own-kept (Go r) e a d z =
       let c : recordAfter n .cell ≡ k = same-cell (stays .0) in
-      rw c (rw (upd-same (w .cell) k m, on-changed (w .records) t (recordAfter n) k (stays .0)) (subst (λ (y : Next). Quiet m (upd (on (w .records) k) t (recordAfter y)) t) (sym e) (went-on r e)))
+      rw c (rw (cell-there w k m t (recordAfter n), on-changed (w .records) t (recordAfter n) k (stays .0)) (subst (λ (y : Next). Quiet m (upd (on (w .records) k) t (recordAfter y)) t) (sym e) (went-on r e)))
     where
       same-cell : (recordAfter n .cell ≡ k) ⊎ (recordAfter n ≡ idle) → recordAfter n .cell ≡ k
       same-cell (inl z) = z
@@ -113,10 +113,10 @@ module _ (w : World) (g : Ghost) (κ : Knowledge) (G : Good w g κ) (marks : (k 
           let y : Quiet (w .cell k) (on (w .records) k) u = subst (λ (j : ℕ). Quiet (w .cell j) (on (w .records) j) u) e z in
           let no-swap : T (swapping (lineOf (on (w .records) k t))) → ⊥ = y .lonely t (λ x. ne (sym x)) in
           subst (λ j. Quiet (upd (w .cell) k m j) (on (upd (w .records) t (recordAfter n)) j) u) (sym e)
-          (rw (upd-same (w .cell) k m, on-changed (w .records) t (recordAfter n) k (stays .0))
+          (rw (cell-there w k m t (recordAfter n), on-changed (w .records) t (recordAfter n) k (stays .0))
           (subst (λ (p : Record). Quiet (accessCell (w .cell k) (accessOf t p) .cell) (upd (on (w .records) k) t (recordAfter n)) u) here
           (others-step (w .cell k) (on (w .records) k) u t (recordAfter n) y ne (λ b. no-swap (rw here (stays .1 b))) no-swap)))
-      go (inr e) = rw (upd-off (w .cell) k m j e, on-others (w .records) t (recordAfter n) j e (stays .0)) z
+      go (inr e) = rw (cell-elsewhere w k m t (recordAfter n) j e, on-others (w .records) t (recordAfter n) j e (stays .0)) z
 
   pub step-quietly : QuietSteps doing clear QuietIn w w′ t (triedIn w t (w .records t))
   step-quietly = record {

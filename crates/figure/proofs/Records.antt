@@ -214,6 +214,9 @@ first-on-path w t (swap k e n) a = let l = at-first (either e n) in record { cel
 pub cell-there : (w : World) (k : ℕ) (m : Cell) (t : ℕ) (q : Record) → withBoth w k m t q .cell k ≡ m
 cell-there w k m t q = upd-same (w .cell) k m
 
+pub cell-at : (w : World) (k : ℕ) (m : Cell) (t : ℕ) (q : Record) (j : ℕ) → j ≡ k → withBoth w k m t q .cell j ≡ m
+cell-at w k m t q j e = ap (withBoth w k m t q .cell) e ∙ cell-there w k m t q
+
 pub cell-elsewhere : (w : World) (k : ℕ) (m : Cell) (t : ℕ) (q : Record) (j : ℕ) → j ≢ k → withBoth w k m t q .cell j ≡ w .cell j
 cell-elsewhere w k m t q j n = upd-off (w .cell) k m j n
 
