@@ -4,10 +4,3 @@ pub mod Invariant
 pub mod Keeping
 pub mod Ways
 pub mod Lone
-pub mod Sound
-pub mod Begins
-pub mod Moving
-pub mod Opening
-pub mod Acts
-pub mod Agrees
-pub mod Examples

@@ -10,10 +10,11 @@ use Rattle.questions.specs.Questions.{refusal, beginQuestions, swapQuestions, s
 use Rattle.cells.specs.Answers.{Acted}
 use Rattle.cells.specs.Events.{eventOf, tried}
 use Rattle.history.specs.History.{Op, read, swap, Action, begin, step, taskOf, Event, untried}
-use Rattle.history.proofs.Basics.{either, upd-at, upd-same, upd-off, clash, some-inj}
+use Rattle.history.proofs.Basics.{either, upd-same, upd-off, clash, some-inj}
 use Rattle.figure_cell.specs.Memory.{Cell, accessCell}
 use Rattle.figure.specs.Figure.{World, worldAfter, withTask, unlessRefused, recordAfter, outcomeOf, firstOf, figureRan, figureStepped, figureBegun, triedIn, figure}
 use Rattle.figure.specs.Exchange.{ifAccepted, touches, Apart}
+use Rattle.figure.proofs.Records.{cell-at, cell-elsewhere}
 
 -- WHAT AN ACTION LEAVES AS IT WAS: sizes, the records of other tasks, the cells that it does not touch
 record Leaves (w : World) (t : ℕ) (touch : Option ℕ) (w′ : World) : Type 0 where
@@ -35,7 +36,7 @@ step-leaves w t none = record {
   tasks = refl;
   cells = refl;
   others = λ u n. upd-off (w .records) t _ u n;
-  untouched = λ k n. upd-off (w .cell) (w .records t .cell) _ k (λ e. n (ap some (sym e)));
+  untouched = λ k n. cell-elsewhere w (w .records t .cell) _ t (w .records t) k (λ e. n (ap some (sym e)));
 }
 step-leaves w t (some n) = all-left w t none
 
@@ -92,7 +93,7 @@ step-does w w′ t s none c = record {
   task = upd-same (w′ .records) t (recordFor t q′ m′) ∙ (ap₂ (recordFor t) s here ∙ sym (upd-same (w .records) t (recordFor t q m)));
   cell = λ k e.
       let j : k ≡ q .cell = sym (some-inj refl e) in
-      upd-at (w′ .cell) (q′ .cell) (cellFor t q′ m′) k (j ∙ sym (ap (λ (q : Record). q .cell) s)) ∙ (ap₂ (cellFor t) s here ∙ sym (upd-at (w .cell) (q .cell) (cellFor t q m) k j));
+      cell-at w′ (q′ .cell) (cellFor t q′ m′) t q′ k (j ∙ sym (ap (λ (q : Record). q .cell) s)) ∙ (ap₂ (cellFor t) s here ∙ sym (cell-at w (q .cell) (cellFor t q m) t q k j));
 }
   where
     q : Record

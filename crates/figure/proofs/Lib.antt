@@ -1,17 +1,10 @@
 pub mod Records
 pub mod Paths
 pub mod Tallies
-pub mod Notes
 pub mod Views
 pub mod Operations
 pub mod Worlds
-pub mod Begins
 pub mod Marks
 pub mod Quietly
-pub mod Dated
-pub mod Simulation
-pub mod Reachable
 pub mod TracedCalls
-pub mod Attempts
-pub mod RunExamples
 pub mod Exchange

@@ -2,11 +2,9 @@
 use mathlib.Core.Path.{_≡_, refl, sym, ap, subst, _∙_}
 use mathlib.Core.Logic.{_≢_, _⊎_, inl, inr}
 use mathlib.Core.Bool.{Bool, true, false, cond}
-use mathlib.Core.Option.{Option, some}
-use mathlib.Core.Option as Opt
+use mathlib.Core.Option.{some}
 use mathlib.Core.List.{List}
 use Prim.Native.Nat.{ℕ}
-use native.Mathlib.Omega.{arith}
 use lib.Dec.{eqb, T}
 use borrow.Author.Tests.{eqb-false}
 use Rattle.lines.specs.declared.Record.{Record}
@@ -16,20 +14,19 @@ use Rattle.lines.specs.Lines.{Line, l10, l15, lineAt, lineOf, accessOf, accessA
 use Rattle.history.specs.Basics.{upd}
 use Rattle.history.specs.History.{Op, read, swap, cellOf, untried}
 use Rattle.history.specs.Demand3.{Unequal}
-use Rattle.history.proofs.Basics.{either, upd-at, upd-same, upd-off}
+use Rattle.history.proofs.Basics.{either, clash, some-inj, upd-at, upd-same, upd-off}
 use Rattle.linearizing.proofs.Simulation.{Ghost, Tally, QuietStarts, QuietSteps, Free}
 use Rattle.figure_cell.specs.Memory.{Cell, accessCell}
 use Rattle.figure.specs.Figure.{World, withTask, recordAfter, clear, figureAnswers, triedIn, firstOf}
 use Rattle.figure_cell.proofs.LineLaws.{Leads, goes, done}
-use Rattle.figure.proofs.Records.{Pending, OnPath, AllOnPath, Accepted, led}
+use Rattle.figure.proofs.Records.{Pending, OnPath, AllOnPath, Accepted, led, cell-there, cell-elsewhere}
 use Rattle.figure_cell.proofs.AsBegun.{cell-of}
 use Rattle.figure.proofs.Tallies.{tally, tallyOf, doing}
 use Rattle.figure_cell.proofs.Classes.{busy, swapping, marking, lies-in, holding, uncontended}
 use Rattle.figure_cell.proofs.Invariant.{none, Knowledge, line}
 use Rattle.figure.proofs.Views.{on, on-in, on-it, on-changed, on-elsewhere, view, on-others}
 use Rattle.figure.proofs.Operations.{busy-line, busy-doing, is-unequal}
-use Rattle.figure.proofs.Worlds.{Good, cellAfter, nextAfter, stepAfter, pending-at}
-use Rattle.figure.proofs.Begins.{was-idle, idle-to, its-cell}
+use Rattle.figure.proofs.Worlds.{Good, cellAfter, nextAfter, stepAfter, pending-at, was-idle, idle-to, its-cell}
 use Rattle.figure.proofs.Marks.{Marks, marks-kept}
 use Rattle.figure_cell.proofs.Quiet.{signed, Quiet, quiet-step, no-attempt, others-step, others-begin}
 
@@ -37,15 +34,12 @@ use Rattle.figure_cell.proofs.Quiet.{signed, Quiet, quiet-step, no-attempt, oth
 abbrev pub QuietIn : World → ℕ → Type 0
 QuietIn w u = Quiet (w .cell (w .records u .cell)) (on (w .records) (w .records u .cell)) u
 
-some-is : (o : Option Tally) (a b : Tally) → o ≡ some a → o ≡ some b → b ≡ a
-some-is o a b p q = cc
-
 -- who is doing something is at a line
 pub is-busy : (w : World) → AllOnPath w → (u : ℕ) (n : Tally) → doing w u ≡ some n → T (busy (lineOf (w .records u)))
 is-busy w p u n d = go (p u .1)
   where
     go : OnPath (w .tasks) (w .cells) u (p u .0) (w .records u) → T (busy (lineOf (w .records u)))
-    go (inl i) = absurd (let x : Opt.none ≡ some n = sym (ap tallyOf (i .0)) ∙ d in let y : _≡_ {A = ℕ} 0 1 = cc in omega arith)
+    go (inl i) = absurd (clash (ap tallyOf (i .0)) d)
     go (inr o) = busy-line (w .records u) (o .1 .line)
 
 -- A STEP OF TASK t
@@ -81,19 +75,19 @@ module _ (w : World) (g : Ghost) (κ : Knowledge) (G : Good w g κ) (marks : (k 
   marks-after j = go (either j k)
     where
       go : (j ≡ k) ⊎ (j ≢ k) → Marks (w′ .cell j) (on (w′ .records) j)
-      go (inl e) = subst (λ j. Marks (upd (w .cell) k m j) (on (upd (w .records) t (recordAfter n)) j)) (sym e) (rw (upd-same (w .cell) k m, on-changed (w .records) t (recordAfter n) k (stays .0))
+      go (inl e) = subst (λ j. Marks (upd (w .cell) k m j) (on (upd (w .records) t (recordAfter n)) j)) (sym e) (rw (cell-there w k m t (recordAfter n), on-changed (w .records) t (recordAfter n) k (stays .0))
           (subst (λ (r : Record). let x = accessCell (w .cell k) (accessOf t r) in Marks (x .cell) (upd (on (w .records) k) t (recordAfter (nextOf t r (x .value))))) here
           (marks-kept (view w g k) κ t (G .cells k) (marks k) (lineOf (on (w .records) k t)) refl (rw here (busy-line q (o .line))))))
-      go (inr e) = rw (upd-off (w .cell) k m j e, on-others (w .records) t (recordAfter n) j e (stays .0)) (marks j)
+      go (inr e) = rw (cell-elsewhere w k m t (recordAfter n) j e, on-others (w .records) t (recordAfter n) j e (stays .0)) (marks j)
 
   own-kept : (x : Next) → n ≡ x → (a : Tally) → tallyOf (recordAfter x) ≡ some a → QuietIn w t → Quiet (upd (w .cell) k m (recordAfter n .cell)) (on (w′ .records) (recordAfter n .cell)) t
   own-kept (Go r) e a d z =
       let c : recordAfter n .cell ≡ k = same-cell (stays .0) in
-      rw c (rw (upd-same (w .cell) k m, on-changed (w .records) t (recordAfter n) k (stays .0)) (subst (λ (y : Next). Quiet m (upd (on (w .records) k) t (recordAfter y)) t) (sym e) (went-on r e)))
+      rw c (rw (cell-there w k m t (recordAfter n), on-changed (w .records) t (recordAfter n) k (stays .0)) (subst (λ (y : Next). Quiet m (upd (on (w .records) k) t (recordAfter y)) t) (sym e) (went-on r e)))
     where
       same-cell : (recordAfter n .cell ≡ k) ⊎ (recordAfter n ≡ idle) → recordAfter n .cell ≡ k
       same-cell (inl z) = z
-      same-cell (inr z) = absurd (let y : recordAfter (Go r) ≡ idle = subst (λ (y : Next). recordAfter y ≡ idle) e z in let x : Opt.none ≡ some a = rw y at d in let u : _≡_ {A = ℕ} 0 1 = cc in omega arith)
+      same-cell (inr z) = absurd (clash (ap tallyOf (subst (λ (y : Next). recordAfter y ≡ idle) e z)) d)
 
       went-on : (r : Record) → n ≡ Go r → Quiet m (upd (on (w .records) k) t r) t
       went-on r e = subst (λ (y : Next). Goes y) e
@@ -106,7 +100,7 @@ module _ (w : World) (g : Ghost) (κ : Knowledge) (G : Good w g κ) (marks : (k 
 
           Goes : Next → Type 0
           Goes y = Goes′ m y
-  own-kept (Done f) e a d z = absurd (let u : _≡_ {A = ℕ} 0 1 = cc in omega arith)
+  own-kept (Done f) e a d z = absurd (clash refl d)
 
   others-kept : (u : ℕ) → u ≢ t → QuietIn w u → QuietIn w′ u
   others-kept u ne z = rw (upd-off (w .records) t (recordAfter n) u ne) (go (either (w .records u .cell) k))
@@ -119,10 +113,10 @@ module _ (w : World) (g : Ghost) (κ : Knowledge) (G : Good w g κ) (marks : (k 
           let y : Quiet (w .cell k) (on (w .records) k) u = subst (λ (j : ℕ). Quiet (w .cell j) (on (w .records) j) u) e z in
           let no-swap : T (swapping (lineOf (on (w .records) k t))) → ⊥ = y .lonely t (λ x. ne (sym x)) in
           subst (λ j. Quiet (upd (w .cell) k m j) (on (upd (w .records) t (recordAfter n)) j) u) (sym e)
-          (rw (upd-same (w .cell) k m, on-changed (w .records) t (recordAfter n) k (stays .0))
+          (rw (cell-there w k m t (recordAfter n), on-changed (w .records) t (recordAfter n) k (stays .0))
           (subst (λ (p : Record). Quiet (accessCell (w .cell k) (accessOf t p) .cell) (upd (on (w .records) k) t (recordAfter n)) u) here
           (others-step (w .cell k) (on (w .records) k) u t (recordAfter n) y ne (λ b. no-swap (rw here (stays .1 b))) no-swap)))
-      go (inr e) = rw (upd-off (w .cell) k m j e, on-others (w .records) t (recordAfter n) j e (stays .0)) z
+      go (inr e) = rw (cell-elsewhere w k m t (recordAfter n) j e, on-others (w .records) t (recordAfter n) j e (stays .0)) z
 
   pub step-quietly : QuietSteps doing clear QuietIn w w′ t (triedIn w t (w .records t))
   step-quietly = record {
@@ -223,10 +217,10 @@ module _ (w : World) (g : Ghost) (κ : Knowledge) (G : Good w g κ) (marks : (k 
       others u n d apart z = rw (upd-off (w .records) t (firstOf op) u ne) (go (either (w .records u .cell) (cellOf op)))
         where
           ne : u ≢ t
-          ne e = let x : Opt.none ≡ some n = sym (ap tallyOf (was-idle w g κ G t op a)) ∙ sym (ap (doing w) e) ∙ d in let y : _≡_ {A = ℕ} 0 1 = cc in omega arith
+          ne e = clash (ap (doing w) e ∙ ap tallyOf (was-idle w g κ G t op a)) d
 
           its : cellOf (n .op) ≡ w .records u .cell
-          its = ap (λ (n : Tally). cellOf (n .op)) (some-is (doing w u) (tally (w .records u)) n (busy-doing (w .records u) (is-busy w (G .on-path) u n d)) d) ∙ cell-of (w .records u)
+          its = ap (λ (n : Tally). cellOf (n .op)) (some-inj d (busy-doing (w .records u) (is-busy w (G .on-path) u n d))) ∙ cell-of (w .records u)
 
           go : (w .records u .cell ≡ cellOf op) ⊎ (w .records u .cell ≢ cellOf op) → Quiet (w .cell (w .records u .cell)) (on (v′ .records) (w .records u .cell)) u
           go (inr e) = rw (on-another (w .records u .cell) e) z

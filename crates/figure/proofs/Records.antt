@@ -17,7 +17,7 @@ use Rattle.figure_cell.proofs.Tries.{tries}
 use Rattle.questions.specs.Questions.{Question, refusal, ofKind, reads, swaps, lineFit, valuesFit, beginQuestions, swapQuestions, stepQuestions}
 use Rattle.history.specs.Basics.{upd, _∈_}
 use Rattle.history.specs.History.{Op, read, swap, cellOf, Action, begin, step, Report, untried, wins, losses, run}
-use Rattle.history.proofs.Basics.{either, upd-at, upd-off, upd-cases}
+use Rattle.history.proofs.Basics.{either, upd-at, upd-same, upd-off, upd-cases}
 use Rattle.figure_cell.specs.Memory.{Cell, accessCell}
 use Rattle.figure.specs.Figure.{World, withTask, withBoth, WorldAfter, worldAfter, unlessRefused, recordAfter, outcomeOf, figureRan, figureStepped, figureBegun, opening, figure, triedIn, firstOf}
 use Rattle.cells.specs.Events.{reportOf, eventOf}
@@ -208,6 +208,19 @@ first-on-path w t (swap k e n) a = let l = at-first (either e n) in record { cel
     at-first : (e ≡ n) ⊎ (e ≢ n) → (lineFit (firstOf (swap k e n)) ≡ true) × ([] ∈ before (lineOf (firstOf (swap k e n))))
     at-first (inl z) = rw (eq-eqb e n z) (refl, inl refl)
     at-first (inr z) = rw (ne-eqb e n z) (refl, inl refl)
+
+-- A STEP'S CELL is what its line left of it, and the other cells are as they were
+
+pub cell-there : (w : World) (k : ℕ) (m : Cell) (t : ℕ) (q : Record) → withBoth w k m t q .cell k ≡ m
+cell-there w k m t q = upd-same (w .cell) k m
+
+pub cell-at : (w : World) (k : ℕ) (m : Cell) (t : ℕ) (q : Record) (j : ℕ) → j ≡ k → withBoth w k m t q .cell j ≡ m
+cell-at w k m t q j e = ap (withBoth w k m t q .cell) e ∙ cell-there w k m t q
+
+pub cell-elsewhere : (w : World) (k : ℕ) (m : Cell) (t : ℕ) (q : Record) (j : ℕ) → j ≢ k → withBoth w k m t q .cell j ≡ w .cell j
+cell-elsewhere w k m t q j n = upd-off (w .cell) k m j n
+
+-- ONE ACTION
 
 module _ (w : World) (r : Trace) (s : Sound w r) where
   abbrev now : ℕ → Line

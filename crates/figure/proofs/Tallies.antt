@@ -1,12 +1,11 @@
 -- What the figure counts of its pending calls, as the simulation asks for it: each step adds one, within the bounds of demand 3.
-use mathlib.Core.Path.{_≡_, refl, sym, subst}
+use mathlib.Core.Path.{_≡_, refl, sym, ap, subst}
 use mathlib.Core.Logic.{_⊎_, _≢_, inl, inr}
 use mathlib.Core.Bool.{Bool, true, false, cond}
 use mathlib.Core.Option.{Option, none, some}
 use mathlib.Core.List.{List}
 use Prim.Native.Nat.{ℕ, _+_, _≤_, _<_}
 use native.Mathlib.Numerals.{add-one}
-use native.Mathlib.Omega.{arith}
 use lib.Dec.{eqb, leb, leb→le}
 use borrow.Author.Tests.{eqb-true}
 use Rattle.lines.specs.declared.Record.{Record}
@@ -16,7 +15,7 @@ use Rattle.lines.specs.Lines.{Line, lineOf, accessOf, counted, hardware}
 use Rattle.history.specs.Basics.{upd, _∈_}
 use Rattle.history.specs.History.{Op, read, swap, Action, begin, step, untried, Response}
 use Rattle.history.specs.Demand3.{most, mostHard}
-use Rattle.history.proofs.Basics.{either, upd-at, upd-off}
+use Rattle.history.proofs.Basics.{either, clash, some-inj, upd-at, upd-off}
 use Rattle.linearizing.proofs.Simulation.{Tally, first, Follows}
 use Rattle.figure_cell.specs.Memory.{Cell, accessCell}
 use Rattle.figure.specs.Figure.{World, WorldAfter, withBoth, recordAfter, outcomeOf, figureRan, figure, triedIn, firstOf}
@@ -53,8 +52,8 @@ pub within : (w : World) → AllOnPath w → (t : ℕ) (n : Tally) → doing w t
 within w p t n e = go (w .records t) (p t .1) e
   where
     go : (q : Record) → OnPath (w .tasks) (w .cells) t (p t .0) q → tallyOf q ≡ some n → Few n
-    go q (inl i) e = let x : none ≡ some n = rw (i .0) at e in let z : _≡_ {A = ℕ} 0 1 = cc in omega arith
-    go q (inr (m, o)) e = let k : tally q ≡ n = cc (was-doing (w .cells) (p t .0) q o) in
+    go q (inl i) e = absurd (clash (ap tallyOf (i .0)) e)
+    go q (inr (m, o)) e = let k : tally q ≡ n = some-inj (was-doing (w .cells) (p t .0) q o) e in
         subst Few k (by-test (λ op. (q .steps < most op) × (q .won + q .lost ≤ mostHard op)) (eqb (q .kind) 1) (read (q .cell)) (swap (q .cell) (q .expected) (q .new)) (λ z. read-bounds (w .cells) (p t .0) q o (eqb-true _ _ z)) (λ z. pending-bounds (w .cells) (p t .0) q o))
 
 -- ACTIONS

@@ -13,7 +13,7 @@ use Rattle.cells.specs.Machine.{Pool}
 use Rattle.history.specs.History.{Op, read, swap, aRead, aSwap, kindOf, Response, Value, Yes, No}
 use Rattle.history.specs.Moments as Moments
 use Rattle.history.specs.Moments.{Rule, C1, changes}
-use Rattle.figure.specs.Moments.{at, Notes, stands}
+use Rattle.figure_moments.specs.Moments.{at, Notes, stands}
 use Rattle.figure_cell.proofs.AsBegun.{kind-of, cell-of}
 use Rattle.refinement.specs.Moments.{seesPool}
 use Rattle.moments_notes.specs.declared.Sight.{Sight}

@@ -10,7 +10,7 @@ use Rattle.cells.specs.Answers.{Said, Refused, Acted, Ended}
 use Rattle.cells.specs.Machine.{Pool, pool}
 use Rattle.history.specs.History.{Op, Response, Yes, Action, begin, step, noCalls}
 use Rattle.history.specs.Moments.{Spot, Mark, marks}
-use Rattle.figure.specs.Moments.{Notes, noNotes, noting, names, ruled, stands}
+use Rattle.figure_moments.specs.Moments.{Notes, noNotes, noting, names, ruled, stands}
 use Rattle.refinement.specs.Moments.{seesPool}
 use Rattle.moments_notes.specs.declared.Sight.{Sight}
 use Rattle.moments_notes.specs.declared.Own.{Own}

@@ -13,8 +13,8 @@ use Rattle.lines.specs.Record.{noValue}
 use Rattle.pool.specs.Pool.{word}
 use Rattle.history.specs.Moments.{sideNumber}
 use Rattle.history.specs.Moments as Moments
-use Rattle.figure.specs.Moments.{holdsBlock, Notes}
-use Rattle.figure.specs.Moments as Figure
+use Rattle.figure_moments.specs.Moments.{holdsBlock, Notes}
+use Rattle.figure_moments.specs.Moments as Figure
 use Rattle.moments_notes.specs.declared.Sight.{Sight}
 use Rattle.moments_notes.specs.declared.Own.{Own}
 use Rattle.moments_notes.specs.declared.Spot.{Spot}

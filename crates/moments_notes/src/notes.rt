@@ -14,7 +14,7 @@ ghost use lib.Dec.{eqb};
 ghost use lib.ListN.{getD, length};
 ghost use Rattle.lines.specs.Record.{idle, recordAt};
 ghost use Rattle.cells.specs.Answers.{said, actOf};
-ghost use Rattle.figure.specs.Moments.{noted};
+ghost use Rattle.figure_moments.specs.Moments.{noted};
 ghost use Rattle.pool.specs.Words.{recordsOf};
 ghost use Rattle.moments_notes.specs.Loop.{lineIf, notedLine, spreads as «spreadsOf»};
 ghost use Rattle.moments_notes.specs.Notes.{slot as «slotOf», seen, holdsWith, sightOf, notesOf, ownOf, Sized};

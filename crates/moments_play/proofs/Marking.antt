@@ -18,7 +18,7 @@ use Rattle.cells.specs.Events.{eventOf}
 use Rattle.cells.specs.Machine.{Pool, does, triedBy, pool}
 use Rattle.history.specs.History.{cellOf, Action, begin, step, taskOf, Response, Value, Yes, No, Attempt, Call, Calls, noCalls, enter}
 use Rattle.history.specs.Moments.{Spot, Mark, marks, marked, markOf, markOfPending, pendingMarks}
-use Rattle.figure.specs.Moments.{Notes, noNotes, noted, note, noting, names, ruled, stands}
+use Rattle.figure_moments.specs.Moments.{Notes, noNotes, noted, note, noting, names, ruled, stands}
 use Rattle.figure_cell.proofs.AsBegun.{cell-of}
 use Rattle.refinement.specs.Moments.{seesPool}
 use Rattle.moments_notes.specs.declared.Sight.{Sight}

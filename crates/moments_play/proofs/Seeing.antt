@@ -11,7 +11,7 @@ use Rattle.lines.specs.declared.Record.{Record}
 use Rattle.lines.specs.Record.{idle, recordAt}
 use Rattle.questions.specs.declared.State.{State}
 use Rattle.cells.specs.Step.{current}
-use Rattle.figure.specs.Moments.{holdsBlock, Notes, noted}
+use Rattle.figure_moments.specs.Moments.{holdsBlock, Notes, noted}
 use Rattle.refinement.specs.Moments.{seesPool}
 use Rattle.moments_notes.specs.declared.Sight.{Sight}
 use Rattle.moments_notes.specs.Notes.{seen, holdsWith, sightOf}

@@ -12,7 +12,7 @@ ghost use Rattle.lines.specs.Answers.{answerOf};
 ghost use Rattle.lines.specs.Basics.{within};
 ghost use Rattle.lines.specs.declared.Record.{Record};
 ghost use lib.Dec.{eqb};
-ghost use Rattle.figure.specs.Moments.{ruled, stands as «standsOf», lineC6, effect as «effectOf»};
+ghost use Rattle.figure_moments.specs.Moments.{ruled, stands as «standsOf», lineC6, effect as «effectOf»};
 ghost use Rattle.moments_notes.specs.Notes.{sightOf, ownNotes, numbered, numberedAt, standingOf};
 
 // The line in the figure's list: lines 1 to 3 are run for the one that wanted the decision.

@@ -26,8 +26,9 @@ use Rattle.refinement.proofs.Demand3.{cells-meet-demand-3}
 use Rattle.refinement.proofs.Refines.{Together, together}
 use Rattle.nudge_text.specs.Exchange.{exchanged, movedTo, answerAt}
 use Rattle.nudge_text.specs.Nudge.{ofTwoTasks, answersStill, nudges}
-use Rattle.nudge_text.proofs.Ledger.{answers, moved-first, moved-second, moved-other, moved-early, moved-back, entered-now}
-use Rattle.nudge_text.proofs.Nudge.{apart-no-nudge}
+use Rattle.nudge_text.proofs.Moved.{moved-first, moved-second, moved-other, moved-early, moved-back}
+use Rattle.nudge_laws.proofs.Ledger.{answers, entered-now}
+use Rattle.nudge_laws.proofs.Nudge.{apart-no-nudge}
 use Rattle.nudge_calls.specs.Calls.{Summary, summary, calls, answerOfCall, Finishes}
 use Rattle.nudge_calls.specs.Exchange.{Fresh, touchedBy, sameCell, tried}
 use Rattle.nudge_calls.proofs.Following.{TasksOf, Between, between-start, between-on, BegunAt, followed, unanswered-yet}

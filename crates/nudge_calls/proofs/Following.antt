@@ -14,8 +14,8 @@ use Rattle.history.specs.History.{Action, begin, step, taskOf, Response, Event,
 use Rattle.history.proofs.Basics.{either, upd-cases, clash, some-inj}
 use Rattle.nudge_text.specs.Exchange.{answerIn}
 use Rattle.nudge_text.specs.Nudge.{finishedBy, atPlace, namedCall}
-use Rattle.nudge_text.proofs.Ledger.{begins, beginOf, answers, ended as ended-by, own-begin, other-begin, begunAt, entered-now, ended-is, Early, early-start, early-next}
-use Rattle.nudge_text.proofs.Finished.{Found, found-start, found-next, ending-cases, kept, kept-on, earlier}
+use Rattle.nudge_laws.proofs.Ledger.{begins, beginOf, answers, ended as ended-by, own-begin, other-begin, begunAt, entered-now, ended-is, Early, early-start, early-next}
+use Rattle.nudge_laws.proofs.Finished.{Found, found-start, found-next, ending-cases, kept, kept-on, earlier}
 use Rattle.nudge_calls.specs.Calls.{Summary, summary, Note, pending, ended, ownNote, noteOf, begunAfter, listing, calls, answerOfCall}
 
 -- WHAT IS KNOWN between the calls so far and the rest of a history

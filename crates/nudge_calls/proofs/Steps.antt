@@ -27,7 +27,7 @@ use Rattle.refinement.specs.Reached.{Reached}
 use Rattle.refinement.proofs.Reaching.{reached-fit}
 use Rattle.nudge_text.specs.Exchange.{exchanged, movedTo, answerAt}
 use Rattle.nudge_text.specs.Nudge.{atPlace, answersStill, nudges, earliest}
-use Rattle.nudge_text.proofs.Nudge.{alone, later-no-nudge}
+use Rattle.nudge_laws.proofs.Nudge.{alone, later-no-nudge}
 use Rattle.nudge_calls.specs.declared.calls.Noted.{Noted}
 use Rattle.nudge_calls.specs.declared.calls.Noted.the-variants as code
 use Rattle.nudge_calls.specs.Calls.{Summary, Note, noteOf, begunAfter, listing, calls, answerOfCall, noted, Finishes}

@@ -10,7 +10,7 @@ use Rattle.history.specs.History.{Action, FinishedCall, noCalls, history}
 use Rattle.refinement.specs.Reached.{Reached}
 use Rattle.text.specs.Lines.{badLine}
 use Rattle.nudge_text.specs.Nudge.{atPlace, namedCall, nudges, earliest, nudge, nudgeLine, asked18}
-use Rattle.nudge_text.proofs.Nudge.{named-is-finished}
+use Rattle.nudge_laws.proofs.Nudge.{named-is-finished}
 use Rattle.nudge_calls.specs.Calls.{Summary, summary, calls, Finishes}
 use Rattle.nudge_calls.specs.Exchange.{Fresh}
 use Rattle.nudge_calls.proofs.Following.{Between, named-none, named-some}

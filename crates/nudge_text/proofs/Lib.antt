@@ -1,4 +1,1 @@
-pub mod Ledger
-pub mod Finished
-pub mod Exchange
-pub mod Nudge
+pub mod Moved

@@ -17,8 +17,8 @@ use Rattle.cells.specs.Step.{current, stepAsks, answers}
 use Rattle.cells.specs.Machine.{triedBy}
 use Rattle.cells.proofs.Stepping.{own-acting}
 use Rattle.history.specs.History.{step}
-use Rattle.figure.specs.Attempts.{judged}
-use Rattle.figure.proofs.Attempts.{judge}
+use Rattle.figure_moments.specs.Attempts.{judged}
+use Rattle.figure_moments.proofs.Attempts.{judge}
 use Rattle.refinement.specs.Moments.{seesPool}
 
 -- A step's attempt is won exactly if the memory before it had D none, at line 2, or the held block current, at line 30; neither is guessed.

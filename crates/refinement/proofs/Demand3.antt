@@ -18,7 +18,7 @@ use Rattle.history.specs.History.{Action, Event, history, Call, callsOf}
 use Rattle.history.specs.Demand3.{most, Demand3, Meets, Finishes, clearAfter}
 use Rattle.linearizing.proofs.EndsWithin.{ends-within}
 use Rattle.figure.specs.Figure.{figure, opening, clear}
-use Rattle.figure.proofs.Simulation.{figure-meets-demand-3}
+use Rattle.figure_moments.proofs.Simulation.{figure-meets-demand-3}
 use Rattle.cells.specs.Machine.{pool}
 use Rattle.refinement.specs.Terms.{start}
 use Rattle.refinement.proofs.Refines.{same-history}

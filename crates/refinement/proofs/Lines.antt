@@ -34,7 +34,10 @@ module _ (R : Links) (s : State) (q : Record) (h k t : ℕ) (read swap : Bool) w
   filled : ((f : Field) → T (storedBefore 30 f) → R (q .cell) (q .taken) k f) → Whole R (q .cell) (q .taken) k
   filled z = fields (λ f. R (q .cell) (q .taken) k f) (z X tt) (z Y tt) (z C tt) (z Field.V tt) (z D tt)
 
-  ruleset links = (loadCell, load, store, fills, decideCas, installCas, filled, allocate)
+  ruleset links = (loadCell, load, store, fills, decideCas, allocate)
+
+  -- line 30 alone asks for a whole block that is filled
+  ruleset installs = (installCas, filled)
 
   -- whatever a line accesses
   access-linked : (l : Line) → ofKind l read swap ≡ true → (T (holdsAt (number l)) → Whole R (q .cell) (q .held) h) → ((f : Field) → T (storedBefore (number l) f) → R (q .cell) (q .taken) k f) → (number l ≡ 4 → Found s (unused s)) → Linked R s (q .cell) (accessAt l t (named q h k)) (accessAt l t q)
@@ -61,7 +64,7 @@ module _ (R : Links) (s : State) (q : Record) (h k t : ℕ) (read swap : Bool) w
   access-linked l24 e held taken found = search links
   access-linked l26 e held taken found = search links
   access-linked l27 e held taken found = search links
-  access-linked l30 e held taken found = search links
+  access-linked l30 e held taken found = search installs
   access-linked nowhere e held taken found = absurd (false≢true e)
 
   pub linked : (l : Line) → ofKind l read swap ≡ true → Has R s q h k l → Linked R s (q .cell) (accessAt l t (named q h k)) (accessAt l t q)

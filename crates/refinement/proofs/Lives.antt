@@ -33,8 +33,9 @@ use Rattle.figure_cell.proofs.Classes.{is, taking, holding, lies-in}
 use Rattle.figure.proofs.Records.{WellRecord}
 use Rattle.figure_cell.proofs.Invariant as Invariant
 use Rattle.figure.proofs.Views.{on-in}
-use Rattle.figure.proofs.Worlds.{known, facts}
-use Rattle.figure.proofs.Reachable.{trivial, Reachable, next-reachable, opening-reachable}
+use Rattle.figure_moments.proofs.Known.{known}
+use Rattle.figure.proofs.Worlds.{facts}
+use Rattle.figure_moments.proofs.Reachable.{trivial, Reachable, next-reachable, opening-reachable}
 use Rattle.refinement.specs.Terms.{start}
 use Rattle.refinement.specs.Attempts.{winsOf, winsDecision, takes, tallied, decisions}
 use Rattle.refinement.proofs.Memory.{in-pool}

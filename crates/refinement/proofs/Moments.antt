@@ -24,9 +24,9 @@ use Rattle.history.specs.Linearization.{replies, Linearizes}
 use Rattle.history.specs.Moments.{before, Spot, Mark, pointOf, replyOf, markOf, markOfPending, marked, pendingMarks, marks, sort}
 use Rattle.figure_cell.specs.Memory.{wordOf}
 use Rattle.figure.specs.Figure.{World, figure, opening}
-use Rattle.figure.specs.Moments.{holdsBlock, Sight, Notes, noNotes, nothingNoted, noteStep, note, noting, names, ruled, stands, sees, moments}
+use Rattle.figure_moments.specs.Moments.{holdsBlock, Sight, Notes, noNotes, nothingNoted, noteStep, note, noting, names, ruled, stands, sees, moments}
 use Rattle.figure.proofs.Records.{WellRecord}
-use Rattle.figure.proofs.Simulation.{moments-linearize, moments-answers, never-before}
+use Rattle.figure_moments.proofs.Simulation.{moments-linearize, moments-answers, never-before}
 use Rattle.cells.specs.Machine.{Pool, pool}
 use Rattle.refinement.specs.Terms.{start, named}
 use Rattle.refinement.specs.Moments.{seesPool, poolMoments}

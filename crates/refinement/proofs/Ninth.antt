@@ -26,7 +26,7 @@ use Rattle.figure.specs.Figure.{World, withBoth, WorldAfter, recordAfter, outco
 use Rattle.cells.specs.Events.{eventOf}
 use Rattle.figure_cell.specs.Paths.{paths, reached, by25, pathsOf}
 use Rattle.figure.specs.Traces.{Traced, Trace, noTrace, didLine, enterLine, figureTraces}
-use Rattle.figure.proofs.Reachable.{trivial, Reachable, next-reachable, opening-reachable}
+use Rattle.figure_moments.proofs.Reachable.{trivial, Reachable, next-reachable, opening-reachable}
 use Rattle.history.proofs.ListTests.{every, every-in, has, imp, has-in, by-test}
 use Rattle.figure_cell.proofs.LineLaws.{every-line, same, same-is, before, waysOf}
 use Rattle.figure.proofs.Records.{OnPath, Sound, with-first, upd-both, Begun, starts, begin-cases, Stepped, runs, step-cases, act-sound}
@@ -34,7 +34,8 @@ use Rattle.figure.proofs.Paths.{start-sound, last-line}
 use Rattle.figure_cell.proofs.Classes.{is, holding, swapping, taking, lies-in}
 use Rattle.figure_cell.proofs.Invariant.{none, TaskOf}
 use Rattle.figure.proofs.Views.{on-in, view}
-use Rattle.figure.proofs.Worlds.{known, facts}
+use Rattle.figure_moments.proofs.Known.{known}
+use Rattle.figure.proofs.Worlds.{facts}
 
 -- CALLS THAT LINE 25 DID NOT ANSWER
 
@@ -78,6 +79,9 @@ keeps t x q ℓ (inr (inr (inr (inr (inr (inl e)))))) = rw e (refl, refl, refl)
 keeps t x q ℓ (inr (inr (inr (inr (inr (inr (inl e))))))) = rw e (refl, refl, refl)
 keeps t x q ℓ (inr (inr (inr (inr (inr (inr (inr (inl e)))))))) = rw e (refl, refl, refl)
 keeps t x q ℓ (inr (inr (inr (inr (inr (inr (inr (inr (inl e))))))))) = rw e (by-test (Keeps q) (eqb x 1) _ _ (λ z. tt) (λ z. tt))
+
+goes≢done : {q : Record} {f : Result} → Go q ≡ Done f → ⊥
+goes≢done e = let z : _≡_ {A = ℕ} 0 1 = cc in omega arith
 
 -- A DECISION STAYS
 
@@ -205,8 +209,7 @@ module _ (v : ℕ) (w : World) (i : Reachable v w) (r : Trace) (s : Sound w r) (
         go : (through25 (r .did t) ≡ true) ⊎ (now t ≡ l3 for25) → ⊥
         go (inl k) =
             let y = subst (λ ℓ. let x = accessCell m (accessAt ℓ t q) in nextAt ℓ t (counted q (attempt (accessAt ℓ t q) (x .value))) (x .value) ≡ Done f) at-28 e in
-            let g = rw (eq-eqb _ _ (o .late t k)) at y in
-            let b : _≡_ {A = ℕ} 0 1 = cc in omega arith
+            goes≢done (rw (eq-eqb _ _ (o .late t k)) at y)
         go (inr k) = false≢true (sym (ap (same (l3 for25)) (sym k ∙ at-28)))
 
     -- other cells, with another record for t and other lines
@@ -236,9 +239,12 @@ traces-kept : (v : ℕ) (w : World) → Reachable v w → (r : Trace) → Sound 
 traces-kept v w i r s o [] = o
 traces-kept v w i r s o (a ∷ l) = traces-kept v (figure w a .0) (next-reachable v w i a) (enterLine (λ t. lineOf (w .records t)) r a (figure w a .1)) (act-sound w r s a) (act-kept v w i r s o a) l
 
+at-opening : (w : World) → NotNinth w noTrace
+at-opening w = record { late = λ t h. absurd (false≢true h); done = λ x i. absurd i }
+
 -- From an opening whose values are other than none, no finished call did the lines of "no from 28 by 25".
 pub never-ninth : (n v : ℕ) (vs : List ℕ) → ((k : ℕ) → getD vs k 0 ≢ noValue) → (l : List Action) (x : Traced) → x ∈ figureTraces (opening n v vs) noTrace l .done → x .lines ≢ by25
-never-ninth n v vs ok l = traces-kept v (opening n v vs) (opening-reachable n v vs ok) noTrace (start-sound n v vs) (record { late = λ t h. absurd (false≢true h); done = λ x i. absurd i }) l .done
+never-ninth n v vs ok l = traces-kept v (opening n v vs) (opening-reachable n v vs ok) noTrace (start-sound n v vs) (at-opening (opening n v vs)) l .done
 
 -- so it is on a path that is its own, and on one of the twelve others
 pub own-path : (op : Op) (a : Response) (p : List Line) → p ∈ waysOf op a → p ≢ by25 → p ∈ pathsOf op a

@@ -29,8 +29,8 @@ use Rattle.figure_cell.proofs.Invariant as Invariant
 use Rattle.figure_cell.proofs.Invariant.{View, Knowledge}
 use Rattle.figure_cell.proofs.Steps.{Change, Reason, acts, acted, reads, declines, Out}
 use Rattle.figure.proofs.Views.{view}
-use Rattle.figure.proofs.Worlds.{known, κ⁺, out}
-use Rattle.figure.proofs.Reachable.{trivial, Reachable, next-reachable, opening-reachable, reachable}
+use Rattle.figure_moments.proofs.Known.{known, κ⁺, out}
+use Rattle.figure_moments.proofs.Reachable.{trivial, Reachable, next-reachable, opening-reachable, reachable}
 use Rattle.cells.specs.Machine.{pool}
 use Rattle.refinement.specs.Terms.{start}
 use Rattle.refinement.proofs.Refines.{together, same-history, same-look, same-words}

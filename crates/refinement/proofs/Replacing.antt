@@ -34,8 +34,9 @@ use Rattle.figure_cell.proofs.Classes.{is, lies-in}
 use Rattle.figure.proofs.Records.{WellRecord}
 use Rattle.figure_cell.proofs.Invariant.{TaskOf}
 use Rattle.figure.proofs.Views.{view}
-use Rattle.figure.proofs.Worlds.{known, facts}
-use Rattle.figure.proofs.Reachable.{trivial, Reachable, reachable}
+use Rattle.figure_moments.proofs.Known.{known}
+use Rattle.figure.proofs.Worlds.{facts}
+use Rattle.figure_moments.proofs.Reachable.{trivial, Reachable, reachable}
 use Rattle.refinement.specs.Terms.{start, named as named-as}
 use Rattle.refinement.specs.Attempts.{winsOf, Replaces}
 use Rattle.refinement.proofs.Refines.{Together, together}

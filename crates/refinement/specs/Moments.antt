@@ -7,7 +7,7 @@ use Rattle.pool.specs.Pool.{word}
 use Rattle.cells.specs.Step.{current}
 use Rattle.history.specs.History.{Action}
 use Rattle.history.specs.Moments.{Mark, linearized}
-use Rattle.figure.specs.Moments.{Sight, sight, noNotes, noting, names}
+use Rattle.figure_moments.specs.Moments.{Sight, sight, noNotes, noting, names}
 use Rattle.cells.specs.Machine.{Pool, pool}
 
 abbrev pub seesPool : Pool → ℕ → Sight

@@ -6,7 +6,7 @@ use mathlib.Core.Path.{sym, ap, _∙_}
 use mathlib.Core.List.{[]}
 use Prim.Native.Nat.{ℕ}
 use Rattle.lines.specs.Answers.{answerOf}
-use Rattle.figure.specs.Moments.{rules, ruleAt}
+use Rattle.figure_moments.specs.Moments.{rules, ruleAt}
 use Rattle.moments_notes.specs.Notes.{sightOf, ownNotes, numbered}
 use Rattle.moments_spots.proofs.ending.Statement.{statement}
 use Rattle.moments_spots.proofs.ending.Tie as tie

@@ -1,7 +1,7 @@
 use mathlib.Core.Path.{sym, _∙_}
 use native.Mathlib.Numerals.{add-one}
 use borrow.Author.Needs.{needs}
-use Rattle.nudge_text.proofs.Ledger.{moved-first, moved-second, moved-other}
+use Rattle.nudge_text.proofs.Moved.{moved-first, moved-second, moved-other}
 use Rattle.nudge_moves.proofs.moved_to.Statement.{statement}
 use Rattle.nudge_moves.proofs.moved_to.Tie as tie
 

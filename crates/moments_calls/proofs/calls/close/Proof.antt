@@ -6,7 +6,7 @@ use mathlib.Core.List.{[]}
 use lib.ListN.{length, take}
 use Rattle.lines.specs.Record.{recordAt, opOf}
 use Rattle.cells.specs.Machine.{Pool}
-use Rattle.figure.specs.Moments.{stands}
+use Rattle.figure_moments.specs.Moments.{stands}
 use Rattle.refinement.specs.Moments.{seesPool}
 use Rattle.moments_notes.specs.declared.Standing.{Standing}
 use Rattle.moments_notes.specs.Words.{SortedWords}

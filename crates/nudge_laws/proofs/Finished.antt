@@ -11,8 +11,9 @@ use borrow.Author.Tests.{eq-eqb, ne-eqb, ltb-true, ltb-false}
 use Rattle.history.specs.Basics.{_∈_}
 use Rattle.history.specs.History.{Action, begin, step, taskOf, Response, Event, refused, accepted, answered, Call, FinishedCall, Calls, noCalls, advanced, closed, enter, enterAll, callsOf, history}
 use Rattle.history.proofs.Basics.{clash}
 use Rattle.nudge_text.specs.Exchange.{exchanged, movedTo, answerAt}
-use Rattle.nudge_text.proofs.Ledger.{beginOf, begins, answers, begunAt, answering, ended, adding, entered-answers, entered-now, own-begin, begin-cases, ended-is, Early, early-start, early-next, moved-early}
+use Rattle.nudge_laws.proofs.Ledger.{beginOf, begins, answers, begunAt, answering, ended, adding, entered-answers, entered-now, own-begin, begin-cases, ended-is, Early, early-start, early-next}
+use Rattle.nudge_text.proofs.Moved.{moved-early}
 
 -- the answers hold no pending call, and every finished one with its own answer
 pub record Found (b : Calls) : Type 0 where

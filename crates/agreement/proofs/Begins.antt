@@ -12,17 +12,17 @@ use borrow.Author.Tests.{eqb-true}
 use Rattle.history.specs.Basics.{upd, _∈_}
 use Rattle.history.proofs.Basics.{either, upd-at, upd-off}
 use Rattle.history.proofs.OnCell.{on-changed, on-elsewhere}
 use Rattle.consensus.specs.declared.OnceCell.{OnceCell}
 use Rattle.consensus.specs.declared.Offer.{Offer}
 use Rattle.consensus.specs.Figure.{writeX, idleOffer}
 use Rattle.consensus.specs.Questions.{isIdleOffer, hasOffered}
 use Rattle.consensus.specs.Entries.{firstOffer, noted}
 use Rattle.consensus.specs.History.{offer, admitted, OnceId, OnceCall, OnceCalls, idOf, tally}
 use Rattle.consensus.proofs.Invariant as I
 use Rattle.consensus.proofs.Invariant.{Inv, finish}
 use Rattle.consensus.proofs.Keeping.{no-eq, no-T, no-winner}
 use Rattle.consensus.proofs.Lone.{Company, nobody, first, settled, crowded, joined, company-begin}
-use Rattle.consensus.proofs.Sound.{on, OfferedOn, CallsOn, CellSound, Pends, Doing, Sound, grow, begins-elsewhere}
+use Rattle.agreement.proofs.Sound.{on, OfferedOn, CallsOn, CellSound, Pends, Doing, Sound, grow, begins-elsewhere}
 
 -- whether a task is busy: by its offer, and by its calls
 pub idle-offer : (n v : ℕ) (B : List OnceId) (t : ℕ) (o : Option OnceCall) (r : Offer) → Doing n v B t o r → isIdleOffer r ≡ true → (o ≡ none) × (r ≡ idleOffer)

@@ -18,23 +18,24 @@ use Rattle.linearizing.proofs.Moments as Placing
 use Rattle.linearizing.proofs.Moments.{marks-linearize, marks-answers}
 use Rattle.linearizing.proofs.Simulation.{Phase, Ghost, Knowledge, Keeps, Forward, Quietly, QuietSteps}
 use Rattle.linearizing.proofs.Simulation as Sim
 use Rattle.figure.specs.Figure.{World, withBoth, WorldAfter, recordAfter, outcomeOf, figureRan, opening, figure, clear, triedIn, firstOf}
 use Rattle.cells.specs.Events.{eventOf}
-use Rattle.figure.specs.Moments.{Notes, noNotes, nothingNoted, noted, noteStep, note, names, sees, moments}
+use Rattle.figure_moments.specs.Moments.{Notes, noNotes, nothingNoted, noted, noteStep, note, names, sees, moments}
 use Rattle.figure.proofs.Records.{Pending, AllOnPath, Begun, starts, begin-cases, Stepped, runs, step-cases, act-on-path}
 use Rattle.figure.proofs.Tallies.{tally, doing, follows, within}
 use Rattle.history.proofs.ListTests.{by-test}
 use Rattle.figure_cell.proofs.Classes.{storing}
 use Rattle.figure_cell.proofs.Invariant.{none, View}
 use Rattle.figure_cell.proofs.Invariant as Local
 use Rattle.figure_cell.proofs.Steps.{Step, Reason, Out}
 use Rattle.figure.proofs.Views.{on, view}
 use Rattle.figure.proofs.Operations.{busy-line, busy-doing}
-use Rattle.figure.proofs.Worlds.{Good, Noted, doingIn, clock, known, pending-at, cellAfter, nextAfter, stepAfter, κ⁺, out, moveOf, may, kept-all}
-use Rattle.figure.proofs.Dated.{Dated, dated-begun, placed-named, unplaced-unnamed, why, sided, dated-after}
-use Rattle.figure.proofs.Begins.{begun-good, opening-good, good-grown}
+use Rattle.figure.proofs.Worlds.{Good, pending-at, cellAfter, nextAfter, stepAfter}
+use Rattle.figure_moments.proofs.Known.{Noted, doingIn, clock, known, κ⁺, out, moveOf, may, kept-all}
+use Rattle.figure_moments.proofs.Dated.{Dated, dated-begun, placed-named, unplaced-unnamed, why, sided, dated-after}
+use Rattle.figure_moments.proofs.Begins.{begun-good, opening-good, good-grown}
 use Rattle.figure.proofs.Marks.{Marks}
 use Rattle.figure.proofs.Quietly.{QuietIn, is-busy, stays, marks-after, step-quietly, begun-marks, begin-quietly}
 
 -- what holds of the figure, with n tasks and v cells, from an opening on
 pub record Invariant (n v : ℕ) (x : Noted) (g : Ghost) (κ : Knowledge) : Type 0 where

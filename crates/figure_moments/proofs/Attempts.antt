@@ -21,12 +21,12 @@ use Rattle.cells.specs.Events.{tried}
 use Rattle.history.specs.History.{success, failure, untried, Action, run}
 use Rattle.history.proofs.Basics.{either}
 use Rattle.figure_cell.specs.Memory.{Cell, wordOf, cellKeeping}
 use Rattle.figure.specs.Figure.{World, figureAnswers, triedIn, opening, figure}
-use Rattle.figure.specs.Moments.{sight, sees}
-use Rattle.figure.specs.Attempts.{judged}
+use Rattle.figure_moments.specs.Moments.{sight, sees}
+use Rattle.figure_moments.specs.Attempts.{judged}
 use Rattle.figure_cell.proofs.Classes.{is, lies-in}
 use Rattle.figure_cell.proofs.LineLaws.{same, same-is}
 use Rattle.figure.proofs.Records.{OnPath, AllOnPath, run-on-path}
 
 or-cases : (a b : Bool) → T (a || b) → T a ⊎ T b
 or-cases true b h = inl tt

@@ -2,7 +2,7 @@
 use mathlib.Core.Bool.{cond}
 use lib.Dec.{eqb}
 use Rattle.history.specs.History.{Attempt, success, failure, untried}
-use Rattle.figure.specs.Moments.{Sight}
+use Rattle.figure_moments.specs.Moments.{Sight}
 
 -- line 2 wins where D of the held block is none, line 30 where the held block is current
 abbrev pub judged : Sight → Attempt

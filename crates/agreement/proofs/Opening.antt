@@ -8,16 +8,16 @@ use lib.ListN.{getD, replicate}
 use Rattle.lines.specs.Record.{noValue}
 use Rattle.history.proofs.OnCell.{on-idle}
 use Rattle.history.proofs.Basics.{clash}
 use Rattle.consensus.specs.declared.Offer.{Offer}
 use Rattle.consensus.specs.Figure.{nowhere, stageOf, idleOffer}
 use Rattle.consensus.specs.Questions.{offerAt, freshCell, onceAt}
 use Rattle.consensus.specs.Entries.{onceStart}
 use Rattle.consensus.specs.History.{noOffers}
 use Rattle.consensus.proofs.Invariant as I
 use Rattle.consensus.proofs.Invariant.{Task}
 use Rattle.consensus.proofs.Keeping.{no-eq, no-winner}
 use Rattle.consensus.proofs.Lone.{nobody}
-use Rattle.consensus.proofs.Sound.{on, OfferedOn, CellSound, Sound}
+use Rattle.agreement.proofs.Sound.{on, OfferedOn, CellSound, Sound}
 
 all-alike : {A : Type 0} (a : A) (n k : ℕ) → getD (replicate n a) k a ≡ a
 all-alike a zero zero = refl

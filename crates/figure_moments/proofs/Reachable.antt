@@ -7,11 +7,11 @@ use Rattle.lines.specs.Record.{noValue}
 use Rattle.history.specs.History.{Action, begin, step, Event, refused, accepted, answered, run}
 use Rattle.linearizing.proofs.Simulation.{Ghost, Knowledge, Grown, Forward, Follows}
 use Rattle.linearizing.proofs.Simulation as Sim
 use Rattle.figure.specs.Figure.{World, opening, figure}
-use Rattle.figure.specs.Moments.{Notes, noNotes, names, sees}
+use Rattle.figure_moments.specs.Moments.{Notes, noNotes, names, sees}
 use Rattle.figure.proofs.Tallies.{doing, follows}
-use Rattle.figure.proofs.Worlds.{Noted, doingIn, clock}
-use Rattle.figure.proofs.Simulation.{Invariant, forward, opened}
+use Rattle.figure_moments.proofs.Known.{Noted, doingIn, clock}
+use Rattle.figure_moments.proofs.Simulation.{Invariant, forward, opened}
 
 -- every task may have seen every value at every moment, and is early
 abbrev pub trivial : Knowledge

@@ -13,8 +13,8 @@ use Rattle.figure.specs.Exchange.{ApartAt}
 use Rattle.figure.proofs.Exchange.{apart}
 use Rattle.refinement.specs.Terms.{start}
 use Rattle.refinement.proofs.Refines.{same-history}
 use Rattle.nudge_text.specs.Exchange.{exchanged, movedTo, answerAt}
-use Rattle.nudge_text.proofs.Ledger.{TwoTasks, same-answer}
+use Rattle.nudge_laws.proofs.Ledger.{TwoTasks, same-answer}
 
 -- IN THE FIGURE
 

@@ -11,20 +11,20 @@ use lib.ListN.{length, length-append}
 use Rattle.history.specs.Basics.{upd, _∈_}
 use Rattle.history.proofs.Basics.{either, upd-at, upd-off}
 use Rattle.history.proofs.OnCell.{on-in, on-changed, on-others}
 use Rattle.consensus.specs.declared.Agreement.{Agreement}
 use Rattle.consensus.specs.declared.OnceCell.{OnceCell}
 use Rattle.consensus.specs.declared.Offer.{Offer}
 use Rattle.consensus.specs.Figure.{Stage, stageAt, stageOf, GoesOn, Ends, idleOffer, Leaves, goOn, agree, does, withStep, leaves}
 use Rattle.consensus.specs.Questions.{hasOffered}
 use Rattle.consensus.specs.History.{step, stepEvent, OnceId, OnceCall, OnceFinished, OnceCalls, goneOn, hard, tally}
 use Rattle.consensus.specs.Paths.{oncePaths}
 use Rattle.consensus.specs.Consensus.{cellOf}
 use Rattle.consensus.proofs.Classes.{busy, tries}
 use Rattle.consensus.proofs.Invariant as I
 use Rattle.consensus.proofs.Keeping.{Kept, keeps}
 use Rattle.consensus.proofs.Lone.{Company, nobody, first, settled, crowded, Company-is, companyAfter, company-step, lone-calm}
 use Rattle.consensus.proofs.Ways.{Leads, goes, ends, leads, goes-way, ends-path, path-row, way-busy, way-calm, flag-counts}
-use Rattle.consensus.proofs.Sound.{on, OfferedOn, CallsOn, CellSound, Pends, Doing, Ended, Sound, ends-elsewhere}
+use Rattle.agreement.proofs.Sound.{on, OfferedOn, CallsOn, CellSound, Pends, Doing, Ended, Sound, ends-elsewhere}
 
 module _ (n v : ℕ) (cells : ℕ → OnceCell) (offers : ℕ → Offer) (b : OnceCalls) (S : Sound n v cells offers b)
     (t : ℕ) (c : OnceCall) (pending : b .pending t ≡ some c) (P : Pends n v (b .ids) t c (offers t)) where

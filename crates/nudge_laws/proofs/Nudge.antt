@@ -18,10 +18,10 @@ use Rattle.history.proofs.Basics.{either, clash, some-inj}
 use Rattle.figure.specs.Figure.{opening}
 use Rattle.figure.specs.Exchange.{ApartAt}
 use Rattle.refinement.specs.Terms.{start}
 use Rattle.nudge_text.specs.Exchange.{exchanged, movedTo, answerAt}
 use Rattle.nudge_text.specs.Nudge.{finishedBy, atPlace, namedCall, ofTwoTasks, sameAnswer, answersStill, nudges, earliest, nudge}
-use Rattle.nudge_text.proofs.Finished.{finished-answers, later-answers}
-use Rattle.nudge_text.proofs.Exchange.{apart-answers}
+use Rattle.nudge_laws.proofs.Finished.{finished-answers, later-answers}
+use Rattle.nudge_laws.proofs.Exchange.{apart-answers}
 
 -- THE NAMED CALL is a finished call of the task
 

@@ -9,24 +9,24 @@ use lib.Dec.{eqb, T}
 use lib.ListN.{getD}
 use borrow.Author.Tests.{eqb-false}
 use Rattle.lines.specs.declared.Record.{Record}
-use Rattle.lines.specs.Record.{noValue, idle}
+use Rattle.lines.specs.Record.{noValue, idle, first, firstRead}
 use Rattle.lines.specs.Lines.{lineOf, l10, l15}
 use Rattle.questions.specs.Questions.{valuesFit}
-use Rattle.lines.specs.Record.{first, firstRead}
 use Rattle.history.specs.History.{Op, read, swap, cellOf}
-use Rattle.history.proofs.Basics.{either, upd-same, upd-off}
+use Rattle.history.proofs.Basics.{either, clash, upd-same, upd-off}
 use Rattle.linearizing.proofs.Simulation.{late, Ghost, unplaced, Grown}
-use Rattle.linearizing.proofs.Simulation as Sim
 use Rattle.figure.specs.Figure.{World, withTask, opening, figure, firstOf}
-use Rattle.figure.specs.Moments.{Notes, nothingNoted, names, sees}
-use Rattle.figure.proofs.Records.{AllOnPath, OnPath, Accepted, not-idle, opening-on-path}
+use Rattle.figure_moments.specs.Moments.{Notes, nothingNoted, names, sees}
+use Rattle.figure.proofs.Records.{AllOnPath, OnPath, Accepted, opening-on-path}
 use Rattle.figure.proofs.Tallies.{tallyOf}
 use Rattle.figure_cell.proofs.Classes.{busy, stored, lies-in}
 use Rattle.figure_cell.proofs.Invariant.{none, View, Knowledge, line, Inv}
 use Rattle.figure_cell.proofs.Frame.{moved, Mine, quiet}
 use Rattle.figure_cell.proofs.Looking.{off, idle-task, settled≢late}
 use Rattle.figure.proofs.Views.{on, on-idle, on-changed, on-elsewhere, view, placed-changed}
-use Rattle.figure.proofs.Worlds.{Good, doingIn, clock, known, knows-more, doing-on}
+use Rattle.figure.proofs.Worlds.{Good, doing-on, its-cell, was-idle, idle-to}
+use Rattle.figure_moments.proofs.Known.{doingIn, clock, known, knows-more}
+use Rattle.linearizing.proofs.Simulation as Sim
 
 -- THE STEPPER'S FACTS at its first line
 
@@ -50,26 +50,12 @@ values-some e n = go (eqb e noValue) (eqb n noValue) refl refl
     go false true ex ey z = absurd (false≢true z)
     go true y ex ey z = absurd (false≢true z)
 
-pub its-cell : (op : Op) → firstOf op .cell ≡ cellOf op
-its-cell (read k) = refl
-its-cell (swap k e n) = refl
-
 module _ (w : World) (g : Ghost) (κ : Knowledge) (G : Good w g κ) (t : ℕ) (op : Op) (a : Accepted w t op) where
-  pub was-idle : w .records t ≡ idle
-  was-idle = go (G .on-path t .1)
-    where
-      go : OnPath (w .tasks) (w .cells) t (G .on-path t .0) (w .records t) → w .records t ≡ idle
-      go (inl i) = i .0
-      go (inr o) = absurd (false≢true (sym (not-idle (w .records t) (o .1 .line)) ∙ a .free))
-
-  pub idle-to : (j : ℕ) → on (w .records) j t ≡ idle
-  idle-to j = on-idle (w .records) j t was-idle
-
   busy-other : (j u : ℕ) → T (busy (line (view w g j) u)) → u ≢ t
-  busy-other j u b z = rw (z, idle-to j) at b
+  busy-other j u b z = rw (z, idle-to w g κ G t op a j) at b
 
   not-late : (j : ℕ) → g .phase j ≢ late t
-  not-late j z = rw (idle-to j) at (G .cells j .tasks t .owner z .has-stored)
+  not-late j z = rw (idle-to w g κ G t op a j) at (G .cells j .tasks t .owner z .has-stored)
 
 module _ (w : World) (notes : Notes) (g : Ghost) (κ : Sim.Knowledge) (G : Good w g (known notes κ)) (t : ℕ) (op : Op) (a : Accepted w t op) where
   abbrev w′ : World
@@ -137,7 +123,7 @@ pub opening-good : (n v : ℕ) (vs : List ℕ) → ((k : ℕ) → getD vs k 0 �
 unfolding none
 opening-good n v vs ok κ = record {
   on-path = opening-on-path n v vs;
-  eager = λ u n z. absurd (let x : _≡_ {A = ℕ} 0 1 = cc in omega arith);
+  eager = λ u n z. absurd (clash refl z);
   cells = λ k. record {
     current = record { low = omega arith; P-some = ok k; v-some = ok k; decided-inactive = λ z. absurd (z refl); decision = λ z. absurd (z refl); phase-is = λ z. (refl, refl) };
     tasks = λ u. rw (on-idle (λ t. idle) k u refl) (idle-task (view (opening n v vs) (Sim.fresh (λ k. getD vs k 0)) k) κ u idle (settled≢late u));

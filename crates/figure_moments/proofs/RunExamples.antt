@@ -4,8 +4,8 @@ use mathlib.Core.List.{List, [], _∷_, _++_}
 use Prim.Native.Nat.{ℕ}
 use Rattle.history.specs.Basics.{upd}
 use Rattle.history.specs.History.{Op, swap, aSwap, Action, begin, Response, Yes, No, Attempt, success, failure, untried, Event, refused, accepted, answered, history}
 use Rattle.figure.specs.Figure.{opening, figureRan, figureStepped, figureBegun, figure}
-use Rattle.figure.specs.MomentExamples.{steps, meeting}
+use Rattle.figure_moments.specs.MomentExamples.{steps, meeting}
 
 abbrev ends : List (Action × Event) → List Event
 ends [] = []

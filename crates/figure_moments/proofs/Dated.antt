@@ -21,25 +21,26 @@ use Rattle.history.proofs.Basics.{either, upd-at, upd-same, upd-off, upd-cases}
 use Rattle.linearizing.proofs.Simulation as Sim
 use Rattle.linearizing.proofs.Simulation.{Phase, settled, frozen, late, Ghost, unplaced, Tally, Why, Sided, Named}
 use Rattle.figure_cell.specs.Memory.{Cell, accessCell}
 use Rattle.figure.specs.Figure.{World, withTask, recordAfter, figureAnswers, triedIn, figure}
-use Rattle.figure.specs.Moments.{Notes, nothingNoted, noted, Sight, holdsBlock, sees, names, at, effect, lineC6, rules, ruleAt, ruled, stands}
+use Rattle.figure_moments.specs.Moments.{Notes, nothingNoted, noted, Sight, holdsBlock, sees, names, at, effect, lineC6, rules, ruleAt, ruled, stands}
 use Rattle.history.proofs.ListTests.{both, every, by-test}
 use Rattle.figure_cell.proofs.LineLaws.{every-line, lines, same, same-is, extends, Leads, goes, done}
 use Rattle.figure_cell.proofs.LineLaws as Laws
 use Rattle.figure.proofs.Records.{Pending, led}
 use Rattle.figure_cell.proofs.AsBegun.{cell-of}
 use Rattle.lines.specs.Record.{opOf}
 use Rattle.figure.proofs.Tallies.{doing}
 use Rattle.figure_cell.proofs.Classes.{is, figureLine, busy, holding, swapping, stored, storing, replacing, lies-in, are-apart}
 use Rattle.figure_cell.proofs.Invariant.{View, Knowledge, Owner, TaskOf, line, held}
 use Rattle.figure_cell.proofs.Looking.{settled≢late, active-settled}
-use Rattle.figure.proofs.Notes.{cond-true, cond-false, with, equal, holds-block, figure-line-is, keeps-stored, keeps-inactive, notes-stored, notes-inactive}
+use Rattle.figure_moments.proofs.Notes.{cond-true, cond-false, with, equal, holds-block, figure-line-is, keeps-stored, keeps-inactive, notes-stored, notes-inactive}
 use Rattle.figure_cell.proofs.Steps.{Change, still, act, freeze, delay, settle, land, phaseAfter, Can, Saw, loaded12, decided13, loaded22, decided28, replaced30, Reason, acts, acted, reads, declines}
 use Rattle.figure.proofs.Views.{on-in, view}
 use Rattle.figure.proofs.Operations.{busy-line, reads-right, swap-no}
-use Rattle.figure.proofs.Worlds as Worlds
-use Rattle.figure.proofs.Worlds.{Good, doingIn, clock, known, facts, there, pending-at, cellAfter, nextAfter, stepAfter}
+use Rattle.figure_moments.proofs.Known as Known
+use Rattle.figure.proofs.Worlds.{Good, facts, there, pending-at, cellAfter, nextAfter, stepAfter}
+use Rattle.figure_moments.proofs.Known.{doingIn, clock, known}
 use Rattle.figure.proofs.Quietly.{is-busy}
 
 pub record Dated (w : World) (o : Notes) (g : Ghost) : Type 0 where
   -- a pending swap that took effect did so where the rule of line 25 says
@@ -146,7 +147,7 @@ module _ (w : World) (notes : Notes) (g : Ghost) (κ : Sim.Knowledge) (G : Good 
     notes₁ = noted notes t see
 
     abbrev g₁ : Change → Ghost
-    g₁ = Worlds.g′ w notes g κ G t did o
+    g₁ = Known.g′ w notes g κ G t did o
 
     here : s .task t ≡ q
     here = on-in (w .records) k t refl
@@ -175,7 +176,7 @@ module _ (w : World) (notes : Notes) (g : Ghost) (κ : Sim.Knowledge) (G : Good 
     busy-now : T (busy ℓ)
     busy-now = busy-line q (o .line)
 
-    pub why : (a : Response) (x : Change) → Reason s κ₀ t a x → Why doingIn clock (names figure sees) (w, notes) g κ t op a (moment a) (Worlds.moveOf w notes g κ G t did o x)
+    pub why : (a : Response) (x : Change) → Reason s κ₀ t a x → Why doingIn clock (names figure sees) (w, notes) g κ t op a (moment a) (Known.moveOf w notes g κ G t did o x)
     why a x (acts e i) = Sim.acts e (named a 30 i ∙ ap (λ b. ruleAt 30 (rules notes t see b) .moment) e)
     why a x (acted z b e (inl i)) = Sim.acted z e (named a 25 i ∙ sym (D .placed t busy-now z))
     why a x (acted z b e (inr (i, y))) = Sim.acted z e (named a 26 i ∙ sym (D .placed t busy-now z ∙ cond-true (notes .storedActive t) _ _ y))
@@ -324,7 +325,7 @@ module _ (w : World) (notes : Notes) (g : Ghost) (κ : Sim.Knowledge) (G : Good 
       -- the current block of an unsettled cell was so before
       current-was : (j : ℕ) → g₁ x .phase j ≢ settled → w₁ .cell j .current ≡ w .cell j .current
       current-was j n = upd-cases (λ (a : Cell). a .current ≡ w .cell j .current) (w .cell) k (cellAfter w t) j
-          (λ e. same (λ z. n (ap (g₁ x .phase) e ∙ Worlds.phase-here w notes g κ G t did o x ∙ z)) ∙ ap (λ i. w .cell i .current) (sym e)) (λ e. refl)
+          (λ e. same (λ z. n (ap (g₁ x .phase) e ∙ Known.phase-here w notes g κ G t did o x ∙ z)) ∙ ap (λ i. w .cell i .current) (sym e)) (λ e. refl)
 
       since-after : (u : ℕ) → T (storing (lineOf (w₁ .records u))) → w₁ .records u .held ≡ w₁ .cell (w₁ .records u .cell) .current → g₁ x .phase (w₁ .records u .cell) ≢ settled → notes₁ .inactive u ≡ g₁ x .since (w₁ .records u .cell)
       since-after u b h n =

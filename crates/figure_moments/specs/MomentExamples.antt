@@ -6,8 +6,8 @@ use lib.ListN.{replicate}
 use Rattle.history.specs.Basics.{upd}
 use Rattle.history.specs.History.{Op, read, swap, Action, begin, step}
 use Rattle.history.specs.Moments.{Side, itself, after, Rule, R1, R2, C1, C2, C3, C4, C5, C6, Mark}
 use Rattle.figure.specs.Figure.{figureRan, figureStepped, figureBegun}
-use Rattle.figure.specs.Moments.{moments}
+use Rattle.figure_moments.specs.Moments.{moments}
 
 -- a mark as it will be printed
 record Brief : Type 0 where

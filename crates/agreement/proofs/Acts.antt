@@ -17,21 +17,21 @@ use Rattle.questions.proofs.Tests.{yes-to, all-from, within-true}
 use Rattle.history.specs.Basics.{upd}
 use Rattle.history.proofs.Basics.{either, upd-at, upd-off, clash}
 use Rattle.history.proofs.OnCell.{on-in}
 use Rattle.consensus.specs.declared.OnceCell.{OnceCell}
 use Rattle.consensus.specs.declared.Offer.{Offer}
 use Rattle.consensus.specs.declared.OnceState.{OnceState}
 use Rattle.consensus.specs.Figure.{stageOf, GoesOn, idleOffer, Leaves, withStep, leaves}
 use Rattle.consensus.specs.Questions.{offerAt, freshCell, onceAt, hasOffered, isIdleOffer, isStep, offerTests, offerFit, offersFit, onceFit, offerQuestions, turnQuestions}
 use Rattle.consensus.specs.Entries.{OnceAfter, onceAfter, orRefused, replaced, noted, firstOffer, offerBegun, storedBack, onceStepped}
 use Rattle.consensus.specs.History.{Move, offer, step, MoveEvent, admitted, offerEvent, stepEvent, once, OnceCall, OnceCalls, tallied, tally}
 use Rattle.consensus.specs.Consensus.{May}
 use Rattle.consensus.proofs.Classes.{busy, lies-in}
 use Rattle.consensus.proofs.Invariant as I
 use Rattle.consensus.proofs.Keeping.{not-none}
 use Rattle.consensus.proofs.Ways.{Leads, goes, ends, leads, way-busy, way-short}
-use Rattle.consensus.proofs.Sound.{on, Pends, Doing, Sound}
-use Rattle.consensus.proofs.Begins.{busy-offer, begins-sound, was-idle}
-use Rattle.consensus.proofs.Moving.{step-sound}
+use Rattle.agreement.proofs.Sound.{on, Pends, Doing, Sound}
+use Rattle.agreement.proofs.Begins.{busy-offer, begins-sound, was-idle}
+use Rattle.agreement.proofs.Moving.{step-sound}
 
 pub record Stands (s : OnceState) (b : OnceCalls) : Type 0 where
   pub sound : Sound (s .tasks) (s .cells) (onceAt s) (offerAt s) b

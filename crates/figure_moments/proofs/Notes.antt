@@ -12,8 +12,8 @@ use Rattle.lines.specs.Lines.{Line, lineOf}
 use Rattle.questions.specs.Questions.{lineFit}
 use Rattle.questions.proofs.Numbers.{number, at-number}
 use Rattle.figure_cell.specs.Memory.{Cell}
 use Rattle.figure.specs.Figure.{World}
-use Rattle.figure.specs.Moments.{Notes, holdsBlock, noted, sees}
+use Rattle.figure_moments.specs.Moments.{Notes, holdsBlock, noted, sees}
 use Rattle.history.proofs.ListTests.{every, both}
 use Rattle.figure_cell.proofs.LineLaws.{lines, wantedBy, wanted-is}
 use Rattle.figure_cell.proofs.Classes.{is, figureLine, holding, stored, viewing, lies-in, are-apart}

@@ -14,19 +14,19 @@ use Rattle.history.specs.Basics.{_∈_}
 use Rattle.history.specs.History.{history, run}
 use Rattle.history.proofs.Basics.{either, upd-same, clash, history-append}
 use Rattle.history.proofs.OnCell.{on-in}
 use Rattle.consensus.specs.declared.Offer.{Offer}
 use Rattle.consensus.specs.declared.OnceState.{OnceState}
 use Rattle.consensus.specs.Figure.{stageOf, idleOffer}
 use Rattle.consensus.specs.Questions.{offerAt, onceAt, openOnce}
 use Rattle.consensus.specs.Entries.{onceOpened, onceStart}
 use Rattle.consensus.specs.History.{Move, step, MoveEvent, refused, admitted, did, ended, once, OnceCall, OnceFinished, OnceCalls, noOffers, steps, hard, goneOn, wentOn, finishing, tally, tallyAll, offersOf, IsCall, finished, pending}
 use Rattle.consensus.specs.Consensus.{cellOf, Lone, Consensus, May, AllMay, RightOnce, OnceEnds}
 use Rattle.consensus.proofs.Classes.{tries}
 use Rattle.consensus.proofs.Lone.{Company, nobody, first, settled, crowded, Company-is}
 use Rattle.consensus.proofs.Ways.{path-short, path-few, way-short, way-few, way-quiet}
-use Rattle.consensus.proofs.Sound.{on, CallsOn, Pends, Doing, Sound}
-use Rattle.consensus.proofs.Opening.{opening-sound}
-use Rattle.consensus.proofs.Acts.{Stands, acts}
+use Rattle.agreement.proofs.Sound.{on, CallsOn, Pends, Doing, Sound}
+use Rattle.agreement.proofs.Opening.{opening-sound}
+use Rattle.agreement.proofs.Acts.{Stands, acts}
 
 -- WHAT HOLDS OF THE CALLS
 

@@ -1,0 +1,3 @@
+pub mod Moments
+pub mod Attempts
+pub mod MomentExamples

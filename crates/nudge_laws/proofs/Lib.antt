@@ -1,0 +1,4 @@
+pub mod Ledger
+pub mod Finished
+pub mod Exchange
+pub mod Nudge
