@@ -12,13 +12,15 @@ swap, step and look answer, each asked of the case's own state.  100 stands for
 acted, 200 for ended, any other number for that refusal; a `!` after it would
 say that the refusal changed something.
 
-The state's counts of uses (change request 7) are those of a fresh reading, but
-for the block that z names, if there is one: its stored count is Z.
+The state's counts of uses (change request 7) are those of the plain case, but
+for each block that a z names: its stored count is the Z after it.  They are those
+of a fresh reading, but for one at most.
 
 After the cases stand the steps of calls whose record the caller keeps and lends:
 the record's line after each step, and what the step answers.
 """
 
+import operator
 import re
 import sys
 
@@ -36,8 +38,10 @@ PLAIN = dict(
     o=0, p=0, q=0,          # held, taken, steps
     r=0, s=0,               # hardware swaps won, lost
     t=0, u=0, v=5, w=7,     # of the calls: task, cell, expected, new
-    x=0, y=6,               # how many values open is given; the second
-    z=128, Z=0)             # a block whose stored count is given; the count
+    x=0, y=6)               # how many values open is given; the second
+
+# A fresh reading of it: cells 0 and 1 name blocks 0 and 1.
+COUNTS = [1, 1] + [0] * (cells.MOST_BLOCKS - 2)
 
 KINDS = {1: cells.READ, 2: cells.SWAP}
 
@@ -46,13 +50,16 @@ ENDED = "200"
 
 
 def read_case(line):
-    """The case's words by letter, and its name."""
+    """The case's words by letter, its counts, and its name."""
     words, colon, name = line.partition(":")
-    case = dict(PLAIN)
+    case = dict(PLAIN, counts=list(COUNTS))
     for word in words.split(" ") if words else ():
         if not (colon and re.fullmatch("[a-zZ](0|[1-9][0-9]*)", word)):
             raise ValueError("not a case: %r" % line)
-        case[word[0]] = int(word[1:])
+        if word[0] == "Z":
+            case["counts"][case["z"]] = int(word[1:])
+        else:
+            case[word[0]] = int(word[1:])
     return case, name
 
 
@@ -90,10 +97,10 @@ def state_of(case):
     state = cells.Cells.found(
         case["a"], case["b"], case["c"], pool_of(case),
         current[:case["b"]], case["d"], tasks[:case["a"]])
-    # the stored counts are those of a fresh reading, but for the one given; a
-    # state has counts of 128 blocks, so 128 gives none
-    if case["z"] < len(state.counts):
-        state.counts[case["z"]] = case["Z"]
+    # one fault at a time
+    if sum(map(operator.ne, state.counts, case["counts"])) > 1:
+        raise ValueError("several counts are not those of a fresh reading")
+    state.counts = list(case["counts"])
     return state
 
 
@@ -207,9 +214,43 @@ def lent_steps():
     yield same
 
 
+def seeds(seed):
+    """A generator of numbers below 65,536."""
+    while True:
+        seed = (seed * 1664525 + 1013904223) % 2 ** 32
+        yield seed // 65536
+
+
+def schedule_totals():
+    """The totals of 60,000 turns of 32 tasks on 16 cells: finished calls, swaps
+    answered yes, steps, hardware CAS won and lost, the sum of what was read, and
+    refusals."""
+    state = cells.open_cells(32, 16, 80, [0] * 400, [0] * 16)
+    drawn = seeds(1)
+    totals = [0] * 7
+    for _ in range(60000):
+        task = next(drawn) % 32
+        if state.tasks[task].busy:
+            result = state.step(task)
+        elif next(drawn) % 2 == 0:
+            result = state.begin_read(task, next(drawn) % 16)
+        else:
+            cell, expected, new = (next(drawn) % k for k in (16, 4, 4))
+            result = state.begin_swap(task, cell, expected, new)
+        if isinstance(result, cells.Refused):
+            totals[6] += 1
+        elif result is not None:
+            read = result.kind == cells.READ
+            more = (1, not read and result.answer, result.steps, result.won,
+                    result.lost, result.answer if read else 0, 0)
+            totals = [a + b for a, b in zip(totals, more)]
+    return " ".join("%d" % total for total in totals)
+
+
 def main():
     sys.stdout.write(run(sys.stdin.read()))
     sys.stdout.writelines(line + "\n" for line in lent_steps())
+    print(schedule_totals())
 
 
 if __name__ == "__main__":

@@ -3,13 +3,15 @@ ghost use mathlib.Core.Path.{_≡_};
 ghost use Rattle.cells.specs.Answers.{said};
 ghost use Rattle.cells.specs.Open.{leaving};
 ghost use Rattle.cells.specs.Lent.{lent, steppedLent};
+use crate::Numbers;
+use crate::end_line;
+use crate::numbers_of;
 use crate::print;
-use cells::Outcome;
+use crate::record_sum;
 use cells::Reply;
-use lines::Answer;
-use lines::Finished;
 use lines::Record;
 use lines::records;
+use opening_state::open_state;
 use questions::State;
 
 // A reply, and the record that was lent.
@@ -27,137 +29,92 @@ fn lend(s: State, pool: &mut [u32], task: u32, r: Record) -> Kept
     Kept { reply, record: rec }
 }
 
-fn unopened() -> State {
-    let r = records::idle();
-    State {
-        tasks: 0,
-        cells: 0,
-        blocks: 0,
-        last: 0,
-        current: [0; 16],
-        records: [r; 32],
-        counts: [0; 128],
-    }
-}
-
-fn same(a: Record, b: Record) -> bool {
-    let call = (a.kind == b.kind)
-        & ((a.cell == b.cell) & ((a.expected == b.expected) & (a.new == b.new)));
-    let place = (a.line == b.line)
-        & ((a.wanted == b.wanted) & ((a.held == b.held) & (a.taken == b.taken)));
-    call
-        & (place
-            & ((a.loaded == b.loaded)
-                & ((a.steps == b.steps) & ((a.won == b.won) & (a.lost == b.lost)))))
-}
-
 // WHAT IS PRINTED
 
-fn print_finished(f: Finished) {
-    let answer = f.answer;
-    match answer {
-        Answer::Value(v) => print(b"ended ", v),
-        Answer::Yes => {
-            io::write_all(1, b"ended yes");
-        }
-        Answer::No => {
-            io::write_all(1, b"ended no");
-        }
-    }
-    print(b", steps ", f.steps);
-    print(b", won ", f.won);
-    print(b", lost ", f.lost);
+fn print_counts(d: Numbers) {
+    print(b"steps ", d.steps);
+    print(b", won ", d.won);
+    print(b", lost ", d.lost);
 }
 
-fn print_outcome(outcome: Outcome) {
-    match outcome {
-        Outcome::Refused(n) => print(b"refused ", n),
-        Outcome::Acted => {
-            io::write_all(1, b"acted");
-        }
-        Outcome::Ended(f) => print_finished(f),
+fn print_numbers(d: Numbers) {
+    if d.number == 100 {
+        io::write_all(1, b": acted");
+    } else if d.number < 100 {
+        print(b": refused ", d.number);
+    } else if d.yes == 1 {
+        io::write_all(1, b": ended yes, ");
+        print_counts(d);
+    } else {
+        io::write_all(1, b": ended no, ");
+        print_counts(d);
     }
 }
 
-fn print_step(k: Kept) {
-    let r = k.record;
-    let reply = k.reply;
-    let outcome = reply.outcome;
-    print(b"line ", r.line);
-    io::write_all(1, b": ");
-    print_outcome(outcome);
-    io::write_all(1, b"\n");
+fn print_if_same(a: Record, b: Record) {
+    if record_sum(0, a) == record_sum(0, b) {
+        io::write_all(1, b"the record is as before\n");
+    }
 }
 
 // THE STEPS
 
-fn step_and_print(s: State, pool: &mut [u32], task: u32, r: Record) -> Kept {
+fn step(s: State, pool: &mut [u32], task: u32, r: Record) -> Kept {
     let k = lend(s, pool, task, r);
-    print_step(k);
+    let after = k.record;
+    let reply = k.reply;
+    let o = reply.outcome;
+    print(b"line ", after.line);
+    print_numbers(numbers_of(o));
+    end_line();
     k
 }
 
-fn ten_steps(s: State, pool: &mut [u32], r: Record) -> Kept {
-    let mut k = step_and_print(s, pool, 0, r);
-    let mut left: u32 = 9;
+// Ten lead to the call's end.
+fn eleven_steps(s: State, pool: &mut [u32], r: Record) -> State {
+    let mut state = s;
+    let mut record = r;
+    let mut left: u32 = 11;
     while 0 < left {
+        let k = step(state, pool, 0, record);
         let reply = k.reply;
-        k = step_and_print(reply.state, pool, 0, k.record);
+        state = reply.state;
+        record = k.record;
         left = left - 1;
     }
-    k
+    state
 }
 
-// A FIT STATE THAT NO OPENING LEADS TO, in which every block is used
+fn begun(pool: &mut [u32]) -> State {
+    let opened = entries::open(open_state(1, 1, 3), pool, 2, 1, 5, &[5]);
+    let begun = entries::begin_swap(opened.state, pool, 0, 0, 5, 7);
+    begun.state
+}
 
-// Two cells name a block each, and the one task is lent a record that holds the third.
-fn full() -> State {
-    let mut s = unopened();
-    s.tasks = 1;
-    s.cells = 2;
-    s.blocks = 3;
-    s.last = 1;
-    s.current[1] = 1;
-    s.counts[0] = 1;
-    s.counts[1] = 1;
+// In a fit state that no opening leads to every block is used: two cells name a block each, and the one task is lent a
+// record that holds the third.
+fn lack_a_block() {
+    let mut pool: [u32; 15] = [0; 15];
+    let mut s = open_state(1, 2, 3);
     s.counts[2] = 1;
-    s
-}
-
-fn at_line_4() -> Record {
     let mut r = records::first_swap(0, 5, 7);
     r.line = 4;
     r.held = 2;
     r.steps = 7;
     r.won = 1;
-    r
-}
-
-fn lack_a_block() {
-    let mut pool: [u32; 15] = [0; 15];
-    let r = at_line_4();
-    let k = step_and_print(full(), &mut pool, 0, r);
-    if same(k.record, r) {
-        io::write_all(1, b"the record is as before\n");
-    }
+    let k = step(s, &mut pool, 0, r);
+    print_if_same(k.record, r);
 }
 
 pub fn run() {
     let mut pool: [u32; 25] = [0; 25];
-    let values: [u32; 1] = [5];
-    let opened = entries::open(unopened(), &mut pool, 2, 1, 5, &values);
-    let begun = entries::begin_swap(opened.state, &pool, 0, 0, 5, 7);
-    let s = begun.state;
+    let s = begun(&mut pool);
     let first = s.records[0];
     print(b"begun at line ", first.line);
-    io::write_all(1, b"\n");
-    let k = ten_steps(s, &mut pool, first);
-    let after = k.reply;
-    step_and_print(after.state, &mut pool, 0, k.record);
+    end_line();
+    let after = eleven_steps(s, &mut pool, first);
     // A task beyond the records, with the record as it was begun.
-    let beyond = step_and_print(after.state, &mut pool, 40, first);
-    if same(beyond.record, first) {
-        io::write_all(1, b"the record is as before\n");
-    }
+    let beyond = step(after, &mut pool, 40, first);
+    print_if_same(beyond.record, first);
     lack_a_block();
 }
