@@ -153,15 +153,15 @@ fn blank() -> Standing {
     }
 }
 
-// After a move, or the open of a new list, which may be refused.
-fn moved(r: OnceReply, action: u32, task: u32, next: u32) -> Standing {
+// After a move, or an open; refused, the list is open only if it was.
+fn moved(r: OnceReply, was_open: bool, action: u32, task: u32, next: u32) -> Standing {
     let state = r.state;
     let progress = r.progress;
     let mut open = true;
     let mut goes = true;
     match progress {
         Progress::Declined(n) => {
-            open = 0 < next;
+            open = was_open;
             goes = print_declined(action, n);
         }
         Progress::Proceeds => {}
@@ -179,12 +179,16 @@ fn moved(r: OnceReply, action: u32, task: u32, next: u32) -> Standing {
 }
 
 fn play(p: Standing, l: Line) -> Standing {
+    if !p.goes {
+        return p;
+    }
     if l.form == OPEN {
-        return moved(once::open(p.state, l.first, l.second), 0, 0, 0);
+        return moved(once::open(p.state, l.first, l.second), false, 0, 0, 0);
     }
     if (l.form == BAD) | !p.begun {
         let mut q = p;
-        q.goes = end(b"(bad 14)\n") & false;
+        end(b"(bad 14)\n");
+        q.goes = false;
         return q;
     }
     if !p.open {
@@ -192,9 +196,10 @@ fn play(p: Standing, l: Line) -> Standing {
     }
     let next = wrapping_add_u32(p.action, 1);
     if l.form == STEP {
-        return moved(once::step(p.state, l.first), p.action, l.first, next);
+        return moved(once::step(p.state, l.first), true, p.action, l.first, next);
     }
-    moved(once::begin_offer(p.state, l.first, l.second, l.third), p.action, l.first, next)
+    let r = once::begin_offer(p.state, l.first, l.second, l.third);
+    moved(r, true, p.action, l.first, next)
 }
 
 // INPUT OF ANY LENGTH, a buffer at a time
@@ -209,27 +214,43 @@ struct Played {
     held: usize,
 }
 
+fn keep(line: &mut [u8], held: usize, byte: u8) -> usize
+    requires { ⌜ held ≤ length (now line) ⌝ }
+    ensures { λ r. ⌜ r ≤ length (now (line .exit)) ⌝ }
+{
+    if held < line.len() {
+        line[held] = byte;
+        return held + 1;
+    }
+    held
+}
+
 // Plays the lines that end in a part of the input.
-fn play_part(s: &[u8], line: &mut [u8; ROOM], before: Standing, kept: usize) -> Played
-    requires { ⌜ kept ≤ 64 ⌝ }
-    ensures { λ r. ⌜ r .held ≤ 64 ⌝ }
+fn play_part(s: &[u8], line: &mut [u8], before: Standing, kept: usize) -> Played
+    requires { ⌜ kept ≤ length (now line) ⌝ }
+    ensures { λ r. ⌜ r .held ≤ length (now (line .exit)) ⌝ }
 {
     let mut p = before;
     let mut held = kept;
     let mut k: usize = 0;
     while k < s.len() {
         let byte = s[k];
-        if held < ROOM {
-            line[held] = byte;
-            held += 1;
-        }
-        if p.goes & (byte == b'\n') {
-            p = play(p, read_line(&line[..held]));
-            held = 0;
-        }
         k += 1;
+        held = keep(line, held, byte);
+        if byte != b'\n' {
+            continue;
+        }
+        p = play(p, read_line(&line[..held]));
+        held = 0;
     }
     Played { standing: p, held }
+}
+
+// A last line may have no end, and is then no form.
+fn end_input(p: Standing, line: &[u8]) {
+    if line.len() > 0 {
+        play(p, bad());
+    }
 }
 
 // A program has to end: so many parts are more than any input has.
@@ -245,8 +266,12 @@ fn run(fd: i32, name: &[u8]) {
         let part = play_part(&buf[..n], &mut line, p, held);
         p = part.standing;
         held = part.held;
-        if !p.goes | !read.whole | (n < buf.len()) {
-            break;
+        if !p.goes | !read.whole {
+            return;
+        }
+        if n < buf.len() {
+            end_input(p, &line[..held]);
+            return;
         }
         parts -= 1;
     }
