@@ -7,7 +7,9 @@
 // - t .. w, of the calls: task, cell, expected, new
 // - x: how many values open is given, or 0 to try begin a read, begin a swap, step and look; y: the second value
 // - z: a block, and Z after it: its stored count
-// After the cases stand the steps of lent_step, and the totals of the loop in schedule.
+// - L: so many steps are made over the record, lent: for each the record's line after it and the answer, of a finished call
+//   also whether it was answered yes, its steps, and its hardware CAS won and lost
+// After the cases stand the totals of the loop in schedule.
 mod lent_step;
 mod schedule;
 
@@ -149,6 +151,7 @@ struct Case {
     given: u32,
     second: u32,
     block: u32,
+    lent: u32,
 }
 
 // Three tasks, two cells, eight blocks, all idle; task 0 is to swap 5 for 7; the second value is 6.
@@ -173,6 +176,7 @@ fn plain() -> Case {
         given: 0,
         second: 6,
         block: 0,
+        lent: 0,
     }
 }
 
@@ -220,7 +224,9 @@ fn state_of(c: Case) -> State {
 fn try_case(c: Case, pool: &mut [u32]) {
     let s = state_of(c);
     let given = c.given as usize;
-    if given == 0 {
+    if c.lent > 0 {
+        lent_step::steps(s, pool, c.task, record_of(&c.record), c.lent);
+    } else if given == 0 {
         try_begins(s, pool, c);
         try_step(s, pool, c.task);
         let looked = entries::look(s, pool, c.cell);
@@ -329,6 +335,7 @@ fn with_word(mut c: Case, letter: u8, n: u32) -> Case {
         b'x' => c.given = n,
         b'y' => c.second = n,
         b'z' => c.block = n,
+        b'L' => c.lent = n,
         _ => c = with_element(c, letter, n),
     }
     c
@@ -364,6 +371,5 @@ fn main() {
     let mut text = io::large_buffer();
     let n = io::read_full(0, &mut text);
     run(&text[..n]);
-    lent_step::run();
     schedule::run();
 }
