@@ -1,8 +1,8 @@
 #!/bin/sh
 # Makes the cases of the tools on sessions and of the once-only cells anew from the
 # model and compares them with the ones kept in crates/tool_cases and
-# crates/once_cases, and likewise what crates/cells_cases and the programs shake,
-# session, moments, nudge and bus print and the pairs in examples/c.
+# crates/once_cases, and likewise what crates/cells_cases, crates/bench_cells and the
+# programs shake, session, moments, nudge and bus print and the pairs in examples/c.
 # Ends with 1, naming the first difference, if data, args, a stdin, a stdout or
 # the pairs differ.
 set -u
@@ -61,6 +61,7 @@ printed() {
 }
 
 printed shaker.py shake
+printed cells_loop.py bench_cells
 for tool in session moments nudge bus; do
     printed $tool.py $tool
 done
@@ -73,8 +74,7 @@ if ! first=$(cmp "$all/pairs" "$kept" 2>&1); then
     exit 1
 fi
 
-# what the entries answer to wrong numbers and unfit states, and the totals of the
-# loop after them
+# what the entries answer to wrong numbers and unfit states
 made=$all/cells
 kept=$here/../crates/cells_cases
 python3 -B "$here/cells_cases.py" <"$kept/stdin" >"$made" || exit 1

@@ -1,5 +1,5 @@
 // The cells in plain Rust, as one would write them by hand: state and pool behind references, every question asked at
-// every entry. It runs the same schedule as crates/cells_cases/src/schedule.rt and prints the same line.
+// every entry. It runs the same schedule as crates/bench_cells and prints the same line.
 const NONE: u32 = u32::MAX;
 
 #[derive(Clone, Copy, Default)]

@@ -9,9 +9,7 @@
 // - z: a block, and Z after it: its stored count
 // - L: so many steps are made over the record, lent: for each the record's line after it and the answer, of a finished call
 //   also whether it was answered yes, its steps, and its hardware CAS won and lost
-// After the cases stand the totals of the loop in schedule.
 mod lent_step;
-mod schedule;
 
 use cells::Looked;
 use cells::Outcome;
@@ -371,5 +369,4 @@ fn main() {
     let mut text = io::large_buffer();
     let n = io::read_full(0, &mut text);
     run(&text[..n]);
-    schedule::run();
 }
