@@ -20,7 +20,6 @@ use lines::Finished;
 use lines::Record;
 use lines::records;
 use opening_state::open_state;
-use pool::words::record_of;
 use pool::words::words_of;
 use questions::State;
 use std::num::wrapping_add_u32;
@@ -40,7 +39,6 @@ fn end_line() {
 struct Numbers {
     number: u32,
     yes: u32,
-    value: u32,
     steps: u32,
     won: u32,
     lost: u32,
@@ -50,7 +48,6 @@ fn unfinished(number: u32) -> Numbers {
     Numbers {
         number,
         yes: 0,
-        value: 0,
         steps: 0,
         won: 0,
         lost: 0,
@@ -64,9 +61,7 @@ fn finished(f: Finished) -> Numbers {
     d.lost = f.lost;
     let a = f.answer;
     match a {
-        Answer::Value(v) => {
-            d.value = v;
-        }
+        Answer::Value(_) => {}
         Answer::Yes => {
             d.yes = 1;
         }
@@ -133,6 +128,8 @@ fn print_reply(before: u32, r: Reply, pool: &[u32]) {
 // A CASE
 
 struct Case {
+    given: u32,
+    block: u32,
     tasks: u32,
     cells: u32,
     blocks: u32,
@@ -141,14 +138,22 @@ struct Case {
     counts: [u8; 128],
     words: u32,
     whose: u32,
-    record: [u32; 12],
+    line: u32,
+    wanted: u32,
+    kind: u32,
+    on: u32,
+    old: u32,
+    put: u32,
+    held: u32,
+    taken: u32,
+    steps: u32,
+    won: u32,
+    lost: u32,
     task: u32,
     cell: u32,
     expected: u32,
     new: u32,
-    given: u32,
     second: u32,
-    block: u32,
     lent: u32,
 }
 
@@ -166,7 +171,17 @@ fn plain() -> Case {
         counts,
         words: 40,
         whose: 0,
-        record: [0; 12],
+        line: 0,
+        wanted: 0,
+        kind: 0,
+        on: 0,
+        old: 0,
+        put: 0,
+        held: 0,
+        taken: 0,
+        steps: 0,
+        won: 0,
+        lost: 0,
         task: 0,
         cell: 0,
         expected: 5,
@@ -198,6 +213,23 @@ fn try_open(s: State, pool: &mut [u32], values: &[u32]) {
     print_reply(before, r, pool);
 }
 
+fn record_of(c: Case) -> Record {
+    Record {
+        line: c.line,
+        wanted: c.wanted,
+        kind: c.kind,
+        cell: c.on,
+        expected: c.old,
+        new: c.put,
+        held: c.held,
+        taken: c.taken,
+        loaded: 0,
+        steps: c.steps,
+        won: c.won,
+        lost: c.lost,
+    }
+}
+
 fn state_of(c: Case) -> State {
     let r = records::idle();
     let current = c.current;
@@ -213,7 +245,7 @@ fn state_of(c: Case) -> State {
     };
     let t = c.whose as usize;
     if t < 32 {
-        s.records[t] = record_of(&c.record);
+        s.records[t] = record_of(c);
     }
     s
 }
@@ -223,7 +255,7 @@ fn try_case(c: Case, pool: &mut [u32]) {
     let s = state_of(c);
     let given = c.given as usize;
     if c.lent > 0 {
-        lent_step::steps(s, pool, c.task, record_of(&c.record), c.lent);
+        lent_step::steps(s, pool, c.task, record_of(c), c.lent);
     } else if given == 0 {
         try_begins(s, pool, c);
         try_step(s, pool, c.task);
@@ -300,14 +332,24 @@ fn with_digit(n: u32, digit: u8) -> u32 {
     ((n as u64 * 10 + digit as u64) % 4294967296) as u32
 }
 
-// The case with an element of an array.
-fn with_element(mut c: Case, letter: u8, n: u32) -> Case {
-    let b = c.block as usize;
+// The case with a word of the record, a cell's block or a count.
+fn with_part(mut c: Case, letter: u8, n: u32) -> Case {
     match letter {
-        b'e'..=b'f' => c.current[(letter - b'd') as usize] = n,
-        b'i'..=b'p' => c.record[(letter - b'i') as usize] = n,
-        b'q'..=b's' => c.record[(letter - b'h') as usize] = n,
+        b'i' => c.line = n,
+        b'j' => c.wanted = n,
+        b'k' => c.kind = n,
+        b'l' => c.on = n,
+        b'm' => c.old = n,
+        b'n' => c.put = n,
+        b'o' => c.held = n,
+        b'p' => c.taken = n,
+        b'q' => c.steps = n,
+        b'r' => c.won = n,
+        b's' => c.lost = n,
+        b'e' => c.current[1] = n,
+        b'f' => c.current[2] = n,
         b'Z' => {
+            let b = c.block as usize;
             if b < 128 {
                 c.counts[b] = (n % 256) as u8;
             }
@@ -334,7 +376,7 @@ fn with_word(mut c: Case, letter: u8, n: u32) -> Case {
         b'y' => c.second = n,
         b'z' => c.block = n,
         b'L' => c.lent = n,
-        _ => c = with_element(c, letter, n),
+        _ => c = with_part(c, letter, n),
     }
     c
 }
