@@ -164,8 +164,8 @@ def lent_steps(case):
         result = state.step(case["t"])
         said = ACTED
         if isinstance(result, cells.Refused):
-            assert words_of(state) == before, result
-            said = "%d" % result.number
+            changed = "" if words_of(state) == before else "!"
+            said = "%d%s" % (result.number, changed)
         elif result is not None:
             said = "%s %d %d %d %d" % (
                 ENDED, result.answer, result.steps, result.won, result.lost)
