@@ -12,13 +12,17 @@ swap, step and look answer, each asked of the case's own state.  100 stands for
 acted, 200 for ended, any other number for that refusal; a `!` after it would
 say that the refusal changed something.
 
-The state's counts of uses (change request 7) are those of a fresh reading, but
-for the block that z names, if there is one: its stored count is Z.
+The state's counts of uses (change request 7) are those of the plain case, but
+for each block that a z names: its stored count is the Z after it.  They are those
+of a fresh reading, but for one at most.
 
-After the cases stand the steps of calls whose record the caller keeps and lends:
-the record's line after each step, and what the step answers.
+A case with L makes so many steps over the case's record, which the caller keeps
+and lends, and prints for each the record's line after it and the answer, and of a
+finished call whether it was answered yes, its steps, and its hardware swaps won
+and lost.
 """
 
+import operator
 import re
 import sys
 
@@ -37,7 +41,10 @@ PLAIN = dict(
     r=0, s=0,               # hardware swaps won, lost
     t=0, u=0, v=5, w=7,     # of the calls: task, cell, expected, new
     x=0, y=6,               # how many values open is given; the second
-    z=128, Z=0)             # a block whose stored count is given; the count
+    L=0)                    # how many steps are lent the record
+
+# A fresh reading of it: cells 0 and 1 name blocks 0 and 1.
+COUNTS = [1, 1] + [0] * (cells.MOST_BLOCKS - 2)
 
 KINDS = {1: cells.READ, 2: cells.SWAP}
 
@@ -46,13 +53,16 @@ ENDED = "200"
 
 
 def read_case(line):
-    """The case's words by letter, and its name."""
+    """The case's words by letter, its counts, and its name."""
     words, colon, name = line.partition(":")
-    case = dict(PLAIN)
+    case = dict(PLAIN, counts=list(COUNTS))
     for word in words.split(" ") if words else ():
-        if not (colon and re.fullmatch("[a-zZ](0|[1-9][0-9]*)", word)):
+        if not (colon and re.fullmatch("[a-zLZ](0|[1-9][0-9]*)", word)):
             raise ValueError("not a case: %r" % line)
-        case[word[0]] = int(word[1:])
+        if word[0] == "Z":
+            case["counts"][case["z"]] = int(word[1:])
+        else:
+            case[word[0]] = int(word[1:])
     return case, name
 
 
@@ -66,6 +76,23 @@ def pool_of(case):
     return pool[:case["g"]]
 
 
+def record_of(case):
+    record = cells.Record()
+    record.line = case["i"]
+    record.wanted_by = case["j"]
+    # a number that stands for neither kind stays as it is
+    record.kind = KINDS.get(case["k"], case["k"])
+    record.cell = case["l"]
+    record.expected = case["m"]
+    record.new = case["n"]
+    record.held = case["o"]
+    record.installing = case["p"]
+    record.steps = case["q"]
+    record.won = case["r"]
+    record.lost = case["s"]
+    return record
+
+
 def state_of(case):
     """The case's state with its pool; of the 16 blocks and 32 records that a
     state has room for, those of its cells and tasks."""
@@ -74,26 +101,14 @@ def state_of(case):
     current[2] = case["f"]
     tasks = [cells.Record() for _ in range(cells.MOST_TASKS)]
     if case["h"] < len(tasks):
-        record = tasks[case["h"]]
-        record.line = case["i"]
-        record.wanted_by = case["j"]
-        # a number that stands for neither kind stays as it is
-        record.kind = KINDS.get(case["k"], case["k"])
-        record.cell = case["l"]
-        record.expected = case["m"]
-        record.new = case["n"]
-        record.held = case["o"]
-        record.installing = case["p"]
-        record.steps = case["q"]
-        record.won = case["r"]
-        record.lost = case["s"]
+        tasks[case["h"]] = record_of(case)
     state = cells.Cells.found(
         case["a"], case["b"], case["c"], pool_of(case),
         current[:case["b"]], case["d"], tasks[:case["a"]])
-    # the stored counts are those of a fresh reading, but for the one given; a
-    # state has counts of 128 blocks, so 128 gives none
-    if case["z"] < len(state.counts):
-        state.counts[case["z"]] = case["Z"]
+    # one fault at a time
+    if sum(map(operator.ne, state.counts, case["counts"])) > 1:
+        raise ValueError("several counts are not those of a fresh reading")
+    state.counts = list(case["counts"])
     return state
 
 
@@ -137,9 +152,31 @@ def open_answer(case):
             else ACTED)
 
 
+def lent_steps(case):
+    """What is printed of each step over the case's record, lent: it stands in
+    place of the state's."""
+    state = state_of(case)
+    record = record_of(case)
+    if case["t"] < len(state.tasks):
+        state.tasks[case["t"]] = record
+    for _ in range(case["L"]):
+        before = words_of(state)
+        result = state.step(case["t"])
+        said = ACTED
+        if isinstance(result, cells.Refused):
+            changed = "" if words_of(state) == before else "!"
+            said = "%d%s" % (result.number, changed)
+        elif result is not None:
+            said = "%s %d %d %d %d" % (
+                ENDED, result.answer, result.steps, result.won, result.lost)
+        yield "%d %s" % (record.line, said)
+
+
 def printed(line):
     """What is printed for one line of the input."""
     case, name = read_case(line)
+    if case["L"]:
+        return " ".join([name, *lent_steps(case)])
     if case["x"]:
         return "%s %s" % (name, open_answer(case))
     task, cell = case["t"], case["u"]
@@ -158,58 +195,8 @@ def run(text):
     return "".join(printed(line) + "\n" for line in text.splitlines())
 
 
-def step_line(state, task, record):
-    """A step that is lent this record."""
-    before = record.words()
-    result = state.step(task)
-    if result is None:
-        said = "acted"
-    elif isinstance(result, cells.Refused):
-        assert record.words() == before, result
-        said = "refused %d" % result.number
-    else:
-        said = "ended %s, steps %d, won %d, lost %d" % (
-            "yes" if result.answer else "no", result.steps, result.won,
-            result.lost)
-    return "line %d: %s" % (record.line, said)
-
-
-def record_at(line, held=0, steps=0, won=0):
-    """Of a swap of 5 for 7 on cell 0."""
-    record = cells.Record()
-    record.kind = cells.SWAP
-    record.expected = 5
-    record.new = 7
-    record.line = line
-    record.held = held
-    record.steps = steps
-    record.won = won
-    return record
-
-
-def lent_steps():
-    """A swap from its begin to its end, a step after that, a step of a task
-    beyond the records, and line 4 where every block is used."""
-    state = cells.open_cells(2, 1, 5, [0] * 25, (5,))
-    state.begin_swap(0, 0, 5, 7)
-    record = state.tasks[0]
-    yield "begun at line %d" % record.line
-    first = record_at(record.line)
-    assert first.words() == record.words()
-    for _ in range(11):
-        yield step_line(state, 0, record)
-    same = "the record is as before"
-    yield step_line(state, 40, first)
-    yield same
-    fourth = record_at(4, held=2, steps=7, won=1)
-    full = cells.Cells.found(1, 2, 3, [0] * 15, [0, 1], 1, [fourth])
-    yield step_line(full, 0, fourth)
-    yield same
-
-
 def main():
     sys.stdout.write(run(sys.stdin.read()))
-    sys.stdout.writelines(line + "\n" for line in lent_steps())
 
 
 if __name__ == "__main__":

@@ -1,8 +1,8 @@
 #!/bin/sh
 # Makes the cases of the tools on sessions and of the once-only cells anew from the
 # model and compares them with the ones kept in crates/tool_cases and
-# crates/once_cases, and likewise what crates/cells_cases and crates/shake print and
-# the pairs in examples/c.
+# crates/once_cases, and likewise what crates/cells_cases, crates/bench_cells and the
+# programs shake, session, moments, nudge and bus print and the pairs in examples/c.
 # Ends with 1, naming the first difference, if data, args, a stdin, a stdout or
 # the pairs differ.
 set -u
@@ -45,13 +45,26 @@ compare() {
 compare make_tool_cases.py tool_cases
 compare make_once_cases.py once_cases
 
-# what the program shake prints for its stored arguments
-kept=$here/../crates/shake
-python3 -B "$here/shaker.py" $(cat "$kept/args") >"$all/shaken" || exit 1
-if ! first=$(cmp "$all/shaken" "$kept/stdout" 2>&1); then
-    echo "check_cases: stdout of shake differs: $first"
-    exit 1
-fi
+# printed MODEL CRATE: what CRATE keeps as printed for its stored arguments and
+# standard input
+printed() {
+    kept=$here/../crates/$2
+    words=
+    input=/dev/null
+    if [ -f "$kept/args" ]; then words=$(cat "$kept/args"); fi
+    if [ -f "$kept/stdin" ]; then input=$kept/stdin; fi
+    python3 -B "$here/$1" $words <"$input" >"$all/printed" || exit 1
+    if ! first=$(cmp "$all/printed" "$kept/stdout" 2>&1); then
+        echo "check_cases: stdout of $2 differs: $first"
+        exit 1
+    fi
+}
+
+printed shaker.py shake
+printed cells_loop.py bench_cells
+for tool in session moments nudge bus; do
+    printed $tool.py $tool
+done
 
 # the pairs of counts that are asked from C
 kept=$here/../examples/c/pairs

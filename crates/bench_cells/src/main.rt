@@ -4,7 +4,7 @@ use cells::Outcome;
 use libc::STDOUT_FILENO;
 use lines::Answer;
 use lines::Finished;
-use lines::records;
+use opening_state::open_state;
 use questions::State;
 use std::num::wrapping_add_u32;
 
@@ -20,19 +20,6 @@ struct Totals {
 
 fn next_seed(seed: u32) -> u32 {
     ((seed as u64 * 1664525 + 1013904223) % 4294967296) as u32
-}
-
-fn blank() -> State {
-    let r = records::idle();
-    State {
-        tasks: 0,
-        cells: 0,
-        blocks: 0,
-        last: 0,
-        current: [0; 16],
-        records: [r; 32],
-        counts: [0; 128],
-    }
 }
 
 fn with_finished(t: Totals, f: Finished) -> Totals {
@@ -71,6 +58,17 @@ fn print(n: u32, end: &[u8]) {
     io::write_all(STDOUT_FILENO, end);
 }
 
+fn print_totals(t: Totals) {
+    let space: &[u8] = b" ";
+    print(t.finished, space);
+    print(t.yes, space);
+    print(t.steps, space);
+    print(t.won, space);
+    print(t.lost, space);
+    print(t.sum, space);
+    print(t.refused, b"\n");
+}
+
 // The state and the schedule between two entries.
 struct Round {
     pub state: State,
@@ -78,7 +76,7 @@ struct Round {
     pub seed: u32,
 }
 
-fn begin(s: State, pool: &mut [u32], task: u32, start: u32, t: Totals) -> Round {
+fn begin(s: State, pool: &[u32], task: u32, start: u32, t: Totals) -> Round {
     let first = next_seed(start);
     let second = next_seed(first);
     let cell = second / 65536 % 16;
@@ -135,7 +133,7 @@ fn run(pool: &mut [u32], first: Round) -> Totals {
 
 fn main() {
     let mut pool = [0u32; 400];
-    let opened = entries::open(blank(), &mut pool, 32, 16, 80, &[0; 16]);
+    let opened = entries::open(open_state(1, 1, 3), &mut pool, 32, 16, 80, &[0; 16]);
     let state = opened.state;
     let none = Totals {
         finished: 0,
@@ -154,11 +152,5 @@ fn main() {
             seed: 1,
         },
     );
-    print(t.finished, b" ");
-    print(t.yes, b" ");
-    print(t.steps, b" ");
-    print(t.won, b" ");
-    print(t.lost, b" ");
-    print(t.sum, b" ");
-    print(t.refused, b"\n");
+    print_totals(t);
 }

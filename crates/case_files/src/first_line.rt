@@ -54,10 +54,8 @@ fn read_item(s: &[u8], at: usize, end: &[u8]) -> Item
 fn item_at(s: &[u8], at: usize, last: bool) -> Item
     ensures { λ r. ⌜ r .next ≤ length (now (s .entry)) ⌝ }
 {
-    if last {
-        return read_item(s, at, b"\n");
-    }
-    read_item(s, at, b" ")
+    let end = [if last { b'\n' } else { b' ' }];
+    read_item(s, at, &end)
 }
 
 // Where the line after it begins; not good where it has not so many numbers.

@@ -20,12 +20,13 @@ pub fn open_case(i: usize, name: &mut [u8]) -> Case
         os::fail(b"argument");
         return Case { fd: -1, length };
     }
+    let text = &name[..length];
     io::write_all(STDOUT_FILENO, b"# ");
-    io::write_all(STDOUT_FILENO, &name[..length]);
+    io::write_all(STDOUT_FILENO, text);
     io::write_all(STDOUT_FILENO, b"\n");
-    let fd = os::open_read(&name[..length]);
+    let fd = os::open_read(text);
     if fd < 0 {
-        os::fail(&name[..length]);
+        os::fail(text);
     }
     Case { fd, length }
 }

@@ -6,18 +6,21 @@
 // - h: whose record is set; i .. s, of that record: line, wanted, kind, cell, expected, new, held, taken, steps, won, lost
 // - t .. w, of the calls: task, cell, expected, new
 // - x: how many values open is given, or 0 to try begin a read, begin a swap, step and look; y: the second value
-// - z: a block, and Z: its stored count, 255 for any above; the other counts are those of a fresh reading
-// After the cases stand the steps of lent_step.
+// - z: a block, and Z after it: its stored count
+// - L: so many steps are made over the record, lent: for each the record's line after it and the answer, of a finished call
+//   also whether it was answered yes, its steps, and its hardware CAS won and lost
 mod lent_step;
 
 use cells::Looked;
 use cells::Outcome;
 use cells::Reply;
-use counting::is_holding;
-use counting::is_taking;
 use libc::STDOUT_FILENO;
+use lines::Answer;
+use lines::Finished;
 use lines::Record;
 use lines::records;
+use opening_state::open_state;
+use pool::words::words_of;
 use questions::State;
 use std::num::wrapping_add_u32;
 
@@ -28,11 +31,50 @@ fn print(text: &[u8], n: u32) {
     io::print_decimal(STDOUT_FILENO, n as u64);
 }
 
-fn number_of(o: Outcome) -> u32 {
+fn end_line() {
+    io::write_all(STDOUT_FILENO, b"\n");
+}
+
+// An outcome in numbers: 100 acted, 200 ended, else the refusal; of a finished call what it reports.
+struct Numbers {
+    number: u32,
+    yes: u32,
+    steps: u32,
+    won: u32,
+    lost: u32,
+}
+
+fn unfinished(number: u32) -> Numbers {
+    Numbers {
+        number,
+        yes: 0,
+        steps: 0,
+        won: 0,
+        lost: 0,
+    }
+}
+
+fn finished(f: Finished) -> Numbers {
+    let mut d = unfinished(200);
+    d.steps = f.steps;
+    d.won = f.won;
+    d.lost = f.lost;
+    let a = f.answer;
+    match a {
+        Answer::Value(_) => {}
+        Answer::Yes => {
+            d.yes = 1;
+        }
+        Answer::No => {}
+    }
+    d
+}
+
+fn numbers_of(o: Outcome) -> Numbers {
     match o {
-        Outcome::Refused(n) => n,
-        Outcome::Acted => 100,
-        Outcome::Ended(f) => 200,
+        Outcome::Refused(n) => unfinished(n),
+        Outcome::Acted => unfinished(100),
+        Outcome::Ended(f) => finished(f),
     }
 }
 
@@ -46,46 +88,29 @@ fn print_look(l: Looked) {
 // WHETHER STATE AND POOL STAYED
 
 // Every bit of the sum stays, one place on.
-fn mixed(sum: u32, x: u32) -> u32 {
-    wrapping_add_u32((sum << 1) | (sum >> 31), x)
-}
-
 fn words_sum(start: u32, words: &[u32]) -> u32 {
     let mut sum = start;
     let mut k: usize = 0;
     while k < words.len() {
-        sum = mixed(sum, words[k]);
+        sum = wrapping_add_u32((sum << 1) | (sum >> 31), words[k]);
         k += 1;
     }
     sum
 }
 
-fn counts_sum(start: u32, counts: [u8; 128]) -> u32 {
-    let mut sum = start;
+fn record_sum(start: u32, r: Record) -> u32 {
+    words_sum(start, &words_of(r))
+}
+
+// Each record comes with four of the counts.
+fn sum_of(s: State, pool: &[u32]) -> u32 {
+    let mut sum = words_sum(words_sum(0, pool), &s.current);
+    sum = words_sum(sum, &[s.tasks, s.cells, s.blocks, s.last]);
     let mut b: usize = 0;
     while b < 128 {
-        sum = mixed(sum, counts[b] as u32);
+        sum = wrapping_add_u32(sum, s.counts[b] as u32);
+        sum = record_sum(sum, s.records[b % 32]);
         b += 1;
-    }
-    sum
-}
-
-fn record_sum(start: u32, r: Record) -> u32 {
-    let call = [r.line, r.wanted, r.kind, r.cell, r.expected, r.new];
-    let rest = [r.held, r.taken, r.loaded, r.steps, r.won, r.lost];
-    words_sum(words_sum(start, &call), &rest)
-}
-
-fn sum_of(s: State, pool: &[u32]) -> u32 {
-    let mut sum = words_sum(0, pool);
-    sum = words_sum(sum, &[s.tasks, s.cells, s.blocks, s.last]);
-    sum = words_sum(sum, &s.current);
-    sum = counts_sum(sum, s.counts);
-    let mut t: usize = 0;
-    while t < 32 {
-        let r = s.records[t];
-        sum = record_sum(sum, r);
-        t += 1;
     }
     sum
 }
@@ -93,222 +118,291 @@ fn sum_of(s: State, pool: &[u32]) -> u32 {
 // Only a refusal must leave them.
 fn print_reply(before: u32, r: Reply, pool: &[u32]) {
     let o = r.outcome;
-    let n = number_of(o);
-    print(b" ", n);
-    if (n < 100) & (before != sum_of(r.state, pool)) {
+    let d = numbers_of(o);
+    print(b" ", d.number);
+    if (d.number < 100) & (before != sum_of(r.state, pool)) {
         io::write_all(STDOUT_FILENO, b"!");
     }
 }
 
 // A CASE
 
-fn try_entries(s: State, pool: &mut [u32], task: u32, cell: u32, expected: u32, new: u32) {
+struct Case {
+    given: u32,
+    block: u32,
+    tasks: u32,
+    cells: u32,
+    blocks: u32,
+    last: u32,
+    current: [u32; 16],
+    counts: [u8; 128],
+    words: u32,
+    whose: u32,
+    line: u32,
+    wanted: u32,
+    kind: u32,
+    on: u32,
+    old: u32,
+    put: u32,
+    held: u32,
+    taken: u32,
+    steps: u32,
+    won: u32,
+    lost: u32,
+    task: u32,
+    cell: u32,
+    expected: u32,
+    new: u32,
+    second: u32,
+    lent: u32,
+}
+
+// Three tasks, two cells, eight blocks, all idle; task 0 is to swap 5 for 7; the second value is 6.
+fn plain() -> Case {
+    let s = open_state(3, 2, 8);
+    let current = s.current;
+    let counts = s.counts;
+    Case {
+        tasks: 3,
+        cells: 2,
+        blocks: 8,
+        last: 1,
+        current,
+        counts,
+        words: 40,
+        whose: 0,
+        line: 0,
+        wanted: 0,
+        kind: 0,
+        on: 0,
+        old: 0,
+        put: 0,
+        held: 0,
+        taken: 0,
+        steps: 0,
+        won: 0,
+        lost: 0,
+        task: 0,
+        cell: 0,
+        expected: 5,
+        new: 7,
+        given: 0,
+        second: 6,
+        block: 0,
+        lent: 0,
+    }
+}
+
+fn try_begins(s: State, pool: &[u32], c: Case) {
     let before = sum_of(s, pool);
-    let looked = entries::look(s, pool, cell);
-    let r = entries::begin_read(s, pool, task, cell);
+    let r = entries::begin_read(s, pool, c.task, c.cell);
     print_reply(before, r, pool);
-    let q = entries::begin_swap(s, pool, task, cell, expected, new);
+    let q = entries::begin_swap(s, pool, c.task, c.cell, c.expected, c.new);
     print_reply(before, q, pool);
-    let e = entries::step(s, pool, task);
-    print_reply(before, e, pool);
-    print_look(looked);
 }
 
-fn record_of(c: [u32; 27]) -> Record {
+fn try_step(s: State, pool: &mut [u32], task: u32) {
+    let before = sum_of(s, pool);
+    let r = entries::step(s, pool, task);
+    print_reply(before, r, pool);
+}
+
+fn try_open(s: State, pool: &mut [u32], values: &[u32]) {
+    let before = sum_of(s, pool);
+    let r = entries::open(s, pool, s.tasks, s.cells, s.blocks, values);
+    print_reply(before, r, pool);
+}
+
+fn record_of(c: Case) -> Record {
     Record {
-        line: c[8],
-        wanted: c[9],
-        kind: c[10],
-        cell: c[11],
-        expected: c[12],
-        new: c[13],
-        held: c[14],
-        taken: c[15],
+        line: c.line,
+        wanted: c.wanted,
+        kind: c.kind,
+        cell: c.on,
+        expected: c.old,
+        new: c.put,
+        held: c.held,
+        taken: c.taken,
         loaded: 0,
-        steps: c[16],
-        won: c[17],
-        lost: c[18],
+        steps: c.steps,
+        won: c.won,
+        lost: c.lost,
     }
 }
 
-// A use of block b, where it has a count.
-fn add_use(counts: &mut [u8; 128], b: u32, used: bool) {
-    let i = b as usize;
-    if used {
-        if i < 128 {
-            if counts[i] < 255 {
-                counts[i] = counts[i] + 1;
-            }
-        }
-    }
-}
-
-fn add_cells(counts: &mut [u8; 128], current: &[u32; 16], cells: u32) {
-    let mut k: u32 = 0;
-    while k < 16 {
-        add_use(counts, current[k as usize], k < cells);
-        k += 1;
-    }
-}
-
-// No state can store a count above 255: the case's state then has 255.
-fn stored(count: u32) -> u8 {
-    if count < 256 { count as u8 } else { 255 }
-}
-
-// Those of a fresh reading, but for one block's.
-fn counts_of(s: State, block: u32, count: u32) -> [u8; 128] {
-    let mut counts: [u8; 128] = [0; 128];
-    add_cells(&mut counts, &s.current, s.cells);
-    let mut t: u32 = 0;
-    while t < 32 {
-        let r = s.records[t as usize];
-        let there = t < s.tasks;
-        add_use(&mut counts, r.held, there & is_holding(r));
-        add_use(&mut counts, r.taken, there & is_taking(r));
-        t += 1;
-    }
-    let i = block as usize;
-    if i < 128 {
-        counts[i] = stored(count);
-    }
-    counts
-}
-
-fn state_of(c: [u32; 27]) -> State {
-    let idle = records::idle();
+fn state_of(c: Case) -> State {
+    let r = records::idle();
+    let current = c.current;
+    let counts = c.counts;
     let mut s = State {
-        tasks: c[0],
-        cells: c[1],
-        blocks: c[2],
-        last: c[3],
-        current: [0, c[4], c[5], 3, 4, 5, 6, 7, 8, 9, 10, 11, 12, 13, 14, 15],
-        records: [idle; 32],
-        counts: [0; 128],
+        tasks: c.tasks,
+        cells: c.cells,
+        blocks: c.blocks,
+        last: c.last,
+        current,
+        records: [r; 32],
+        counts,
     };
-    let t = c[7] as usize;
+    let t = c.whose as usize;
     if t < 32 {
         s.records[t] = record_of(c);
     }
-    s.counts = counts_of(s, c[25], c[26]);
     s
 }
 
-fn try_case(c: [u32; 27], pool: &mut [u32], values: &[u32]) {
+// Of the values only the first so many are given.
+fn try_case(c: Case, pool: &mut [u32]) {
     let s = state_of(c);
-    if c[23] == 0 {
-        try_entries(s, pool, c[19], c[20], c[21], c[22]);
-    } else {
-        let before = sum_of(s, pool);
-        let r = entries::open(s, pool, s.tasks, s.cells, s.blocks, values);
-        print_reply(before, r, pool);
-    }
-}
-
-// Of the words and of the values only the first so many are lent.
-fn lend(c: [u32; 27], all: &mut [u32], words: u32, values: &[u32], given: u32) {
-    let w = words as usize;
-    let g = given as usize;
-    if w <= all.len() {
-        if g <= values.len() {
-            try_case(c, &mut all[..w], &values[..g]);
-        }
+    let given = c.given as usize;
+    if c.lent > 0 {
+        lent_step::steps(s, pool, c.task, record_of(c), c.lent);
+    } else if given == 0 {
+        try_begins(s, pool, c);
+        try_step(s, pool, c.task);
+        let looked = entries::look(s, pool, c.cell);
+        print_look(looked);
+    } else if given <= 3 {
+        let values = [5, c.second, 6];
+        try_open(s, pool, &values[..given]);
     }
 }
 
 // The words of nine blocks, as opening two cells with 5 and 6 leaves them.
-fn opened() -> [u32; 45] {
-    let mut pool = [0u32; 45];
-    pool[0] = 255;
-    pool[3] = 5;
-    pool[4] = 4294967295;
-    pool[5] = 255;
-    pool[8] = 6;
-    pool[9] = 4294967295;
-    pool
-}
+const OPENED: [u32; 45] = [
+    255,
+    0,
+    0,
+    5,
+    4294967295,
+    255,
+    0,
+    0,
+    6,
+    4294967295,
+    0,
+    0,
+    0,
+    0,
+    0,
+    0,
+    0,
+    0,
+    0,
+    0,
+    0,
+    0,
+    0,
+    0,
+    0,
+    0,
+    0,
+    0,
+    0,
+    0,
+    0,
+    0,
+    0,
+    0,
+    0,
+    0,
+    0,
+    0,
+    0,
+    0,
+    0,
+    0,
+    0,
+    0,
+    0,
+];
 
-fn run_case(c: [u32; 27]) {
-    let mut all = opened();
-    lend(c, &mut all, c[6], &[5, c[24], 6], c[23]);
-    io::write_all(STDOUT_FILENO, b"\n");
+// Of the words only the first so many are lent.
+fn run_case(c: Case) {
+    let mut all = OPENED;
+    let words = c.words as usize;
+    if words <= 45 {
+        try_case(c, &mut all[..words]);
+    }
+    end_line();
 }
 
 // READING
-
-// The case's words so far, and the word whose number is read; 27 in the name.
-struct Reading {
-    words: [u32; 27],
-    at: usize,
-}
-
-// Three tasks, two cells, eight blocks, all idle; task 0 is to swap 5 for 7; the second value is 6.
-fn plain() -> Reading {
-    let mut words = [0u32; 27];
-    words[0] = 3;
-    words[1] = 2;
-    words[2] = 8;
-    words[3] = 1;
-    words[4] = 1;
-    words[5] = 2;
-    words[6] = 40;
-    words[21] = 5;
-    words[22] = 7;
-    words[24] = 6;
-    words[25] = 128;
-    Reading { words, at: 0 }
-}
 
 fn with_digit(n: u32, digit: u8) -> u32 {
     ((n as u64 * 10 + digit as u64) % 4294967296) as u32
 }
 
-// A byte before the name.
-fn read(mut r: Reading, byte: u8) -> Reading {
-    let at = r.at;
-    match byte {
-        b'a'..=b'z' => {
-            r.at = (byte - b'a') as usize;
-            r.words[(byte - b'a') as usize] = 0;
-        }
+// The case with a word of the record, a cell's block or a count.
+fn with_part(mut c: Case, letter: u8, n: u32) -> Case {
+    match letter {
+        b'i' => c.line = n,
+        b'j' => c.wanted = n,
+        b'k' => c.kind = n,
+        b'l' => c.on = n,
+        b'm' => c.old = n,
+        b'n' => c.put = n,
+        b'o' => c.held = n,
+        b'p' => c.taken = n,
+        b'q' => c.steps = n,
+        b'r' => c.won = n,
+        b's' => c.lost = n,
+        b'e' => c.current[1] = n,
+        b'f' => c.current[2] = n,
         b'Z' => {
-            r.at = 26;
-            r.words[26] = 0;
-        }
-        b'0'..=b'9' => {
-            if at < 27 {
-                r.words[at] = with_digit(r.words[at], byte - b'0');
+            let b = c.block as usize;
+            if b < 128 {
+                c.counts[b] = (n % 256) as u8;
             }
-        }
-        b':' => {
-            r.at = 27;
         }
         _ => {}
     }
-    r
+    c
 }
 
-// A byte of the name, or the line's end.
-fn name(r: Reading, byte: u8) -> Reading {
-    if byte != b'\n' {
-        io::write_all(STDOUT_FILENO, &[byte]);
-        return r;
+// The case with the letter's word.
+fn with_word(mut c: Case, letter: u8, n: u32) -> Case {
+    match letter {
+        b'a' => c.tasks = n,
+        b'b' => c.cells = n,
+        b'c' => c.blocks = n,
+        b'd' => c.last = n,
+        b'g' => c.words = n,
+        b'h' => c.whose = n,
+        b't' => c.task = n,
+        b'u' => c.cell = n,
+        b'v' => c.expected = n,
+        b'w' => c.new = n,
+        b'x' => c.given = n,
+        b'y' => c.second = n,
+        b'z' => c.block = n,
+        b'L' => c.lent = n,
+        _ => c = with_part(c, letter, n),
     }
-    let words = r.words;
-    run_case(words);
-    plain()
+    c
 }
 
 fn run(text: &[u8]) {
-    let mut r = plain();
+    let mut c = plain();
+    let mut letter = b'\n';
+    let mut n = 0;
     let mut k: usize = 0;
     while k < text.len() {
         let byte = text[k];
-        r = if r.at < 27 {
-            read(r, byte)
+        if letter == b':' {
+            if byte == b'\n' {
+                run_case(c);
+                c = plain();
+                letter = byte;
+            } else {
+                io::write_all(STDOUT_FILENO, &[byte]);
+            }
+        } else if (b'0' <= byte) & (byte <= b'9') {
+            n = with_digit(n, byte % 16);
+            c = with_word(c, letter, n);
         } else {
-            name(r, byte)
-        };
+            letter = byte;
+            n = 0;
+        }
         k += 1;
     }
 }
@@ -317,5 +411,4 @@ fn main() {
     let mut text = io::large_buffer();
     let n = io::read_full(0, &mut text);
     run(&text[..n]);
-    lent_step::run();
 }

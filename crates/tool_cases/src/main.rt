@@ -1,7 +1,5 @@
 // Writes the name of each case that an argument names, and what the tool prints of it in whose folder it stands. Where a tool
 // takes numbers, the first line has them; one that has not gives (bad 14), as does a folder of no tool.
-ghost use Prim.Native.Nat.{_≤_};
-ghost use lib.ListN.{length};
 ghost use Rattle.io.specs.Counts.{Counts};
 use buffers::lines_space;
 use buffers::session_space;
@@ -10,7 +8,6 @@ use case_files::first_line::case_space;
 use case_files::first_line::read_first;
 use case_files::read_case;
 use libc::STDOUT_FILENO;
-use text::Place;
 
 const SESSION: u32 = 0;
 
@@ -26,87 +23,83 @@ const SHAKEN: u32 = 5;
 
 const NONE: u32 = 6;
 
-fn in_folder(name: &[u8], folder: &[u8]) -> bool {
-    let place = readers::starts_with(name, 0, folder);
-    let Place::At(_) = place else {
-        return false;
+// The tool, and how many numbers it takes.
+struct Tool {
+    number: u32,
+    takes: usize,
+}
+
+// Folders are told apart by their first letter, those with s by their second and sixth.
+fn tool_of(name: [u8; 4096]) -> Tool {
+    let mut number = NONE;
+    let mut takes = 0;
+    match name[0] {
+        b'm' => {
+            number = MOMENTS;
+        }
+        b'n' => {
+            number = NUDGE;
+            takes = 2;
+        }
+        b'b' => {
+            number = BUS;
+            takes = 6;
+        }
+        b's' => {
+            if name[1] == b'e' {
+                number = SESSION;
+            } else {
+                takes = 5;
+                number = if name[5] == b'/' { SHAKE } else { SHAKEN };
+            }
+        }
+        _ => {}
+    }
+    Tool { number, takes }
+}
+
+// The numbers that the first line has, and where the next one begins.
+struct Start {
+    good: bool,
+    next: usize,
+    a: u32,
+    b: u32,
+    c: u32,
+    d: u32,
+    e: u32,
+    f: u32,
+}
+
+fn read_start(s: &[u8], takes: usize) -> Start {
+    let mut n = [0u32; 6];
+    let mut first = First {
+        good: false,
+        next: 0,
     };
-    true
+    if takes <= 6 {
+        first = read_first(s, &mut n[..takes]);
+    }
+    Start {
+        good: first.good,
+        next: first.next,
+        a: n[0],
+        b: n[1],
+        c: n[2],
+        d: n[3],
+        e: n[4],
+        f: n[5],
+    }
 }
 
-fn tool_of(name: &[u8]) -> u32 {
-    if in_folder(name, b"session/") {
-        return SESSION;
-    }
-    if in_folder(name, b"moments/") {
-        return MOMENTS;
-    }
-    if in_folder(name, b"nudge/") {
-        return NUDGE;
-    }
-    if in_folder(name, b"bus/") {
-        return BUS;
-    }
-    if in_folder(name, b"shake/") {
-        return SHAKE;
-    }
-    if in_folder(name, b"shaken/") {
-        return SHAKEN;
-    }
-    NONE
-}
-
-fn tool_at(i: usize) -> u32 {
-    let mut name = io::buffer();
-    let n = os::arg(i, &mut name);
-    tool_of(&name[..n])
-}
-
-// How many numbers it takes.
-fn takes(tool: u32) -> usize
-    ensures { λ r. ⌜ r ≤ 6 ⌝ }
-{
-    if tool <= MOMENTS {
-        return 0;
-    }
-    if tool == NUDGE {
-        return 2;
-    }
-    if tool == BUS {
-        return 6;
-    }
-    5
-}
-
-fn read_numbers(tool: u32, s: &[u8], n: &mut [u32]) -> First
-    requires { ⌜ 6 ≤ length (now n) ⌝ }
-    ensures { λ r. ⌜ r .next ≤ length (now (s .entry)) ⌝ }
-{
-    let k = takes(tool);
-    read_first(s, &mut n[..k])
-}
-
-fn bus(n: [u32; 6], s: &[u8], out: &mut [u8]) -> usize
-    ensures { λ r. ⌜ Counts r (now (out .exit)) ⌝ }
-{
-    bus_runner::run_bus(n[0], n[1], n[2], n[3], n[4], n[5], s, out)
-}
-
-fn shake(n: [u32; 6], out: &mut [u8]) -> usize
-    ensures { λ r. ⌜ Counts r (now (out .exit)) ⌝ }
-{
-    shaker::shake(n[0], n[1], n[2], n[3], n[4], out)
-}
-
-fn shaken(n: [u32; 6], out: &mut [u8]) -> usize
+fn shaken(n: Start, out: &mut [u8]) -> usize
     ensures { λ r. ⌜ Counts r (now (out .exit)) ⌝ }
 {
     let mut drawn = session_space();
-    let end = shake(n, &mut drawn);
+    let end = shaker::shake(n.a, n.b, n.c, n.d, n.e, &mut drawn);
     session_runner::run_session(&drawn[..end], out)
 }
 
-fn run(tool: u32, n: [u32; 6], s: &[u8], out: &mut [u8]) -> usize
+fn run(tool: u32, n: Start, s: &[u8], out: &mut [u8]) -> usize
     ensures { λ r. ⌜ Counts r (now (out .exit)) ⌝ }
 {
     if tool == SESSION {
@@ -116,13 +109,13 @@ fn run(tool: u32, n: [u32; 6], s: &[u8], out: &mut [u8]) -> usize
         return moments_runner::run_moments(s, out);
     }
     if tool == NUDGE {
-        return nudge_runner::run_nudge(s, n[0], n[1], out);
+        return nudge_runner::run_nudge(s, n.a, n.b, out);
     }
     if tool == BUS {
-        return bus(n, s, out);
+        return bus_runner::run_bus(n.a, n.b, n.c, n.d, n.e, n.f, s, out);
     }
     if tool == SHAKE {
-        return shake(n, out);
+        return shaker::shake(n.a, n.b, n.c, n.d, n.e, out);
     }
     shaken(n, out)
 }
@@ -131,24 +124,27 @@ fn print(text: &[u8]) {
     report::write_all(STDOUT_FILENO, text, b"output");
 }
 
-fn run_text(tool: u32, s: &[u8], out: &mut [u8]) {
-    let mut n = [0u32; 6];
-    let first = read_numbers(tool, s, &mut n);
-    if (tool == NONE) | !first.good {
-        print(b"(bad 14)\n");
-        return;
+fn run_text(tool: Tool, s: &[u8], out: &mut [u8]) {
+    let n = read_start(s, tool.takes);
+    let from = n.next;
+    if (tool.number != NONE) & n.good {
+        if from <= s.len() {
+            let end = run(tool.number, n, &s[from..], out);
+            print(&out[..end]);
+            return;
+        }
     }
-    let from = first.next;
-    let end = run(tool, n, &s[from..], out);
-    print(&out[..end]);
+    print(b"(bad 14)\n");
 }
 
 fn run_case(i: usize, out: &mut [u8]) {
     let mut file = case_space();
     let read = read_case(i, &mut file);
     if read.whole {
+        let mut name = io::buffer();
+        os::arg(i, &mut name);
         let n = read.count;
-        run_text(tool_at(i), &file[..n], out);
+        run_text(tool_of(name), &file[..n], out);
     }
 }
 

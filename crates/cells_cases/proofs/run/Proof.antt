@@ -1,4 +1,3 @@
--- The loop ends with the text.
 use Prim.Native.Nat.{_≤_, _-_}
 use lib.ListN.{length}
 use borrow.Author.Needs.{needs}
@@ -6,10 +5,10 @@ use Rattle.cells_cases.proofs.run.Statement.{statement}
 use Rattle.cells_cases.proofs.run.Tie as tie
 
 abbrev Inv-loop : tie.InvT-loop
-Inv-loop text r₀ k₀ r k = k ≤ length text
+Inv-loop text c₀ letter₀ n₀ k₀ c letter n k = k ≤ length text
 
 abbrev μ-loop : tie.MeasureT-loop
-μ-loop text r₀ k₀ r k = length text - k
+μ-loop text c₀ letter₀ n₀ k₀ c letter n k = length text - k
 
 pub run-spec : {M : Type 1} → statement M
 run-spec =
@@ -20,6 +19,10 @@ run-spec =
     (λ c κs. search needs)
     (λ c. search needs)
     (λ c. search needs)
+    (λ c κs. search needs)
+    (λ c κs. search needs)
+    (λ c. search needs)
+    (λ c κs. search needs)
     (λ c κs. search needs)
     (λ c κs. search needs)
     (λ c. search needs)

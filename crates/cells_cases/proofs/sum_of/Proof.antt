@@ -1,14 +1,13 @@
--- The loop ends at task 32.
 use Prim.Native.Nat.{_≤_, _-_}
 use borrow.Author.Needs.{needs}
 use Rattle.cells_cases.proofs.sum_of.Statement.{statement}
 use Rattle.cells_cases.proofs.sum_of.Tie as tie
 
 abbrev Inv-loop : tie.InvT-loop
-Inv-loop pool s sum₀ t₀ sum t = t ≤ 32
+Inv-loop pool s sum₀ b₀ sum b = b ≤ 128
 
 abbrev μ-loop : tie.MeasureT-loop
-μ-loop pool s sum₀ t₀ sum t = 32 - t
+μ-loop pool s sum₀ b₀ sum b = 128 - b
 
 pub sum-of-spec : {M : Type 1} → statement M
 sum-of-spec =
@@ -17,11 +16,13 @@ sum-of-spec =
     Inv-loop
     μ-loop
     (λ c κs. search needs)
-    (λ c. search needs)
-    (λ c κs. search needs)
-    (λ c κs. search needs)
     (λ c κs. search needs)
     (λ c. search needs)
+    (λ c κs. search needs)
+    (λ c. search needs)
+    (λ c. search needs)
+    (λ c. search needs)
+    (λ c κs. search needs)
     (λ c. search needs)
     (λ c. search needs)
     (λ c κs. search needs)

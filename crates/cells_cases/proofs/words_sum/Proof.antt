@@ -1,4 +1,3 @@
--- The loop ends with the words.
 use Prim.Native.Nat.{_≤_, _-_}
 use lib.ListN.{length}
 use borrow.Author.Needs.{needs}

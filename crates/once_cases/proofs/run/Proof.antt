@@ -1,16 +1,20 @@
--- Each part leaves fewer.
-use mathlib.Core.Path.{_≡_}
-use Prim.Native.Nat.{_≤_}
+use lib.Seq.{length-take-le}
+use mathlib.Core.Path.{_≡_, sym}
+use Prim.Native.Nat.{_≤_, _-_}
 use lib.ListN.{length}
 use borrow.Author.Needs.{needs}
+use native.Mathlib.Omega.{arith}
 use Rattle.once_cases.proofs.run.Statement.{statement}
 use Rattle.once_cases.proofs.run.Tie as tie
 
 abbrev Inv-loop : tie.InvT-loop
-Inv-loop fd name buf₀ p₀ held₀ parts₀ buf p held parts = (held ≤ 4096) × (4096 ≡ length buf)
+Inv-loop fd name buf₀ line₀ p₀ held₀ parts₀ buf line p held parts = (held ≤ length line) × ((64 ≡ length line) × (4096 ≡ length buf))
 
 abbrev μ-loop : tie.MeasureT-loop
-μ-loop fd name buf₀ p₀ held₀ parts₀ buf p held parts = parts
+μ-loop fd name buf₀ line₀ p₀ held₀ parts₀ buf line p held parts = parts
+
+slice-aggregate-end-input : tie.Need-slice-aggregate-end-input Inv-loop μ-loop
+slice-aggregate-end-input c = sym (length-take-le _ _ (omega arith))
 
 pub run-spec : {M : Type 1} → statement M
 run-spec =
@@ -22,6 +26,14 @@ run-spec =
     (λ c κs. search needs)
     (λ c. search needs)
     (λ c. search needs)
+    (λ c κs. search needs)
+    (λ c. search needs)
+    (λ c. search needs)
+    (λ c. search needs)
+    (λ c κs. search needs)
+    (λ c. search needs)
+    (λ c. search needs)
+    slice-aggregate-end-input
     (λ c κs. search needs)
     (λ c. search needs)
     (λ c. search needs)
