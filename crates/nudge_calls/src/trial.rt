@@ -47,18 +47,18 @@ fn follow(
     kept: &[u32],
     i: usize,
     task: u32,
-    begun: usize,
+    at: usize,
     call: Call,
 ) -> bool
     requires { ⌜ Reached (s .tasks) (s .cells) (stateWith s (now records)) (now pool) ⌝ }
     requires { ⌜ (length (now records) ≡ 384) × (length (now kept) ≤ 2000) × (i + 1 < length (now kept)) ⌝ }
     requires { ⌜ Named (length (now forms)) (now kept) ⌝ }
-    ensures { λ r. ⌜ r ≡ answersStill (answerOf (call .answer)) (answerOfCall (movedTo i (call .begun)) (calls task begun i (history «machine» (stateWith s (now (records .entry)), now (pool .entry)) (drop i (exchanged i (map (actAt (now (forms .entry))) (now (kept .entry)))))))) ⌝ }
+    ensures { λ r. ⌜ r ≡ answersStill (answerOf (call .answer)) (answerOfCall (movedTo i (call .at)) (calls task at i (history «machine» (stateWith s (now (records .entry)), now (pool .entry)) (drop i (exchanged i (map (actAt (now (forms .entry))) (now (kept .entry)))))))) ⌝ }
 {
-    let target = moved_to(i, call.begun);
+    let target = moved_to(i, call.at);
     let answer = call.answer;
     let mut j = i;
-    let mut k = begun;
+    let mut k = at;
     let mut last = s.last;
     let mut current = s.current;
     let mut counts = s.counts;
@@ -102,13 +102,13 @@ pub fn try_exchange(
     kept: &[u32],
     i: usize,
     task: u32,
-    begun: usize,
+    at: usize,
     call: Call,
 ) -> bool
     requires { ⌜ Reached (s .tasks) (s .cells) (stateWith s (now records)) (now pool) ⌝ }
     requires { ⌜ (length (now records) ≡ 384) × (length (now kept) ≤ 2000) × (i + 1 < length (now kept)) ⌝ }
     requires { ⌜ Named (length (now forms)) (now kept) ⌝ }
-    ensures { λ r. ⌜ r ≡ tried (stateWith s (now (records .entry)), now (pool .entry)) (map (actAt (now (forms .entry))) (now (kept .entry))) task begun (call .begun) (answerOf (call .answer)) i ⌝ }
+    ensures { λ r. ⌜ r ≡ tried (stateWith s (now (records .entry)), now (pool .entry)) (map (actAt (now (forms .entry))) (now (kept .entry))) task at (call .at) (answerOf (call .answer)) i ⌝ }
 {
     let a = action_at(forms, kept[i]);
     let b = action_at(forms, kept[i + 1]);
@@ -127,7 +127,7 @@ pub fn try_exchange(
         kept,
         i,
         task,
-        begun,
+        at,
         call,
     )
 }

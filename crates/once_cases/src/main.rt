@@ -123,7 +123,7 @@ fn read_line(s: &[u8], at: usize) -> Line
 struct Standing {
     state: OnceState,
     // Whether there was an open, and whether the last one acted.
-    begun: bool,
+    open_seen: bool,
     open: bool,
     // Whether to go on: no line was bad, all was printed, and the input has not ended.
     goes: bool,
@@ -156,7 +156,7 @@ fn blank() -> Standing {
     };
     Standing {
         state,
-        begun: false,
+        open_seen: false,
         open: false,
         goes: true,
         action: 0,
@@ -178,7 +178,7 @@ fn open(p: Standing, tasks: u32, cells: u32) -> Standing {
     let progress = r.progress;
     Standing {
         state,
-        begun: true,
+        open_seen: true,
         open: !is_refused(progress),
         goes: print_progress(0, 0, progress),
         action: 0,
@@ -190,7 +190,7 @@ fn moved(p: Standing, task: u32, r: OnceReply) -> Standing {
     let progress = r.progress;
     Standing {
         state,
-        begun: true,
+        open_seen: true,
         open: true,
         goes: print_progress(p.action, task, progress),
         action: wrapping_add_u32(p.action, 1),
@@ -208,7 +208,7 @@ fn play(p: Standing, l: Line) -> Standing {
     if l.form == OPEN {
         return open(p, n[0], n[1]);
     }
-    if (l.form == BAD) | !p.begun {
+    if (l.form == BAD) | !p.open_seen {
         print(b"(bad 14)\n");
         return halted(p);
     }
