@@ -10,8 +10,8 @@ use nudge_moves::moved_to;
 use nudge_moves::same_answer;
 ghost use mathlib.Core.Path.{_≡_};
 ghost use mathlib.Core.List.{map};
-ghost use Prim.Native.Nat.{_+_, _≤_, _<_};
-ghost use lib.ListN.{length, take, drop};
+ghost use Prim.Native.Nat.{_+_, _-_, _≤_, _<_};
+ghost use lib.ListN.{length, take, drop, replicate};
 ghost use Rattle.cells.specs.Machine.{pool as «machine»};
 ghost use Rattle.history.specs.History.{history};
 ghost use Rattle.lines.specs.Answers.{answerOf};
@@ -23,10 +23,10 @@ ghost use Rattle.session_reading.specs.Reading.{actAt};
 ghost use Rattle.nudge_calls.specs.Calls.{calls, answerOfCall};
 ghost use Rattle.nudge_calls.specs.Exchange.{stateWith, tried};
 
-// The words, at the start of a buffer of their own.
+// The words, at the start of a buffer of their own, and zeros behind them.
 pub fn copied(from: &[u32]) -> [u32; 640]
     requires { ⌜ length (now from) ≤ 640 ⌝ }
-    ensures { λ r. ⌜ (take (length (now (from .entry))) r ≡ now (from .entry)) × (640 ≡ length r) ⌝ }
+    ensures { λ r. ⌜ (take (length (now (from .entry))) r ≡ now (from .entry)) × (640 ≡ length r) × (drop (length (now (from .entry))) r ≡ replicate (640 - length (now (from .entry))) 0) ⌝ }
 {
     let mut to = [0; 640];
     let mut i = 0;
