@@ -1,4 +1,5 @@
-// A session's actions in their order, and the lines of their calls' bus times.
-pub mod play;
-pub mod printing;
-pub mod start;
+// A session's actions in their order, and the lines of their calls' bus times; before them the file read and the cells opened.
+pub mod opened;
+mod play;
+mod printing;
+mod start;

@@ -9,7 +9,7 @@ use moments_words::enter;
 use questions::State;
 ghost use mathlib.Core.Path.{_≡_};
 ghost use Prim.Native.Nat.{ℕ, _+_, _≤_, _<_};
-ghost use lib.ListN.{length, take};
+ghost use lib.ListN.{length, take, drop};
 ghost use Rattle.lines.specs.Record.{recordAt, opOf};
 ghost use Rattle.moments_notes.specs.Words.{SortedWords};
 ghost use Rattle.moments_notes.specs.Notes.{notesOf};
@@ -21,6 +21,8 @@ fn enter_standing(list: &mut [u32], n: usize, q: Standing, r: Record, t: u32) ->
     ensures { λ m. ⌜ m ≤ n + 1 ⌝ }
     ensures { λ m. ⌜ take m (now (list .exit)) ≡ standingWords q (opOf r) t (take n (now (list .entry))) ⌝ }
     ensures { λ _. ⌜ MomentFits q ⌝ }
+    ensures { λ m. ⌜ drop m (now (list .exit)) ≡ drop m (now (list .entry)) ⌝ }
+    ensures { λ m. ⌜ n ≤ m ⌝ }
 {
     match q {
         Standing::Nowhere => n,
@@ -31,7 +33,7 @@ fn enter_standing(list: &mut [u32], n: usize, q: Standing, r: Record, t: u32) ->
     }
 }
 
-// The words of the pending swaps that took effect.
+// The words of the pending swaps that took effect. The words behind those in use are as they were.
 pub fn close(
     list: &mut [u32],
     n: usize,
@@ -50,6 +52,7 @@ pub fn close(
     ensures { λ m. ⌜ m ≤ n + 32 ⌝ }
     ensures { λ m. ⌜ take m (now (list .exit)) ≡ closing (s, now (pool .entry)) (notesOf 0 (now (loaded .entry)) (now (stored .entry)) (now (active .entry)) (now (inactive .entry)) (now (decided .entry)) (now (replaced .entry))) tasks (take n (now (list .entry))) ⌝ }
     ensures { λ _. ⌜ Closing (s, now (pool .entry)) (notesOf 0 (now (loaded .entry)) (now (stored .entry)) (now (active .entry)) (now (inactive .entry)) (now (decided .entry)) (now (replaced .entry))) tasks ⌝ }
+    ensures { λ m. ⌜ drop m (now (list .exit)) ≡ drop m (now (list .entry)) ⌝ }
 {
     let mut t = 0;
     let mut m = n;

@@ -1,7 +1,7 @@
 -- Notes in lists: one task's, and those of every task for which a test passes.
 use mathlib.Core.Path.{_≡_, refl, sym, ap, _∙_}
 use mathlib.Core.Logic.{_≢_, _⊎_, inl, inr}
-use mathlib.Core.Bool.{Bool, true, false, _&&_, _||_, cond}
+use mathlib.Core.Bool.{Bool, true, false, true≢false, not, _&&_, _||_, cond}
 use mathlib.Core.List.{List}
 use Prim.Native.Nat.{ℕ, zero, suc, _+_, _≤_, _<_}
 use native.Mathlib.Omega.{arith}
@@ -31,6 +31,10 @@ own-noted l t v h on e u = rw e (go (either u t))
 
 pub none-noted : (on test : Bool) (v o : ℕ) → on ≡ false → o ≡ cond (on && test) v o
 none-noted on test v o e = rw e
+
+pub asked-noted : (on test : Bool) (v o : ℕ) → not on ≡ false → cond test v o ≡ cond (on && test) v o
+asked-noted true test v o e = refl
+asked-noted false test v o e = absurd (true≢false e)
 
 -- THOSE OF EVERY TASK BELOW k FOR WHICH A TEST PASSES
 

@@ -61,11 +61,12 @@ pub fn see_cell(pool: &[u32], r: Record, current: &[u32; 16], cells: u32) -> Sig
     see(pool, r, current[k])
 }
 
-// Has 1 for each task that holds the block of the record r, where that is asked.
+// Has 1 for each task that holds the block of the record r, where that is asked, and else 0.
 pub fn holders(records: &[u32], r: Record, asked: bool) -> [u16; 32]
     requires { ⌜ length (now records) ≡ 384 ⌝ }
     ensures { λ w. ⌜ (asked ≡ true → (u : ℕ) → u < 32 → eqb (getD w u 0) 1 ≡ holdsWith (recordAt (recordsOf 32 (now (records .entry))) u) r) ⌝ }
     ensures { λ w. ⌜ length w ≡ 32 ⌝ }
+    ensures { λ w. ⌜ ((u : ℕ) → u < 32 → getD w u 0 ≡ cond (asked && holdsWith (recordAt (recordsOf 32 (now (records .entry))) u) r) 1 0) ⌝ }
 {
     let mut w = [0; 32];
     if !asked {
@@ -111,6 +112,7 @@ fn note_held(notes: &mut [u16; 32], on: bool, who: &[u16; 32], v: u16)
 
 fn flag(b: bool) -> u16
     ensures { λ r. ⌜ eqb r 1 ≡ b ⌝ }
+    ensures { λ r. ⌜ r ≡ cond b 1 0 ⌝ }
 {
     if b { 1 } else { 0 }
 }
@@ -133,6 +135,7 @@ pub fn note(
     requires { ⌜ Sized (now loaded) (now stored) (now active) (now inactive) (now decided) (now replaced) ⌝ }
     ensures { λ _. ⌜ Sized (now (loaded .exit)) (now (stored .exit)) (now (active .exit)) (now (inactive .exit)) (now (decided .exit)) (now (replaced .exit)) ⌝ }
     ensures { λ _. ⌜ notesOf (i + 1) (now (loaded .exit)) (now (stored .exit)) (now (active .exit)) (now (inactive .exit)) (now (decided .exit)) (now (replaced .exit)) ≡ noted (notesOf i (now (loaded .entry)) (now (stored .entry)) (now (active .entry)) (now (inactive .entry)) (now (decided .entry)) (now (replaced .entry))) t (sightOf line idle x (now (who .entry))) ⌝ }
+    ensures { λ _. ⌜ ((u : ℕ) → getD (now (active .exit)) u 0 ≡ cond (eqb line 23 && eqb u t) (cond (x .active) 1 0) (getD (now (active .entry)) u 0)) ⌝ }
 {
     note_own(loaded, (line == 11) | (line == 20), t, i);
     note_own(stored, line == 23, t, i);

@@ -1,5 +1,7 @@
-// The actions in their order, the words of the calls that they end, and those of the pending swaps after the last.
+// The actions in their order, the words of the calls that they end, and those of the pending swaps after the last; before them the file
+// read and the cells opened.
 mod ended;
+pub mod opened;
 
 use crate::ended::end_call;
 use buffers::record_space;
@@ -122,7 +124,7 @@ fn list_marks(
     )
 }
 
-pub fn play(
+fn play(
     out: &mut [u8],
     tasks: u32,
     cells: u32,

@@ -1,54 +1,10 @@
 // Prints when each call of a session file took effect.
-use buffers::action_space;
-use buffers::form_space;
-use buffers::pool_space;
-use buffers::value_space;
-use moments_play::play;
-use numbered::put_bad;
-use questions::State;
-use session_start::open_session;
-use starts::Opening;
+use moments_play::opened::print_file;
 ghost use mathlib.Core.Path.{_≡_};
 ghost use mathlib.Core.List.{_++_};
-ghost use Prim.Native.Nat.{_≤_};
 ghost use lib.ListN.{length, drop};
 ghost use Rattle.io.specs.Counts.{Counts};
-ghost use Rattle.text.specs.Append.{Appended};
-ghost use Rattle.starts.specs.Start.{startAt, toolStart, Ready};
-ghost use Rattle.moments_text.specs.Printed.{momentsText, momentsWithin};
-
-// What follows from the opening. What is left in the pool is open: it is the session's own.
-fn print(
-    out: &mut [u8],
-    first: State,
-    opening: Opening,
-    pool: &mut [u32],
-    forms: &[u32],
-    kept: &[u32],
-) -> usize
-    requires { ⌜ Ready opening first (now forms) (now kept) (now pool) ⌝ }
-    requires { ⌜ 2400000 ≤ length (now out) ⌝ }
-    ensures { λ r. ⌜ Appended (now (out .entry)) (now (out .exit)) 0 r (toolStart momentsText (startAt opening first (now (forms .entry)) (now (kept .entry)) (now (pool .entry)))) ⌝ }
-{
-    match opening {
-        Opening::NoSession(n) => put_bad(out, 0, n),
-        Opening::NotOpened(n) => put_bad(out, 0, n),
-        Opening::Open {
-            tasks,
-            cells,
-            words,
-            actions,
-        } => play(
-            out,
-            tasks,
-            cells,
-            first,
-            &mut pool[..words],
-            forms,
-            &kept[..actions],
-        ),
-    }
-}
+ghost use Rattle.moments_text.specs.Printed.{momentsWithin};
 
 // Prints the moments of a session file at the start of out, and returns the text's length; nothing where out has fewer than
 // 2,400,000 bytes. The bytes after the text are as they were.
@@ -60,11 +16,5 @@ pub fn run_moments(file: &[u8], out: &mut [u8]) -> usize
     if out.len() < 2400000 {
         return 0;
     }
-    let mut values = value_space();
-    let mut forms = form_space();
-    let mut kept = action_space();
-    let mut pool = pool_space();
-    let begun = open_session(file, &mut values, &mut forms, &mut kept, &mut pool);
-    let opening = begun.opening;
-    print(out, begun.state, opening, &mut pool, &forms, &kept)
+    print_file(file, out)
 }

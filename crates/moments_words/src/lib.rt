@@ -2,7 +2,7 @@
 ghost use mathlib.Core.Path.{_≡_};
 ghost use mathlib.Core.Bool.{cond};
 ghost use Prim.Native.Nat.{_+_, _*_, _/_, _%_, _≤_, _<_};
-ghost use lib.ListN.{length, take};
+ghost use lib.ListN.{length, take, drop};
 ghost use Rattle.lines.specs.Answers.{answerOf};
 ghost use Rattle.history.specs.Moments.{changes as «changesOf»};
 ghost use Rattle.lines.specs.Record.{opOf};
@@ -51,13 +51,14 @@ fn word_of(q: Spot, r: Record, a: Answer, t: u32) -> u32
     rank * 256 + (kind * 128 + (r.cell * 8 + q.rule))
 }
 
-// A call's word among the first n.
+// A call's word among the first n. The words behind are as they were.
 pub fn enter(list: &mut [u32], n: usize, q: Spot, r: Record, a: Answer, t: u32)
     requires { ⌜ n < length (now list) ⌝ }
     requires { ⌜ SortedWords (take n (now list)) ⌝ }
     requires { ⌜ (q .side ≤ 2) × (q .rule ≤ 7) × (t < 32) × (r .cell < 16) ⌝ }
     ensures { λ _. ⌜ take (n + 1) (now (list .exit)) ≡ insertWord (wordWith (q .moment) (q .side) (q .rule) (opOf r) t (answerOf a)) (take n (now (list .entry))) ⌝ }
     ensures { λ _. ⌜ q .moment ≤ 65535 ⌝ }
+    ensures { λ _. ⌜ drop (n + 1) (now (list .exit)) ≡ drop (n + 1) (now (list .entry)) ⌝ }
 {
     let w = word_of(q, r, a, t);
     insert(list, n, w);
@@ -68,6 +69,7 @@ fn insert(list: &mut [u32], n: usize, w: u32)
     requires { ⌜ n < length (now list) ⌝ }
     requires { ⌜ SortedWords (take n (now list)) ⌝ }
     ensures { λ _. ⌜ take (n + 1) (now (list .exit)) ≡ insertWord w (take n (now (list .entry))) ⌝ }
+    ensures { λ _. ⌜ drop (n + 1) (now (list .exit)) ≡ drop (n + 1) (now (list .entry)) ⌝ }
 {
     let mut j = n;
     while 0 < j {

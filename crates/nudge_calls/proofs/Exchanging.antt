@@ -248,17 +248,17 @@ module _ (old : State) (words : List ℕ) (tasks cells blocks : ℕ) (values : L
 -- Of newly opened cells; x is the state before action i.
 pub tried-is : {s : State} {p : List ℕ} (F : Fresh s p) (l : List Action) (task : ℕ) (c : Summary) → Finishes (history pool (s, p) l) task c
     → (i : ℕ) → suc i < length l → i ≤ c .last → (x : Pool) → x ≡ run pool (s, p) (take i l) → (k : ℕ) → BegunAt (enterAll noCalls (history pool (s, p) (take i l))) task k
-    → tried x l task k (c .begun) (c .answer) i ≡ nudges (s, p) l (c .begun) (c .answer) i
+    → tried x l task k (c .at) (c .answer) i ≡ nudges (s, p) l (c .at) (c .answer) i
 tried-is {s} {p} F l task c N i two yet x e k K = subst Claim (sym (F .came)) of-start (N .call) (N .finished) (N .its-task) (N .kept) (e) K
   where
     Claim : Pool → Type 0
     Claim y = (f : FinishedCall) → f ∈ callsOf (history pool y l) .finished → f .call .start .task ≡ task → summary f ≡ c → x ≡ run pool y (take i l) → BegunAt (enterAll noCalls (history pool y (take i l))) task k
-        → tried x l task k (c .begun) (c .answer) i ≡ nudges y l (c .begun) (c .answer) i
+        → tried x l task k (c .at) (c .answer) i ≡ nudges y l (c .at) (c .answer) i
 
     of-start : Claim (start (F .old) (F .words) (s .tasks) (s .cells) (F .blocks) (F .values))
     of-start f fin t sc e K =
         let y = start (F .old) (F .words) (s .tasks) (s .cells) (F .blocks) (F .values) in
-        let at : f .call .start .at ≡ c .begun = ap (λ (c : Summary). c .begun) sc in
+        let at : f .call .start .at ≡ c .at = ap (λ (c : Summary). c .at) sc in
         let answer : f .report .answer ≡ c .answer = ap (λ (c : Summary). c .answer) sc in
         let last : f .call .last ≡ c .last = ap (λ (c : Summary). c .last) sc in
         rw (e, ← at, ← answer, ← t) (tried-there (F .old) (F .words) (s .tasks) (s .cells) (F .blocks) (F .values) (F .allowed) l i two f fin (omega (arith, yet, last)) k (subst (λ u. BegunAt (enterAll noCalls (history pool y (take i l))) u k) (sym t) K))

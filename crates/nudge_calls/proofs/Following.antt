@@ -119,7 +119,7 @@ begun-next b t k a e K j h = go (either (taskOf a) t)
 data Entry (b : Calls) (t k : ℕ) (b′ : Calls) : Note → Type 0 where
   goes : {j : ℕ} → b′ .finished ≡ b .finished → Entry b t k b′ (pending j)
   other : {j : ℕ} (f : FinishedCall) → f .call .start .task ≢ t → begins b (f .call .start .task) ≡ some (f .call .start .at) → b′ .finished ≡ f ∷ b .finished → Entry b t k b′ (pending j)
-  ends : (f : FinishedCall) → f .call .start .task ≡ t → summary f ≡ record { begun = k; last = b .now; answer = f .report .answer } → b′ .finished ≡ f ∷ b .finished → Entry b t k b′ (ended (f .report .answer))
+  ends : (f : FinishedCall) → f .call .start .task ≡ t → summary f ≡ record { at = k; last = b .now; answer = f .report .answer } → b′ .finished ≡ f ∷ b .finished → Entry b t k b′ (ended (f .report .answer))
 
 module _ {who : ℕ → ℕ} (size : ℕ) (b : Calls) (t k : ℕ) (W : Whose who b) (K : BegunAt b t k) where
   own-entry : (a : Action) (e : Event) → Allowed size b a e → taskOf a ≡ t → Entry b t k (enter b a e) (ownNote k (b .now) a e)
@@ -133,7 +133,7 @@ module _ {who : ℕ → ℕ} (size : ℕ) (b : Calls) (t k : ℕ) (W : Whose who
       go none p l = absurd l
       go (some c) p l =
           let z : c .start .at ≡ k = K (c .start .at) (ap (begins b) (sym q) ∙ ap beginOf p) in
-          ends _ (W .of-pending u c p .0 ∙ q) (ap (λ (m : ℕ). record { begun = m; last = b .now; answer = r .answer }) z) refl
+          ends _ (W .of-pending u c p .0 ∙ q) (ap (λ (m : ℕ). record { at = m; last = b .now; answer = r .answer }) z) refl
 
   other-entry : (a : Action) (e : Event) → taskOf a ≢ t → Entry b t k (enter b a e) (pending k)
   other-entry a (refused n) q = goes refl
@@ -237,7 +237,7 @@ module _ {who : ℕ → ℕ} {size : ℕ} (t m : ℕ) (its : who m ≡ t) where
       go (ended r) (ends f q s w) again K′ = by (either k m)
         where
           here : answers b′ m ≡ cond (eqb k m) (some (f .report .answer)) (answers b m)
-          here = ap (answerIn m) w ∙ ap (λ (c : Summary). cond (eqb (c .begun) m) (some (f .report .answer)) (answers b m)) s
+          here = ap (answerIn m) w ∙ ap (λ (c : Summary). cond (eqb (c .at) m) (some (f .report .answer)) (answers b m)) s
 
           by : (k ≡ m) ⊎ (k ≢ m) → answers (enterAll b′ h) m ≡ cond (eqb k m) (some (f .report .answer)) (answerOfCall m (calls t k (b .now + 1) h))
           by (inl l) = rw (eq-eqb k m l) (kept-on h b′ (between-next B .early) (between-next B .found) m (f .report .answer) (rw (eq-eqb k m l) at here))

@@ -64,7 +64,7 @@ module _ (t : ℕ) (f : ℕ → Action) (l : List ℕ) (i k : ℕ) (s : State) (
     pub then-pending : {j : ℕ} → n ≡ code.Pending j → here ≡ there s′ p′ j
     then-pending e = listed h ea ed ∙ ap (λ (m : Note). listing m k i (there s′ p′)) (sym en ∙ ap noted e)
 
-    pub then-ended : {r : Answer} → n ≡ code.Ended r → here ≡ record { begun = k; last = i; answer = answerOf r } ∷ there s′ p′ k
+    pub then-ended : {r : Answer} → n ≡ code.Ended r → here ≡ record { at = k; last = i; answer = answerOf r } ∷ there s′ p′ k
     then-ended e = listed h ea ed ∙ ap (λ (m : Note). listing m k i (there s′ p′)) (sym en ∙ ap noted e)
 
     -- the call that it ended is the one begun at m, or another
@@ -121,16 +121,16 @@ module _ (x : Pool) (f : ℕ → Action) (l : List ℕ) (t k m : ℕ) (r : Respo
 
 pub record Before (x₀ : Pool) (l : List Action) (t i : ℕ) (x : Pool) (k : ℕ) : Type 0 where
   pub state : x ≡ run pool x₀ (take i l)
-  pub begun : BegunAt (enterAll noCalls (history pool x₀ (take i l))) t k
+  pub begins-at : BegunAt (enterAll noCalls (history pool x₀ (take i l))) t k
 
 pub before-start : (x₀ : Pool) (l : List Action) (t : ℕ) → Before x₀ l t 0 x₀ 0
-before-start x₀ l t = record { state = refl; begun = λ j e. absurd (clash refl e) }
+before-start x₀ l t = record { state = refl; begins-at = λ j e. absurd (clash refl e) }
 
 pub before-next : {x₀ : Pool} (f : ℕ → Action) (l : List ℕ) (t i k : ℕ) {k′ : ℕ} {s : State} {p : List ℕ} {s′ : State} {p′ : List ℕ} {o : Said} {a : Action} (n : Noted) → i < length l → a ≡ f (getD l i 0) → leaving s′ p′ o ≡ does s p a
     → noted n ≡ noteOf t k i a (eventOf untried o) → k′ ≡ begunAfter (noted n) k → Before x₀ (map f l) t i (s, p) k → Before x₀ (map f l) t (i + 1) (s′, p′) k′
 before-next {x₀} f l t i k {k′} {s} {p} {s′} {p′} {o} {a} n h ea ed en ek B = record {
   state = after-it ∙ (ap (λ (x : Pool). pool x a .0) (B .state) ∙ (sym (run-snoc pool x₀ (take i (map f l)) a) ∙ ap (run pool x₀) (sym more)));
-  begun = subst (λ (b : Calls). BegunAt b t k′) (sym calls-then) (subst (BegunAt (enter b a e) t) (ap (λ (n : Note). begunAfter n k) notes ∙ sym ek) (begun-next b t k a e (B .begun)));
+  begins-at = subst (λ (b : Calls). BegunAt b t k′) (sym calls-then) (subst (BegunAt (enter b a e) t) (ap (λ (n : Note). begunAfter n k) notes ∙ sym ek) (begun-next b t k a e (B .begins-at)));
 }
   where
     b : Calls
@@ -194,10 +194,10 @@ module _ (x : Pool) (l : List Action) where
   none-left m r i k h = earliest-never (nudges x l m r) k i (λ j o. ap (λ (c : Bool). c && not (answersStill r (answerAt (movedTo j m) (history pool x (exchanged j l))))) (alone j l (omega (arith, h, o, add-one i))))
 
   -- none nudges the call after its last step
-  pub none-later : (t : ℕ) (c : Summary) → Finishes (history pool x l) t c → (i k : ℕ) → c .last < i → earliest (nudges x l (c .begun) (c .answer)) i k ≡ none
+  pub none-later : (t : ℕ) (c : Summary) → Finishes (history pool x l) t c → (i k : ℕ) → c .last < i → earliest (nudges x l (c .at) (c .answer)) i k ≡ none
   none-later t c N i k h =
-      earliest-never (nudges x l (c .begun) (c .answer)) k i (λ j o.
-      subst (λ (c : Summary). c .last < j → nudges x l (c .begun) (c .answer) j ≡ false) (N .kept) (later-no-nudge x l (N .call) (N .finished) j) (omega (arith, h, o)))
+      earliest-never (nudges x l (c .at) (c .answer)) k i (λ j o.
+      subst (λ (c : Summary). c .last < j → nudges x l (c .at) (c .answer) j ≡ false) (N .kept) (later-no-nudge x l (N .call) (N .finished) j) (omega (arith, h, o)))
 
 -- what the followed call answers, in the words of the promise: the actions exchanged, or their forms
 pub followed-to : (r : Response) (f : ℕ → Action) (l : List ℕ) (i t k : ℕ) (x : Pool) (b : ℕ) {m : ℕ} {o : Option Response} → m ≡ movedTo i b → o ≡ answerOfCall m (calls t k i (history pool x (drop i (map f (exchanged i l)))))

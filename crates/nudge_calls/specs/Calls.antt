@@ -16,16 +16,16 @@ use Rattle.nudge_calls.specs.declared.calls.Sought.the-variants as sough
 
 -- what is kept of a finished call: the numbers of its begin and of its last step, and its answer
 pub record Summary : Type 0 where
-  pub begun : ℕ
+  pub at : ℕ
   pub last : ℕ
   pub answer : Response
 
 abbrev pub summary : FinishedCall → Summary
-summary f = record { begun = f .call .start .at; last = f .call .last; answer = f .report .answer }
+summary f = record { at = f .call .start .at; last = f .call .last; answer = f .report .answer }
 
 -- what an action leaves of the task's call: the number of the begin, or the answer of the call that it ended
 pub data Note : Type 0 where
-  pending : (begun : ℕ) → Note
+  pending : (at : ℕ) → Note
   ended : Response → Note
 
 -- action i, of the task itself; its call was begun at k, if it has one
@@ -48,7 +48,7 @@ begunAfter (ended r) k = k
 -- the task's finished calls in their order, from action i on
 abbrev pub listing : Note → (k i : ℕ) → ((k : ℕ) → List Summary) → List Summary
 listing (pending j) k i later = later j
-listing (ended r) k i later = record { begun = k; last = i; answer = r } ∷ later k
+listing (ended r) k i later = record { at = k; last = i; answer = r } ∷ later k
 
 abbrev pub calls : (task k i : ℕ) → List (Action × Event) → List Summary
 calls t k i [] = []
@@ -57,7 +57,7 @@ calls t k i (x ∷ h) = listing (noteOf t k i (x .0) (x .1)) k i (λ k. calls t 
 -- what the one begun at m answers
 abbrev pub answerOfCall : (m : ℕ) → List Summary → Option Response
 answerOfCall m [] = none
-answerOfCall m (c ∷ l) = cond (eqb (c .begun) m) (some (c .answer)) (answerOfCall m l)
+answerOfCall m (c ∷ l) = cond (eqb (c .at) m) (some (c .answer)) (answerOfCall m l)
 
 -- a finished call of the task
 pub record Finishes (h : List (Action × Event)) (task : ℕ) (c : Summary) : Type 0 where
@@ -73,7 +73,7 @@ noted (code.Pending k) = pending k
 noted (code.Ended a) = ended (answerOf a)
 
 abbrev pub summaryOf : Call → Summary
-summaryOf c = record { begun = c .begun; last = c .last; answer = answerOf (c .answer) }
+summaryOf c = record { at = c .at; last = c .last; answer = answerOf (c .answer) }
 
 abbrev pub soughtOf : Sought → Option Summary
 soughtOf sought.Nowhere = none

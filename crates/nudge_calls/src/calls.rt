@@ -55,7 +55,7 @@ pub enum Noted {
 
 // The numbers of its begin and of its last step, and its answer.
 pub struct Call {
-    pub begun: usize,
+    pub at: usize,
     pub last: usize,
     pub answer: Answer,
 }
@@ -71,25 +71,25 @@ pub enum Nudge {
     At(usize),
 }
 
-fn begun_by(a: Action, begun: usize, i: usize) -> usize
-    ensures { λ r. ⌜ r ≡ begunBy (actOf a) begun i ⌝ }
+fn begun_by(a: Action, at: usize, i: usize) -> usize
+    ensures { λ r. ⌜ r ≡ begunBy (actOf a) at i ⌝ }
 {
     match a {
         Action::Read(_, _) => i,
         Action::Swap(_, _, _, _) => i,
-        Action::Step(_) => begun,
+        Action::Step(_) => at,
     }
 }
 
-pub fn note(task: u32, a: Action, outcome: Outcome, begun: usize, i: usize) -> Noted
-    ensures { λ r. ⌜ «notedOf» r ≡ noteOf task begun i (actOf a) (eventOf untried (said outcome)) ⌝ }
+pub fn note(task: u32, a: Action, outcome: Outcome, at: usize, i: usize) -> Noted
+    ensures { λ r. ⌜ «notedOf» r ≡ noteOf task at i (actOf a) (eventOf untried (said outcome)) ⌝ }
 {
     if task_of(a) != task {
-        return Noted::Pending(begun);
+        return Noted::Pending(at);
     }
     match outcome {
-        Outcome::Refused(_) => Noted::Pending(begun),
-        Outcome::Acted => Noted::Pending(begun_by(a, begun, i)),
+        Outcome::Refused(_) => Noted::Pending(at),
+        Outcome::Acted => Noted::Pending(begun_by(a, at, i)),
         Outcome::Ended(f) => {
             let answer = f.answer;
             Noted::Ended(answer)
@@ -97,12 +97,12 @@ pub fn note(task: u32, a: Action, outcome: Outcome, begun: usize, i: usize) -> N
     }
 }
 
-pub fn begun_after(noted: Noted, begun: usize) -> usize
-    ensures { λ r. ⌜ r ≡ begunAfter («notedOf» noted) begun ⌝ }
+pub fn begun_after(noted: Noted, at: usize) -> usize
+    ensures { λ r. ⌜ r ≡ begunAfter («notedOf» noted) at ⌝ }
 {
     match noted {
         Noted::Pending(k) => k,
-        Noted::Ended(_) => begun,
+        Noted::Ended(_) => at,
     }
 }
 
@@ -123,7 +123,7 @@ pub fn find_call(
 {
     let mut i = 0;
     let mut left = n;
-    let mut begun = 0;
+    let mut at = 0;
     let mut last = s.last;
     let mut current = s.current;
     let mut counts = s.counts;
@@ -142,15 +142,15 @@ pub fn find_call(
         );
         last = done.last;
         let outcome = done.outcome;
-        let noted = note(task, a, outcome, begun, i);
+        let noted = note(task, a, outcome, at, i);
         match noted {
             Noted::Pending(k) => {
-                begun = k;
+                at = k;
             }
             Noted::Ended(answer) => {
                 if left == 0 {
                     let call = Call {
-                        begun,
+                        at,
                         last: i,
                         answer,
                     };

@@ -10,8 +10,8 @@ use nudge_moves::moved_to;
 use nudge_moves::same_answer;
 ghost use mathlib.Core.Path.{_≡_};
 ghost use mathlib.Core.List.{map};
-ghost use Prim.Native.Nat.{_+_, _≤_, _<_};
-ghost use lib.ListN.{length, take, drop};
+ghost use Prim.Native.Nat.{_+_, _-_, _≤_, _<_};
+ghost use lib.ListN.{length, take, drop, replicate};
 ghost use Rattle.cells.specs.Machine.{pool as «machine»};
 ghost use Rattle.history.specs.History.{history};
 ghost use Rattle.lines.specs.Answers.{answerOf};
@@ -23,10 +23,10 @@ ghost use Rattle.session_reading.specs.Reading.{actAt};
 ghost use Rattle.nudge_calls.specs.Calls.{calls, answerOfCall};
 ghost use Rattle.nudge_calls.specs.Exchange.{stateWith, tried};
 
-// The words, at the start of a buffer of their own.
+// The words, at the start of a buffer of their own, and zeros behind them.
 pub fn copied(from: &[u32]) -> [u32; 640]
     requires { ⌜ length (now from) ≤ 640 ⌝ }
-    ensures { λ r. ⌜ (take (length (now (from .entry))) r ≡ now (from .entry)) × (640 ≡ length r) ⌝ }
+    ensures { λ r. ⌜ (take (length (now (from .entry))) r ≡ now (from .entry)) × (640 ≡ length r) × (drop (length (now (from .entry))) r ≡ replicate (640 - length (now (from .entry))) 0) ⌝ }
 {
     let mut to = [0; 640];
     let mut i = 0;
@@ -47,18 +47,18 @@ fn follow(
     kept: &[u32],
     i: usize,
     task: u32,
-    begun: usize,
+    at: usize,
     call: Call,
 ) -> bool
     requires { ⌜ Reached (s .tasks) (s .cells) (stateWith s (now records)) (now pool) ⌝ }
     requires { ⌜ (length (now records) ≡ 384) × (length (now kept) ≤ 2000) × (i + 1 < length (now kept)) ⌝ }
     requires { ⌜ Named (length (now forms)) (now kept) ⌝ }
-    ensures { λ r. ⌜ r ≡ answersStill (answerOf (call .answer)) (answerOfCall (movedTo i (call .begun)) (calls task begun i (history «machine» (stateWith s (now (records .entry)), now (pool .entry)) (drop i (exchanged i (map (actAt (now (forms .entry))) (now (kept .entry)))))))) ⌝ }
+    ensures { λ r. ⌜ r ≡ answersStill (answerOf (call .answer)) (answerOfCall (movedTo i (call .at)) (calls task at i (history «machine» (stateWith s (now (records .entry)), now (pool .entry)) (drop i (exchanged i (map (actAt (now (forms .entry))) (now (kept .entry)))))))) ⌝ }
 {
-    let target = moved_to(i, call.begun);
+    let target = moved_to(i, call.at);
     let answer = call.answer;
     let mut j = i;
-    let mut k = begun;
+    let mut k = at;
     let mut last = s.last;
     let mut current = s.current;
     let mut counts = s.counts;
@@ -102,13 +102,13 @@ pub fn try_exchange(
     kept: &[u32],
     i: usize,
     task: u32,
-    begun: usize,
+    at: usize,
     call: Call,
 ) -> bool
     requires { ⌜ Reached (s .tasks) (s .cells) (stateWith s (now records)) (now pool) ⌝ }
     requires { ⌜ (length (now records) ≡ 384) × (length (now kept) ≤ 2000) × (i + 1 < length (now kept)) ⌝ }
     requires { ⌜ Named (length (now forms)) (now kept) ⌝ }
-    ensures { λ r. ⌜ r ≡ tried (stateWith s (now (records .entry)), now (pool .entry)) (map (actAt (now (forms .entry))) (now (kept .entry))) task begun (call .begun) (answerOf (call .answer)) i ⌝ }
+    ensures { λ r. ⌜ r ≡ tried (stateWith s (now (records .entry)), now (pool .entry)) (map (actAt (now (forms .entry))) (now (kept .entry))) task at (call .at) (answerOf (call .answer)) i ⌝ }
 {
     let a = action_at(forms, kept[i]);
     let b = action_at(forms, kept[i + 1]);
@@ -127,7 +127,7 @@ pub fn try_exchange(
         kept,
         i,
         task,
-        begun,
+        at,
         call,
     )
 }

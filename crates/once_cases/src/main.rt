@@ -113,7 +113,7 @@ fn read_line(s: &[u8]) -> Line {
 struct Standing {
     state: OnceState,
     // Whether there was an open, and whether the last one acted.
-    begun: bool,
+    open_seen: bool,
     open: bool,
     // Whether to go on: no line was bad, and all was printed.
     goes: bool,
@@ -146,7 +146,7 @@ fn blank() -> Standing {
     };
     Standing {
         state,
-        begun: false,
+        open_seen: false,
         open: false,
         goes: true,
         action: 0,
@@ -171,7 +171,7 @@ fn moved(r: OnceReply, was_open: bool, action: u32, task: u32, next: u32) -> Sta
     }
     Standing {
         state,
-        begun: true,
+        open_seen: true,
         open,
         goes,
         action: next,
@@ -185,7 +185,7 @@ fn play(p: Standing, l: Line) -> Standing {
     if l.form == OPEN {
         return moved(once::open(p.state, l.first, l.second), false, 0, 0, 0);
     }
-    if (l.form == BAD) | !p.begun {
+    if (l.form == BAD) | !p.open_seen {
         let mut q = p;
         end(b"(bad 14)\n");
         q.goes = false;

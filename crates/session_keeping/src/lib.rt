@@ -1,8 +1,11 @@
 // One form kept, and the action that it makes.
 use session_reading::Got;
+ghost use mathlib.Core.Path.{_≡_};
+ghost use mathlib.Core.Bool.{cond};
 ghost use mathlib.Core.List.{[], _∷_};
 ghost use Prim.Native.Nat.{_+_, _*_, _≤_, _<_};
-ghost use lib.ListN.{length};
+ghost use lib.Dec.{leb};
+ghost use lib.ListN.{length, getD, set};
 ghost use Rattle.session_reading.specs.Reading.{acted};
 ghost use Rattle.session_reading.specs.Answers.{KeptIs};
 
@@ -21,6 +24,7 @@ pub fn keep(
     requires { ⌜ n ≤ length (now actions) ⌝ }
     requires { ⌜ 4 ≤ length (now numbers) ⌝ }
     ensures { λ r. ⌜ KeptIs (now (forms .entry)) (now (forms .exit)) (now (actions .entry)) (now (actions .exit)) f n next (f + 1) 1 (acted kind (now (numbers .entry)) ∷ []) r ⌝ }
+    ensures { λ _. ⌜ now (forms .exit) ≡ cond (leb (length (now (actions .entry))) n) (now (forms .entry)) (set (set (set (set (set (now (forms .entry)) (5 * f) kind) (5 * f + 1) (getD (now (numbers .entry)) 0 0)) (5 * f + 2) (getD (now (numbers .entry)) 1 0)) (5 * f + 3) (getD (now (numbers .entry)) 2 0)) (5 * f + 4) (getD (now (numbers .entry)) 3 0)) ⌝ }
 {
     if actions.len() <= n {
         return Got::At(next, true, f, n);

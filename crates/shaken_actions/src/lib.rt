@@ -6,6 +6,7 @@ ghost use mathlib.Core.List.{map};
 ghost use Prim.Native.Nat.{_+_, _≤_, _<_};
 ghost use lib.ListN.{length};
 ghost use Rattle.text.specs.Append.{Appended};
+ghost use Rattle.history.specs.History.{run};
 ghost use Rattle.cells.specs.Machine.{pool as «machine»};
 ghost use Rattle.session_file.specs.Session.{act as «actForm»};
 ghost use Rattle.session_file.specs.Written.{formLine, formLines};
@@ -50,7 +51,7 @@ fn act(s: State, pool: &mut [u32], a: Action) -> State
     }
 }
 
-// As many actions as are asked for. What is left in the pool is open: it is the session's own.
+// As many actions as are asked for, done and printed.
 pub fn put_actions(
     out: &mut [u8],
     from: usize,
@@ -64,6 +65,7 @@ pub fn put_actions(
     requires { ⌜ (0 < tasks) × (tasks ≤ 32) × (0 < cells) × (cells ≤ 16) × (count ≤ 3000) × (from ≤ 100) ⌝ }
     requires { ⌜ 65536 ≤ length (now out) ⌝ }
     ensures { λ r. ⌜ Appended (now (out .entry)) (now (out .exit)) from r (formLines (map «actForm» (drawnActions tasks cells count seed (first, now (pool .entry))))) ⌝ }
+    ensures { λ _. ⌜ now (pool .exit) ≡ run «machine» (first, now (pool .entry)) (drawnActions tasks cells count seed (first, now (pool .entry))) .1 ⌝ }
 {
     let mut i = 0;
     let mut at = from;

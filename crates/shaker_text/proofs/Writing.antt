@@ -12,7 +12,7 @@ use Rattle.text.specs.Lines.{line}
 use Rattle.text.specs.Append.{Appended}
 use Rattle.text.proofs.Decimal.{decimal-short}
 use Rattle.text.proofs.Spaced.{decimal-32, numbers-length, none-length, line-length}
-use Rattle.history.specs.History.{read, swap, Action, begin, step}
+use Rattle.history.specs.History.{read, swap, Action, begin, step, run}
 use Rattle.lines.specs.Record.{isIdle, recordAt}
 use Rattle.questions.specs.declared.State.{State}
 use Rattle.cells.specs.Machine.{Pool, pool}
@@ -103,6 +103,21 @@ module _ (n v k i g : ℕ) (s : State) (p : List ℕ) where
   pub one-line : i < k → {d : Drawn} {x : Pool} → d ≡ drawnAction n v s g → x ≡ pool (s, p) (d .action) .0 → formLines (map act (drawnActions n v (k - i) g (s, p))) ≡ linesFrom d x
   one-line h {d} {x} ed ex =
       first-line h ∙ ap (λ (y : Drawn). linesFrom y (pool (s, p) (y .action) .0)) (sym ed) ∙ ap (linesFrom d) (sym ex)
+
+  -- the state and pool after the last
+  abbrev endFrom : Drawn → Pool → Pool
+  endFrom y x = run pool x (drawnActions n v (k - (i + 1)) (y .generator) x)
+
+  first-done : i < k → run pool (s, p) (drawnActions n v (k - i) g (s, p)) ≡ endFrom (drawnAction n v s g) (pool (s, p) (drawnAction n v s g .action) .0)
+  unfolding drawnActions
+  first-done h = let e : k - i ≡ suc (k - (i + 1)) = omega arith in rw e
+
+  pub one-done : i < k → {d : Drawn} {x : Pool} → d ≡ drawnAction n v s g → x ≡ pool (s, p) (d .action) .0 → run pool (s, p) (drawnActions n v (k - i) g (s, p)) ≡ endFrom d x
+  one-done h {d} {x} ed ex = first-done h ∙ ap (λ (y : Drawn). endFrom y (pool (s, p) (y .action) .0)) (sym ed) ∙ ap (endFrom d) (sym ex)
+
+  pub none-done : k ≤ i → run pool (s, p) (drawnActions n v (k - i) g (s, p)) ≡ (s, p)
+  unfolding drawnActions
+  none-done h = let e : k - i ≡ 0 = omega arith in rw e
 
   pub no-line : k ≤ i → formLines (map act (drawnActions n v (k - i) g (s, p))) ≡ []
   unfolding drawnActions formLines

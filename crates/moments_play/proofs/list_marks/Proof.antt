@@ -85,7 +85,7 @@ cast-note : tie.Need-cast-note Inv-loop μ-loop
 cast-note c = record { fits = omega (arith, c .before .before .before .before .before .before .before .before .before .before .before .before .before .before .before .before .before .before .before .before .before .before .before .before .before .before .before .before .before .before .before .before .before .before .before .before .before .before .before .before .loop-test .taken, c .before .before .before .before .before .before .before .before .before .before .before .before .before .before .before .before .before .before .before .before .before .before .before .before .before .before .before .before .before .before .before .before .before .before .before .before .before .before .before .before .before .before .before .before .before .before .before .before .before .pre .1 .1 .0) }
 
 note-requires : tie.Need-note-requires Inv-loop μ-loop
-note-requires c κs = ((task-below (c .before .before .before .before .before .before .before .before .before .before .before .before .before .before .before .before .before .before .before .before .before .before .before .before .before .before .before .before .before .before .before .before .before .before .before .before .before .before .before .before .before .loop .inv .6) (c .before .before .before .before .before .before .before .before .before .before .before .before .before .before .before .before .before .before .before .before .before .before .before .before .before .before .before .before .before .before .before .before .before .before .before .before .before .task-of .result) (c .before .before .before .before .before .before .before .before .before .before .before .before .before .before .before .before .before .before .before .before .before .before .before .before .before .before .before .before .before .before .before .before .before .before .before .before .slot .ensures), c .before .before .before .before .before .before .before .before .before .before .before .before .before .before .before .before .before .before .before .before .before .before .before .before .before .before .before .before .holders .ensures .1), c .before .before .before .before .before .before .before .before .before .before .before .before .before .before .before .before .before .before .before .before .before .before .before .before .before .before .before .before .before .before .before .before .before .before .before .before .before .before .before .before .before .loop .inv .1)
+note-requires c κs = ((task-below (c .before .before .before .before .before .before .before .before .before .before .before .before .before .before .before .before .before .before .before .before .before .before .before .before .before .before .before .before .before .before .before .before .before .before .before .before .before .before .before .before .before .loop .inv .6) (c .before .before .before .before .before .before .before .before .before .before .before .before .before .before .before .before .before .before .before .before .before .before .before .before .before .before .before .before .before .before .before .before .before .before .before .before .before .task-of .result) (c .before .before .before .before .before .before .before .before .before .before .before .before .before .before .before .before .before .before .before .before .before .before .before .before .before .before .before .before .before .before .before .before .before .before .before .before .slot .ensures), c .before .before .before .before .before .before .before .before .before .before .before .before .before .before .before .before .before .before .before .before .before .before .before .before .before .before .before .before .holders .ensures .1 .0), c .before .before .before .before .before .before .before .before .before .before .before .before .before .before .before .before .before .before .before .before .before .before .before .before .before .before .before .before .before .before .before .before .before .before .before .before .before .before .before .before .before .loop .inv .1)
 
 add-i : tie.Need-add-i Inv-loop μ-loop
 add-i c = record { fits = omega (arith, c .before .before .before .before .before .before .before .before .before .before .before .before .before .before .before .before .before .before .before .before .before .before .before .before .before .before .before .before .before .before .before .before .before .before .before .before .before .before .before .before .before .loop-test .taken, c .before .before .before .before .before .before .before .before .before .before .before .before .before .before .before .before .before .before .before .before .before .before .before .before .before .before .before .before .before .before .before .before .before .before .before .before .before .before .before .before .before .before .before .before .before .before .before .before .before .before .pre .1 .1 .0) }
@@ -108,7 +108,7 @@ loop-again c =
     let f = c .note .ensures in
     let m = subst (Marking a.tasks (allMarks a.tasks (a.first, a.pool.now) (map (actAt a.forms.now) a.kept.now)) (s, l.pool) (notesOf l.i l.loaded l.stored l.active l.inactive l.decided l.replaced) (take l.n l.list)) (action-then (actAt a.forms.now) a.kept.now l.i h ∙ ap (λ (y : Action). y ∷ drop (l.i + 1) (map (actAt a.forms.now) a.kept.now)) (sym (c .before .before .before .before .before .before .before .before .before .before .before .before .before .before .before .before .before .before .before .before .before .before .before .before .before .before .before .before .before .before .before .before .before .before .before .before .before .before .before .action-at .ensures))) (l .inv .0) in (
       marks-on s l.pool (records-length 32 l.records) few l.i l.loaded l.stored l.active l.inactive l.decided l.replaced x t m d (c .before .before .before .before .before .before .before .before .before .before .before .before .before .before .before .before .before .before .before .before .before .before .before .before .before .before .before .before .before .before .before .before .before .before .before .before .before .slot .ensures ∙ ap (λ (n : ℕ). slot n (s .tasks)) (c .before .before .before .before .before .before .before .before .before .before .before .before .before .before .before .before .before .before .before .before .before .before .before .before .before .before .before .before .before .before .before .before .before .before .before .before .before .before .task-of .ensures))
-          (coded s l.pool (records-length 32 l.records) few l.i l.loaded l.stored l.active l.inactive l.decided l.replaced t x (said (c .before .before .before .before .before .before .before .before .before .before .before .before .before .before .before .before .before .before .before .before .before .before .before .before .advance .result .outcome)) (take l.n l.list) _ _ (c .before .before .before .before .before .before .before .before .before .before .before .before .before .before .before .before .before .before .before .before .before .before .before .before .before .before .before .before .before .holders .result) (c .before .before .before .before .before .before .before .before .before .before .before .before .before .before .before .before .before .before .before .before .before .before .before .before .before .before .before .before .before .before .before .before .before .before .before .record-at .ensures) (c .before .before .before .before .before .before .before .before .before .before .before .before .before .before .before .before .before .before .before .before .before .before .before .before .before .before .before .before .before .before .before .before .see-cell .ensures) (c .before .before .before .before .before .before .before .before .before .before .before .before .before .own-notes .ensures) (c .before .before .noted-line .ensures) (c .before .before .before .before .before .before .before .before .before .before .before .before .before .before .before .before .before .before .before .before .before .before .before .before .before .before .before .before .before .before .spreads .ensures) (c .before .before .before .before .before .before .before .before .before .before .before .before .before .before .before .before .before .before .before .before .before .before .before .before .before .before .before .before .before .holders .ensures .0) (c .before .before .before .before .before .before .before .before .before .before .before .before .before .before .before .before .before .before .before .before .before .before .before .before .before .before .before .before .before .holders .ensures .1) (f .1) (e .1 .0) (e .1 .1)),
+          (coded s l.pool (records-length 32 l.records) few l.i l.loaded l.stored l.active l.inactive l.decided l.replaced t x (said (c .before .before .before .before .before .before .before .before .before .before .before .before .before .before .before .before .before .before .before .before .before .before .before .before .advance .result .outcome)) (take l.n l.list) _ _ (c .before .before .before .before .before .before .before .before .before .before .before .before .before .before .before .before .before .before .before .before .before .before .before .before .before .before .before .before .before .holders .result) (c .before .before .before .before .before .before .before .before .before .before .before .before .before .before .before .before .before .before .before .before .before .before .before .before .before .before .before .before .before .before .before .before .before .before .before .record-at .ensures) (c .before .before .before .before .before .before .before .before .before .before .before .before .before .before .before .before .before .before .before .before .before .before .before .before .before .before .before .before .before .before .before .before .see-cell .ensures) (c .before .before .before .before .before .before .before .before .before .before .before .before .before .own-notes .ensures) (c .before .before .noted-line .ensures) (c .before .before .before .before .before .before .before .before .before .before .before .before .before .before .before .before .before .before .before .before .before .before .before .before .before .before .before .before .before .before .spreads .ensures) (c .before .before .before .before .before .before .before .before .before .before .before .before .before .before .before .before .before .before .before .before .before .before .before .before .before .before .before .before .before .holders .ensures .0) (c .before .before .before .before .before .before .before .before .before .before .before .before .before .before .before .before .before .before .before .before .before .before .before .before .before .before .before .before .before .holders .ensures .1 .0) (f .1 .0) (e .1 .0) (e .1 .1)),
       f .0,
       omega (arith, h),
       omega (arith, l .inv .3, e .0 .1),
@@ -136,7 +136,7 @@ returns c =
     let s = wholeOf (a .first) l.last l.current l.records l.counts in
     let e = rw (c .before .before .before .before .before .before .before .before .before .before .before .with-records .ensures) at (c .before .before .close .ensures) in
     let m = subst (Marking a.tasks (allMarks a.tasks (a.first, a.pool.now) (map (actAt a.forms.now) a.kept.now)) (s, l.pool) (notesOf l.i l.loaded l.stored l.active l.inactive l.decided l.replaced) (take l.n l.list)) (no-action (actAt a.forms.now) a.kept.now l.i (omega (arith, c .before .before .before .before .before .before .before .before .before .before .before .before .before .loop-test .left))) (l .inv .0) in
-    (omega (arith, e .0, l .inv .3, l .inv .2, c .before .before .before .before .before .before .before .before .before .before .before .before .before .before .before .before .before .before .before .before .before .before .pre .1 .1 .0), subst (λ (w : List ℕ). Listed w (allMarks a.tasks (a.first, a.pool.now) (map (actAt a.forms.now) a.kept.now))) (sym (e .1 .0)) (marks-end a.tasks s l.pool l.i l.loaded l.stored l.active l.inactive l.decided l.replaced m (reached-small (l .inv .6) .0) (reached-cell (l .inv .6)) (e .1 .1)))
+    (omega (arith, e .0, l .inv .3, l .inv .2, c .before .before .before .before .before .before .before .before .before .before .before .before .before .before .before .before .before .before .before .before .before .before .pre .1 .1 .0), subst (λ (w : List ℕ). Listed w (allMarks a.tasks (a.first, a.pool.now) (map (actAt a.forms.now) a.kept.now))) (sym (e .1 .0)) (marks-end a.tasks s l.pool l.i l.loaded l.stored l.active l.inactive l.decided l.replaced m (reached-small (l .inv .6) .0) (reached-cell (l .inv .6)) (e .1 .1 .0)))
 
 pub list-marks-spec : {M : Type 1} → statement M
 list-marks-spec =

@@ -1,3 +1,4 @@
+use mathlib.Core.Path.{refl}
 use borrow.Author.Needs.{needs}
 use Rattle.moments_text.specs.Printed.{momentsText}
 use Rattle.session_start.proofs.Starting.{nothing-printed, all-printed}
@@ -8,25 +9,13 @@ returns : tie.Need-returns
 returns c = nothing-printed 2400000 momentsText _ _ (c .if1 .taken)
 
 returns-2 : tie.Need-returns-2
-returns-2 c = all-printed 2400000 momentsText _ _ _ _ (c .before .before .before .print .ensures) (c .before .before .before .before .before .before .before .before .before .before .before .before .open-session .ensures .0) (c .before .before .before .before .before .before .before .before .before .before .before .before .before .before .before .before .before .before .before .before .before .if1 .left)
+returns-2 c = all-printed 2400000 momentsText _ _ _ _ (c .before .before .print-file .ensures) refl (c .before .before .before .before .if1 .left)
 
 pub run-moments-spec : {M : Type 1} → statement M
 run-moments-spec =
     tie.close
     (tie.spec
     returns
-    (λ c κs. search needs)
-    (λ c κs. search needs)
-    (λ c κs. search needs)
-    (λ c κs. search needs)
-    (λ c. search needs)
-    (λ c. search needs)
-    (λ c. search needs)
-    (λ c. search needs)
-    (λ c κs. search needs)
-    (λ c. search needs)
-    (λ c. search needs)
-    (λ c. search needs)
     (λ c κs. search needs)
     (λ c. search needs)
     returns-2)

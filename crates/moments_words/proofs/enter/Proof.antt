@@ -16,7 +16,7 @@ same-length : tie.Need-same-length
 same-length c = search needs
 
 returns : tie.Need-returns
-returns c = let w = c .before .before .before .before .word-of .ensures in (c .before .before .insert .ensures ∙ ap (λ (v : ℕ). insertWord v (take (c .before .before .before .before .before .before .args .n) (c .before .before .before .before .before .before .args .list .now))) (w .0), w .1)
+returns c = let w = c .before .before .before .before .word-of .ensures in (c .before .before .insert .ensures .0 ∙ ap (λ (v : ℕ). insertWord v (take (c .before .before .before .before .before .before .args .n) (c .before .before .before .before .before .before .args .list .now))) (w .0), (w .1, c .before .before .insert .ensures .1))
 
 pub enter-spec : {M : Type 1} → statement M
 enter-spec = tie.close (tie.spec word-of-requires insert-requires same-length returns)

@@ -19,14 +19,14 @@ use Rattle.nudge_exchange.proofs.first_nudge.Statement.{statement}
 use Rattle.nudge_exchange.proofs.first_nudge.Tie as tie
 
 abbrev Inv-loop : tie.InvT-loop
-Inv-loop pool₀ records₀ s forms kept task call i₀ begun₀ last₀ current₀ counts₀ pool records i begun last current counts =
+Inv-loop pool₀ records₀ s forms kept task call i₀ at₀ last₀ current₀ counts₀ pool records i at last current counts =
     let x₀ : Pool = (stateWith s records₀, pool₀) in
     let l = map (actAt forms) kept in
-    (earliest (nudges x₀ l (call .begun) (answerOf (call .answer))) i (length kept - i) ≡ earliest (nudges x₀ l (call .begun) (answerOf (call .answer))) 0 (length kept))
-    × (i ≤ length kept) × Before x₀ l task i (stateOf (s .tasks) (s .cells) (s .blocks) last current records counts, pool) begun × (length records ≡ length records₀) × (length pool ≡ length pool₀)
+    (earliest (nudges x₀ l (call .at) (answerOf (call .answer))) i (length kept - i) ≡ earliest (nudges x₀ l (call .at) (answerOf (call .answer))) 0 (length kept))
+    × (i ≤ length kept) × Before x₀ l task i (stateOf (s .tasks) (s .cells) (s .blocks) last current records counts, pool) at × (length records ≡ length records₀) × (length pool ≡ length pool₀)
 
 abbrev μ-loop : tie.MeasureT-loop
-μ-loop pool₀ records₀ s forms kept task call i₀ begun₀ last₀ current₀ counts₀ pool records i begun last current counts = length kept - i
+μ-loop pool₀ records₀ s forms kept task call i₀ at₀ last₀ current₀ counts₀ pool records i at last current counts = length kept - i
 
 loop-holds : tie.Need-loop-holds Inv-loop μ-loop
 loop-holds c = let a = c .before .before .before .before .before .before .args in (rw (sub-zero), search needs, before-start (stateWith a.s a.records.now, a .pool .now) (map (actAt a.forms.now) a.kept.now) a.task, refl, refl)
@@ -53,8 +53,8 @@ returns-2 c =
     let m = map (actAt a.forms.now) a.kept.now in
     let x₀ : Pool = (stateWith a.s a.records.now, a .pool .now) in
     let h : l .i < length a.kept.now = omega (arith, c .before .before .before .before .before .before .loop-test .taken) in
-    let e = tried-is (c .before .before .before .before .before .before .before .before .before .before .before .before .before .before .pre .0) m a.task (summaryOf (a .call)) (c .before .before .before .before .before .before .before .before .before .before .before .before .before .before .pre .1 .1 .1) l.i (omega (arith, c .before .before .before .before .before .before .loop-test .taken, length-map a.kept.now (actAt a.forms.now))) (omega (arith, c .before .before .before .before .if1 .left)) _ (l .inv .2 .state) l.begun (l .inv .2 .begun) in
-    sym (earliest-hit (nudges x₀ m (a .call .begun) (answerOf (a .call .answer))) l.i (length a.kept.now) h (sym e ∙ (sym (c .before .try-exchange .ensures) ∙ c .if2 .taken))) ∙ l .inv .0
+    let e = tried-is (c .before .before .before .before .before .before .before .before .before .before .before .before .before .before .pre .0) m a.task (summaryOf (a .call)) (c .before .before .before .before .before .before .before .before .before .before .before .before .before .before .pre .1 .1 .1) l.i (omega (arith, c .before .before .before .before .before .before .loop-test .taken, length-map a.kept.now (actAt a.forms.now))) (omega (arith, c .before .before .before .before .if1 .left)) _ (l .inv .2 .state) l.at (l .inv .2 .begins-at) in
+    sym (earliest-hit (nudges x₀ m (a .call .at) (answerOf (a .call .answer))) l.i (length a.kept.now) h (sym e ∙ (sym (c .before .try-exchange .ensures) ∙ c .if2 .taken))) ∙ l .inv .0
 
 mul-action-at : tie.Need-mul-action-at Inv-loop μ-loop
 mul-action-at c = record { fits = omega (arith, c .before .before .before .before .before .before .loop-test .taken, c .before .before .before .before .before .before .before .before .before .before .before .before .before .before .pre .1 .0 .1) }
@@ -85,10 +85,10 @@ loop-again c =
     let m = map (actAt a.forms.now) a.kept.now in
     let x₀ : Pool = (stateWith a.s a.records.now, a .pool .now) in
     let h : l .i < length a.kept.now = omega (arith, c .before .before .before .before .before .before .before .before .before .before .before .before .before .before .before .before .before .before .before .loop-test .taken) in
-    let e = tried-is (c .before .before .before .before .before .before .before .before .before .before .before .before .before .before .before .before .before .before .before .before .before .before .before .before .before .before .before .pre .0) m a.task (summaryOf (a .call)) (c .before .before .before .before .before .before .before .before .before .before .before .before .before .before .before .before .before .before .before .before .before .before .before .before .before .before .before .pre .1 .1 .1) l.i (omega (arith, c .before .before .before .before .before .before .before .before .before .before .before .before .before .before .before .before .before .before .before .loop-test .taken, length-map a.kept.now (actAt a.forms.now))) (omega (arith, c .before .before .before .before .before .before .before .before .before .before .before .before .before .before .before .before .before .if1 .left)) _ (l .inv .2 .state) l.begun (l .inv .2 .begun) in (
-      sym (earliest-skip (nudges x₀ m (a .call .begun) (answerOf (a .call .answer))) l.i (length a.kept.now) h (sym e ∙ (sym (c .before .before .before .before .before .before .before .before .before .before .before .before .before .before .try-exchange .ensures) ∙ c .before .before .before .before .before .before .before .before .before .before .before .before .before .if2 .left))) ∙ l .inv .0,
+    let e = tried-is (c .before .before .before .before .before .before .before .before .before .before .before .before .before .before .before .before .before .before .before .before .before .before .before .before .before .before .before .pre .0) m a.task (summaryOf (a .call)) (c .before .before .before .before .before .before .before .before .before .before .before .before .before .before .before .before .before .before .before .before .before .before .before .before .before .before .before .pre .1 .1 .1) l.i (omega (arith, c .before .before .before .before .before .before .before .before .before .before .before .before .before .before .before .before .before .before .before .loop-test .taken, length-map a.kept.now (actAt a.forms.now))) (omega (arith, c .before .before .before .before .before .before .before .before .before .before .before .before .before .before .before .before .before .if1 .left)) _ (l .inv .2 .state) l.at (l .inv .2 .begins-at) in (
+      sym (earliest-skip (nudges x₀ m (a .call .at) (answerOf (a .call .answer))) l.i (length a.kept.now) h (sym e ∙ (sym (c .before .before .before .before .before .before .before .before .before .before .before .before .before .before .try-exchange .ensures) ∙ c .before .before .before .before .before .before .before .before .before .before .before .before .before .if2 .left))) ∙ l .inv .0,
       omega (arith, h),
-      before-next (actAt a.forms.now) a.kept.now a.task l.i l.begun (c .before .note .result) h (c .before .before .before .before .before .before .before .before .before .before .before .action-at .ensures) (c .before .before .before .before .before .before .advance .ensures) (c .before .note .ensures) (c .begun-after .ensures) (l .inv .2),
+      before-next (actAt a.forms.now) a.kept.now a.task l.i l.at (c .before .note .result) h (c .before .before .before .before .before .before .before .before .before .before .before .action-at .ensures) (c .before .before .before .before .before .before .advance .ensures) (c .before .note .ensures) (c .begun-after .ensures) (l .inv .2),
       search needs,
       search needs,
     )
@@ -97,7 +97,7 @@ returns-3 : tie.Need-returns-3 Inv-loop μ-loop
 returns-3 c =
     let a = c .before .before .before .before .before .before .before .before .args in
     let l = c .before .loop in
-    sym (none-left (stateWith a.s a.records.now, a .pool .now) (map (actAt a.forms.now) a.kept.now) (a .call .begun) (answerOf (a .call .answer)) l.i _ (omega (arith, c .loop-test .left, length-map a.kept.now (actAt a.forms.now)))) ∙ l .inv .0
+    sym (none-left (stateWith a.s a.records.now, a .pool .now) (map (actAt a.forms.now) a.kept.now) (a .call .at) (answerOf (a .call .answer)) l.i _ (omega (arith, c .loop-test .left, length-map a.kept.now (actAt a.forms.now)))) ∙ l .inv .0
 
 pub first-nudge-spec : {M : Type 1} → statement M
 first-nudge-spec =

@@ -1,3 +1,4 @@
+use mathlib.Core.Path.{refl}
 use borrow.Author.Needs.{needs}
 use Rattle.nudge_text.specs.Nudge.{nudgeText}
 use Rattle.session_start.proofs.Starting.{nothing-printed, all-printed}
@@ -8,25 +9,13 @@ returns : tie.Need-returns
 returns c = let a = c .before .before .before .args in nothing-printed 67 (nudgeText a.task a.n) _ _ (c .if1 .taken)
 
 returns-2 : tie.Need-returns-2
-returns-2 c = let a = c .before .before .before .before .before .before .before .before .before .before .before .before .before .before .before .before .before .before .before .before .before .before .before .before .args in all-printed 67 (nudgeText a.task a.n) _ _ _ _ (c .before .before .before .print .ensures) (c .before .before .before .before .before .before .before .before .before .before .before .before .open-session .ensures .0) (c .before .before .before .before .before .before .before .before .before .before .before .before .before .before .before .before .before .before .before .before .before .if1 .left)
+returns-2 c = let a = c .before .before .before .before .before .before .before .args in all-printed 67 (nudgeText a.task a.n) _ _ _ _ (c .before .before .print-file .ensures) refl (c .before .before .before .before .if1 .left)
 
 pub run-nudge-spec : {M : Type 1} → statement M
 run-nudge-spec =
     tie.close
     (tie.spec
     returns
-    (λ c κs. search needs)
-    (λ c κs. search needs)
-    (λ c κs. search needs)
-    (λ c κs. search needs)
-    (λ c. search needs)
-    (λ c. search needs)
-    (λ c. search needs)
-    (λ c. search needs)
-    (λ c κs. search needs)
-    (λ c. search needs)
-    (λ c. search needs)
-    (λ c. search needs)
     (λ c κs. search needs)
     (λ c. search needs)
     returns-2)

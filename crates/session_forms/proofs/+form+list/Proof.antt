@@ -190,7 +190,7 @@ module _ (t : ℕ) where
       let y = end-read (c .before .before .before .before .before .before .before .before .before) in
       let k = c .before .before .before .before .keep in
       let whole = act-at a.s.now a.at a.depth (c .before .before .before .before .before .before .before .before .before .before .before .before .before .before .before .before .before .before .before .if1 .left) _ (x .2) (λ e. c .before .before .before .before .before .before .before .before .before .before .before .before .if2 .left (x .1 ∙ e)) y in
-      kept-got specs.count specs.actions (specs.form a.depth) a.s.now a.at 8 a.forms.now (k.last .0) a.actions.now (k.last .1 .1 .0) a.f a.n (a.f + 1) (specs.act _) whole (omega (arith, x .2 .past, y .past, p .few)) k.result (rw (x .1) at k.ensures)
+      kept-got specs.count specs.actions (specs.form a.depth) a.s.now a.at 8 a.forms.now (k.last .0) a.actions.now (k.last .1 .1 .0) a.f a.n (a.f + 1) (specs.act _) whole (omega (arith, x .2 .past, y .past, p .few)) k.result (rw (x .1) at (k.ensures .0))
 
 abbrev list-Inv-loop : list-lts.InvT-loop
 list-Inv-loop s at depth forms₀ f actions₀ n i₀ g₀ m₀ over₀ forms actions i g m over = Walk (specs.space >> specs.form depth) specs.close s at forms₀ actions₀ f n forms actions i g m over

@@ -8,7 +8,7 @@ returns c =
     let a = c .before .before .before .before .before .before .before .before .before .before .before .before .before .before .before .before .before .before .before .args in
     let q = c .before .before .before .before .before .before .before .before .before .before .before .before .before .before .before .before .before .before .before .pre in
     let x = starts a.tasks a.cells a.blocks (c .before .before .before .before .before .before .before .before .before .before .before .blank .ensures) (q .1 .0 .0) (q .1 .0 .1) (q .0 .4) (c .before .before .before .before .before .before .before .before .before .«open» .ensures) in
-    whole-session a.tasks a.cells a.blocks a.seed a.count x (c .before .before .before .before .before .before .before .before .before .before .before .before .before .before .put-opening .ensures .0) (c .before .before .before .before .put-actions .ensures)
+    whole-session a.tasks a.cells a.blocks a.seed a.count x (c .before .before .before .before .before .before .before .before .before .before .before .before .before .before .put-opening .ensures .0) (c .before .before .before .before .put-actions .ensures .0)
 
 pub put-session-spec : {M : Type 1} → statement M
 put-session-spec =

@@ -3,7 +3,10 @@ use native.Mathlib.Omega.{arith}
 use mathlib.Core.Path.{_≡_, refl, sym, ap, subst, _∙_}
 use Prim.Native.Nat.{_+_, _-_, _≤_}
 use mathlib.Core.List.{[]}
-use lib.ListN.{length, take}
+use mathlib.Core.List.{List}
+use Prim.Native.Nat.{ℕ}
+use lib.ListN.{length, take, drop}
+use lib.Seq.{drop-drop}
 use Rattle.lines.specs.Record.{recordAt, opOf}
 use Rattle.cells.specs.Machine.{Pool}
 use Rattle.figure_moments.specs.Moments.{stands}
@@ -16,15 +19,20 @@ use Rattle.moments_notes.proofs.Ruling.{standing-is, standing-small, standing-w
 use Rattle.moments_calls.proofs.calls.close.Statement.{statement}
 use Rattle.moments_calls.proofs.calls.close.Tie as tie
 
+further : (l k : List ℕ) (m n : ℕ) → m ≤ n → drop m l ≡ drop m k → drop n l ≡ drop n k
+further l k m n h e =
+    let q : n ≡ m + (n - m) = omega (arith, h) in
+    ap (λ (i : ℕ). drop i l) q ∙ sym (drop-drop (n - m) m l) ∙ ap (drop (n - m)) e ∙ drop-drop (n - m) m k ∙ ap (λ (i : ℕ). drop i k) (sym q)
+
 abbrev Inv-loop : tie.InvT-loop
-Inv-loop list₀ n tasks pool loaded stored active inactive decided replaced s t₀ m₀ list t m = (take m list ≡ closing (s, pool) (notesOf 0 loaded stored active inactive decided replaced) t (take n list₀)) × Closing (s, pool) (notesOf 0 loaded stored active inactive decided replaced) t × SortedWords (take m list) × (t ≤ tasks) × (m ≤ n + t) × (length list ≡ length list₀)
+Inv-loop list₀ n tasks pool loaded stored active inactive decided replaced s t₀ m₀ list t m = (take m list ≡ closing (s, pool) (notesOf 0 loaded stored active inactive decided replaced) t (take n list₀)) × Closing (s, pool) (notesOf 0 loaded stored active inactive decided replaced) t × SortedWords (take m list) × (t ≤ tasks) × (m ≤ n + t) × (length list ≡ length list₀) × (drop m list ≡ drop m list₀)
 
 abbrev μ-loop : tie.MeasureT-loop
 μ-loop list₀ n tasks pool loaded stored active inactive decided replaced s t₀ m₀ list t m = tasks - t
 
 loop-holds : tie.Need-loop-holds Inv-loop μ-loop
 unfolding closing Closing
-loop-holds c = (refl, tt, c .before .before .pre .0 .1, search needs, search needs, search needs)
+loop-holds c = (refl, tt, c .before .before .pre .0 .1, search needs, search needs, search needs, refl)
 
 mul-r : tie.Need-mul-r Inv-loop μ-loop
 mul-r c = search needs
@@ -68,11 +76,12 @@ loop-again c =
     let s = c .before .before .enter-standing .ensures in
     let w = s .1 .0 ∙ ap (λ (q : Standing). standingWords q (opOf r) l.t (take l.m l.list)) e ∙ standing-words (stands o l.t (seesPool x l.t)) (opOf r) l.t (take l.m l.list) in (
       w ∙ ap (standWords (stands o l.t (seesPool x l.t)) (opOf r) l.t) (l .inv .0) ∙ sym (closing-next x o l.t (take a.n a.list.now)),
-      fits-next x o l.t (standing-fits (stands o l.t (seesPool x l.t)) (subst MomentFits e (s .1 .1))) (l .inv .1),
+      fits-next x o l.t (standing-fits (stands o l.t (seesPool x l.t)) (subst MomentFits e (s .1 .1 .0))) (l .inv .1),
       subst SortedWords (sym w) (stand-sorted (stands o l.t (seesPool x l.t)) (opOf r) l.t (take l.m l.list) (l .inv .2)),
       omega (arith, c .before .before .before .before .before .before .before .before .loop-test .taken),
       omega (arith, l .inv .4, s .0),
       search needs,
+      s .1 .1 .1 .0 ∙ further _ _ l.m _ (s .1 .1 .1 .1) (l .inv .6),
     )
 
 same-length : tie.Need-same-length Inv-loop μ-loop
@@ -83,7 +92,7 @@ returns c =
     let a = c .before .before .before .before .args in
     let l = c .before .loop in
     let e : l .t ≡ a .tasks = omega (arith, l .inv .3, c .loop-test .left) in
-    (omega (arith, l .inv .4, l .inv .3, c .before .before .before .before .pre .1 .0), (rw e at (l .inv .0), rw e at (l .inv .1)))
+    (omega (arith, l .inv .4, l .inv .3, c .before .before .before .before .pre .1 .0), (rw e at (l .inv .0), (rw e at (l .inv .1), l .inv .6)))
 
 pub close-spec : {M : Type 1} → statement M
 close-spec =

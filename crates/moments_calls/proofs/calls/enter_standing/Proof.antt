@@ -17,13 +17,13 @@ add-result : tie.Need-add-result
 add-result c = search needs
 
 returns : tie.Need-returns
-returns c = rw (c .enum-told .given .1) (omega arith, (refl, tt))
+returns c = rw (c .enum-told .given .1) (omega arith, (refl, (tt, (refl, omega arith))))
 
 same-length : tie.Need-same-length
 same-length c = search needs
 
 returns-2 : tie.Need-returns-2
-returns-2 c = rw (c .before .before .before .before .before .q .given .1) (omega arith, c .before .before .enter .ensures)
+returns-2 c = rw (c .before .before .before .before .before .q .given .1) let e = c .before .before .enter .ensures in (omega arith, (e .0, (e .1 .0, (e .1 .1, omega arith))))
 
 pub enter-standing-spec : {M : Type 1} → statement M
 enter-standing-spec =

@@ -44,16 +44,19 @@ returns c =
     let then = c .before .before .before .note-held2 .ensures in
     let replaced = c .note-held3 .ensures in (
       record { loaded-32 = loaded .0; stored-32 = stored .0; active-32 = active .0; inactive-32 = inactive .0; decided-32 = then .0; replaced-32 = replaced .0 },
-      λ j. record {
-        now = add-one a.i j;
-        loaded = λ u. loaded .1 u j;
-        stored = λ u. stored .1 u j;
-        storedActive = λ u. (ap (λ (n : ℕ). eqb n 1) (active .1 u) ∙ as-flag (eqb a.line 23 && eqb u a.t) (c .before .before .before .before .before .before .before .before .before .before .before .before .flag .result) (getD a.active.now u 0) (c .before .before .before .before .before .before .before .before .before .before .before .before .flag .ensures)) j;
-        inactive = λ u. inactive .1 u j;
-        decided = λ u. (then .1 u ∙ ap (λ (n : ℕ). cond ((eqb a.line 2 && a.x .undecided) && eqb (getD a.who.now u 0) 1) a.i n) (first .1 u)
-            ∙ either-noted ((eqb a.line 10 || eqb a.line 15) && eqb u a.t) ((eqb a.line 2 && a.x .undecided) && eqb (getD a.who.now u 0) 1) a.i (getD a.decided.now u 0)) j;
-        replaced = λ u. replaced .1 u j;
-      },
+      (
+        λ j. record {
+          now = add-one a.i j;
+          loaded = λ u. loaded .1 u j;
+          stored = λ u. stored .1 u j;
+          storedActive = λ u. (ap (λ (n : ℕ). eqb n 1) (active .1 u) ∙ as-flag (eqb a.line 23 && eqb u a.t) (c .before .before .before .before .before .before .before .before .before .before .before .before .flag .result) (getD a.active.now u 0) (c .before .before .before .before .before .before .before .before .before .before .before .before .flag .ensures .0)) j;
+          inactive = λ u. inactive .1 u j;
+          decided = λ u. (then .1 u ∙ ap (λ (n : ℕ). cond ((eqb a.line 2 && a.x .undecided) && eqb (getD a.who.now u 0) 1) a.i n) (first .1 u)
+              ∙ either-noted ((eqb a.line 10 || eqb a.line 15) && eqb u a.t) ((eqb a.line 2 && a.x .undecided) && eqb (getD a.who.now u 0) 1) a.i (getD a.decided.now u 0)) j;
+          replaced = λ u. replaced .1 u j;
+        },
+        λ u. active .1 u ∙ ap (λ (n : ℕ). cond (eqb a.line 23 && eqb u a.t) n (getD a.active.now u 0)) (c .before .before .before .before .before .before .before .before .before .before .before .before .flag .ensures .1),
+      ),
     )
 
 pub note-spec : {M : Type 1} → statement M

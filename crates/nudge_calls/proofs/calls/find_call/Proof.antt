@@ -21,13 +21,13 @@ use Rattle.nudge_calls.proofs.calls.find_call.Statement.{statement}
 use Rattle.nudge_calls.proofs.calls.find_call.Tie as tie
 
 abbrev Inv-loop : tie.InvT-loop
-Inv-loop pool₀ records₀ s forms kept task n i₀ left₀ begun₀ last₀ current₀ counts₀ pool records i left begun last current counts =
+Inv-loop pool₀ records₀ s forms kept task n i₀ left₀ at₀ last₀ current₀ counts₀ pool records i left at last current counts =
     let x = stateOf (s .tasks) (s .cells) (s .blocks) last current records counts in
-    (atPlace left (calls task begun i (history machine (x, pool) (drop i (map (actAt forms) kept)))) ≡ atPlace n (calls task 0 0 (history machine (stateWith s records₀, pool₀) (map (actAt forms) kept))))
+    (atPlace left (calls task at i (history machine (x, pool) (drop i (map (actAt forms) kept)))) ≡ atPlace n (calls task 0 0 (history machine (stateWith s records₀, pool₀) (map (actAt forms) kept))))
     × (i ≤ length kept) × Reached (s .tasks) (s .cells) x pool × (length records ≡ length records₀) × (length pool ≡ length pool₀)
 
 abbrev μ-loop : tie.MeasureT-loop
-μ-loop pool₀ records₀ s forms kept task n i₀ left₀ begun₀ last₀ current₀ counts₀ pool records i left begun last current counts = length kept - i
+μ-loop pool₀ records₀ s forms kept task n i₀ left₀ at₀ last₀ current₀ counts₀ pool records i left at last current counts = length kept - i
 
 loop-holds : tie.Need-loop-holds Inv-loop μ-loop
 loop-holds c = (refl, search needs, c .before .before .before .before .before .before .pre .0, refl, refl)
@@ -43,7 +43,7 @@ returns c =
     let l = c .before .before .before .before .before .before .before .before .before .before .before .before .before .before .before .before .before .loop in
     let a = c .before .before .before .before .before .before .before .before .before .before .before .before .before .before .before .before .before .before .before .before .before .before .before .before .args in
     let s = stateOf (a .s .tasks) (a .s .cells) (a .s .blocks) l.last l.current l.records l.counts in
-    let e = then-ended a.task (actAt a.forms.now) a.kept.now l.i l.begun s l.pool (c .before .before .before .before .before .before .before .before .before .before .before .before .before .before .before .before .loop-test .taken) (c .before .before .before .before .before .before .before .before .before .before .before .before .before .before .action-at .ensures) (c .before .before .before .before .before .before .before .before .before .advance .ensures) (c .before .before .before .before .note .ensures) (c .before .before .noted2 .given .1) in
+    let e = then-ended a.task (actAt a.forms.now) a.kept.now l.i l.at s l.pool (c .before .before .before .before .before .before .before .before .before .before .before .before .before .before .before .before .loop-test .taken) (c .before .before .before .before .before .before .before .before .before .before .before .before .before .before .action-at .ensures) (c .before .before .before .before .before .before .before .before .before .advance .ensures) (c .before .before .before .before .note .ensures) (c .before .before .noted2 .given .1) in
     sym (ap (atPlace l.left) e ∙ after-first l.left _ _ (c .if1 .taken)) ∙ l .inv .0
 
 add-i : tie.Need-add-i Inv-loop μ-loop
@@ -60,8 +60,8 @@ loop-again c =
     let h = c .before .before .before .before .before .before .before .before .before .before .before .before .before .loop-test .taken in
     let d = c .before .before .before .before .before .before .advance .ensures in (
       ⊎-elim
-          (λ w. rw (w .3, w .4) (sym (ap (atPlace l.left) (then-pending a.task (actAt a.forms.now) a.kept.now l.i l.begun s l.pool h (c .before .before .before .before .before .before .before .before .before .before .before .action-at .ensures) d (c .before .note .ensures) (w .1 .given .1))) ∙ l .inv .0))
-          (λ w. rw (w .4, w .5) (sym (ap (atPlace l.left) (then-ended a.task (actAt a.forms.now) a.kept.now l.i l.begun s l.pool h (c .before .before .before .before .before .before .before .before .before .before .before .action-at .ensures) d (c .before .note .ensures) (w .1 .given .1)) ∙ after-next l.left _ _ (w .3 .left)) ∙ l .inv .0))
+          (λ w. rw (w .3, w .4) (sym (ap (atPlace l.left) (then-pending a.task (actAt a.forms.now) a.kept.now l.i l.at s l.pool h (c .before .before .before .before .before .before .before .before .before .before .before .action-at .ensures) d (c .before .note .ensures) (w .1 .given .1))) ∙ l .inv .0))
+          (λ w. rw (w .4, w .5) (sym (ap (atPlace l.left) (then-ended a.task (actAt a.forms.now) a.kept.now l.i l.at s l.pool h (c .before .before .before .before .before .before .before .before .before .before .before .action-at .ensures) d (c .before .note .ensures) (w .1 .given .1)) ∙ after-next l.left _ _ (w .3 .left)) ∙ l .inv .0))
           (c .match .came),
       omega (arith, h),
       reached-then (l .inv .2) (actOf (c .before .before .before .before .before .before .before .before .before .before .before .action-at .result)) d,
@@ -73,7 +73,7 @@ returns-2 : tie.Need-returns-2 Inv-loop μ-loop
 returns-2 c =
     let l = c .before .loop in
     let a = c .before .before .before .before .before .before .before .before .args in
-    sym (ap (atPlace l.left) (no-calls a.task (actAt a.forms.now) a.kept.now l.i l.begun (stateOf (a .s .tasks) (a .s .cells) (a .s .blocks) l.last l.current l.records l.counts) l.pool (c .loop-test .left))) ∙ l .inv .0
+    sym (ap (atPlace l.left) (no-calls a.task (actAt a.forms.now) a.kept.now l.i l.at (stateOf (a .s .tasks) (a .s .cells) (a .s .blocks) l.last l.current l.records l.counts) l.pool (c .loop-test .left))) ∙ l .inv .0
 
 pub find-call-spec : {M : Type 1} → statement M
 find-call-spec =

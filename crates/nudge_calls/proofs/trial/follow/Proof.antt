@@ -23,13 +23,13 @@ use Rattle.nudge_calls.proofs.trial.follow.Statement.{statement}
 use Rattle.nudge_calls.proofs.trial.follow.Tie as tie
 
 abbrev Inv-loop : tie.InvT-loop
-Inv-loop pool₀ records₀ s forms kept i task begun target answer j₀ k₀ last₀ current₀ counts₀ pool records j k last current counts =
+Inv-loop pool₀ records₀ s forms kept i task at target answer j₀ k₀ last₀ current₀ counts₀ pool records j k last current counts =
     let x = stateOf (s .tasks) (s .cells) (s .blocks) last current records counts in
-    (answerOfCall target (calls task k j (history machine (x, pool) (drop j (map (actAt forms) (exchanged i kept))))) ≡ answerOfCall target (calls task begun i (history machine (stateWith s records₀, pool₀) (drop i (map (actAt forms) (exchanged i kept))))))
+    (answerOfCall target (calls task k j (history machine (x, pool) (drop j (map (actAt forms) (exchanged i kept))))) ≡ answerOfCall target (calls task at i (history machine (stateWith s records₀, pool₀) (drop i (map (actAt forms) (exchanged i kept))))))
     × (j ≤ length kept) × Reached (s .tasks) (s .cells) x pool × (length records ≡ length records₀) × (length pool ≡ length pool₀)
 
 abbrev μ-loop : tie.MeasureT-loop
-μ-loop pool₀ records₀ s forms kept i task begun target answer j₀ k₀ last₀ current₀ counts₀ pool records j k last current counts = length kept - j
+μ-loop pool₀ records₀ s forms kept i task at target answer j₀ k₀ last₀ current₀ counts₀ pool records j k last current counts = length kept - j
 
 moved-to-requires : tie.Need-moved-to-requires Inv-loop μ-loop
 moved-to-requires c κs = omega (arith, c .before .before .before .before .pre .1 .0 .1, c .before .before .before .before .pre .1 .0 .2)
@@ -72,7 +72,7 @@ returns c =
     let ea = c .before .before .before .before .before .before .before .before .before .before .before .before .before .before .before .action-at .ensures ∙ (ap (λ (m : ℕ). f (getD k m 0)) (c .before .before .before .before .before .before .before .before .before .before .before .before .before .before .before .before .before .moved-to2 .ensures) ∙ ap f (sym (exchanged-at a.i l.j k two))) in
     let h : l .j < length (exchanged a.i k) = omega (arith, exchanged-length a.i k, c .before .before .before .before .before .before .before .before .before .before .before .before .before .before .before .before .before .before .loop-test .taken) in
     let e = then-it a.task f (exchanged a.i k) l.j l.k s l.pool h ea (c .before .before .before .before .before .before .before .before .before .before .advance .ensures) (c .before .before .before .before .before .note .ensures) (c .before .before .before .before .before .before .before .before .before .before .before .before .before .before .before .before .before .before .before .before .before .before .moved-to .result) (c .before .before .before .noted2 .given .1) (c .before .if1 .taken) in
-    c .same-answer .ensures ∙ followed-to (answerOf (a .call .answer)) f k a.i a.task (a .begun) (stateWith a.s a.records.now, a .pool .now) (a .call .begun) (c .before .before .before .before .before .before .before .before .before .before .before .before .before .before .before .before .before .before .before .before .before .before .moved-to .ensures) (sym e ∙ l .inv .0)
+    c .same-answer .ensures ∙ followed-to (answerOf (a .call .answer)) f k a.i a.task (a .at) (stateWith a.s a.records.now, a .pool .now) (a .call .at) (c .before .before .before .before .before .before .before .before .before .before .before .before .before .before .before .before .before .before .before .before .before .before .moved-to .ensures) (sym e ∙ l .inv .0)
 
 add-j : tie.Need-add-j Inv-loop μ-loop
 add-j c = record { fits = omega (arith, c .before .before .before .before .before .before .before .before .before .before .before .before .before .before .loop-test .taken, c .before .before .before .before .before .before .before .before .before .before .before .before .before .before .before .before .before .before .before .before .before .before .before .pre .1 .0 .1) }
@@ -110,7 +110,7 @@ returns-2 c =
     let f = actAt a.forms.now in
     let s = stateOf (a .s .tasks) (a .s .cells) (a .s .blocks) l.last l.current l.records l.counts in
     let e = no-calls a.task f (exchanged a.i k) l.j l.k s l.pool (omega (arith, exchanged-length a.i k, c .loop-test .left)) in
-    followed-to (answerOf (a .call .answer)) f k a.i a.task (a .begun) (stateWith a.s a.records.now, a .pool .now) (a .call .begun) (c .before .before .before .before .moved-to .ensures) (sym (ap (answerOfCall (c .before .before .before .before .moved-to .result)) e) ∙ l .inv .0)
+    followed-to (answerOf (a .call .answer)) f k a.i a.task (a .at) (stateWith a.s a.records.now, a .pool .now) (a .call .at) (c .before .before .before .before .moved-to .ensures) (sym (ap (answerOfCall (c .before .before .before .before .moved-to .result)) e) ∙ l .inv .0)
 
 pub follow-spec : {M : Type 1} → statement M
 follow-spec =

@@ -23,7 +23,7 @@ collide-requires c κs = (c .before .before .before .before .before .before .bef
 returns : tie.Need-returns
 returns c =
     let a = c .before .before .before .before .before .before .before .before .before .before .args in
-    tried-apart (stateWith a.s a.records.now, a .pool .now) (actAt a.forms.now) a.kept.now a.task a.begun (a .call .begun) (answerOf (a .call .answer)) a.i (c .before .before .before .before .before .before .before .before .before .before .pre .1 .0 .2) (c .before .before .before .before .action-at .ensures) (c .before .before .action-at2 .ensures) (sym (c .before .collide .ensures)) (c .if1 .taken)
+    tried-apart (stateWith a.s a.records.now, a .pool .now) (actAt a.forms.now) a.kept.now a.task a.at (a .call .at) (answerOf (a .call .answer)) a.i (c .before .before .before .before .before .before .before .before .before .before .pre .1 .0 .2) (c .before .before .before .before .action-at .ensures) (c .before .before .action-at2 .ensures) (sym (c .before .collide .ensures)) (c .if1 .taken)
 
 copied-requires : tie.Need-copied-requires
 copied-requires c κs = reached-words (c .before .before .before .before .before .before .before .before .before .before .pre .0)
@@ -43,7 +43,7 @@ follow-requires c κs = rw (c .before .before .before .copied .ensures .0, c .be
 returns-2 : tie.Need-returns-2
 returns-2 c =
     let a = c .before .before .before .before .before .before .before .before .before .before .before .before .before .before .before .before .before .args in
-    tried-close (stateWith a.s a.records.now, a .pool .now) (actAt a.forms.now) a.kept.now a.task a.begun (a .call .begun) (answerOf (a .call .answer)) a.i (c .before .before .before .before .before .before .before .before .before .before .before .before .before .before .before .before .before .pre .1 .0 .2) (c .before .before .before .before .before .before .before .before .before .before .before .action-at .ensures) (c .before .before .before .before .before .before .before .before .before .action-at2 .ensures) (sym (c .before .before .before .before .before .before .before .before .collide .ensures)) (c .before .before .before .before .before .before .before .if1 .left)
+    tried-close (stateWith a.s a.records.now, a .pool .now) (actAt a.forms.now) a.kept.now a.task a.at (a .call .at) (answerOf (a .call .answer)) a.i (c .before .before .before .before .before .before .before .before .before .before .before .before .before .before .before .before .before .pre .1 .0 .2) (c .before .before .before .before .before .before .before .before .before .before .before .action-at .ensures) (c .before .before .before .before .before .before .before .before .before .action-at2 .ensures) (sym (c .before .before .before .before .before .before .before .before .collide .ensures)) (c .before .before .before .before .before .before .before .if1 .left)
     (rw (c .before .before .before .before .before .before .copied .ensures .0, c .before .before .before .before .before .copied2 .ensures .0) at (c .before .before .follow .ensures))
 
 pub try-exchange-spec : {M : Type 1} → statement M

@@ -4,9 +4,9 @@ use lib.Seq.{length-take-le}
 use borrow.Author.Needs.{needs}
 use Rattle.text.specs.Append.{Appended}
 use Rattle.session_reading.specs.Reading.{actAt}
-use Rattle.nudge_runner.proofs.Asking.{new-fresh, too-many, few-enough}
-use Rattle.nudge_runner.proofs.print.Statement.{statement}
-use Rattle.nudge_runner.proofs.print.Tie as tie
+use Rattle.nudge_play.proofs.Asking.{new-fresh, too-many, few-enough}
+use Rattle.nudge_play.proofs.opened.print_started.Statement.{statement}
+use Rattle.nudge_play.proofs.opened.print_started.Tie as tie
 
 returns : tie.Need-returns
 returns c =
@@ -41,8 +41,8 @@ returns-4 c =
     let h = rw (c .before .before .before .before .before .before .before .before .before .before .opening3 .given .1) at (c .before .before .before .before .before .before .before .before .before .before .before .before .before .before .before .before .pre .0) in
     rw (c .before .before .before .before .before .before .before .before .before .before .opening3 .given .1) (subst (Appended _ _ 0 _) (few-enough a.task a.n _ (actAt a.forms.now) a.kept.now _ (h .1) (c .before .before .before .before .before .before .before .before .if1 .left)) (c .before .before .before .before .answer .ensures))
 
-pub print-spec : {M : Type 1} → statement M
-print-spec =
+pub print-started-spec : {M : Type 1} → statement M
+print-started-spec =
     tie.close
     (tie.spec
     (λ c. search needs)

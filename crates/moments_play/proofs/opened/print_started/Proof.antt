@@ -2,8 +2,8 @@ use mathlib.Core.Path.{sym}
 use native.Mathlib.Omega.{arith}
 use lib.Seq.{length-take-le}
 use borrow.Author.Needs.{needs}
-use Rattle.moments_runner.proofs.print.Statement.{statement}
-use Rattle.moments_runner.proofs.print.Tie as tie
+use Rattle.moments_play.proofs.opened.print_started.Statement.{statement}
+use Rattle.moments_play.proofs.opened.print_started.Tie as tie
 
 slice-relend-prefix-play : tie.Need-slice-relend-prefix-play
 slice-relend-prefix-play c = let h = rw (c .before .before .opening3 .given .1) at (c .before .before .before .before .before .before .before .before .pre .0) in h .0 .within
@@ -28,8 +28,8 @@ returns-2 c = rw (c .before .before .before .before .before .opening2 .given .1)
 returns-3 : tie.Need-returns-3
 returns-3 c = rw (c .before .before .before .before .before .before .before .before .before .opening3 .given .1) (c .before .before .before .before .play .ensures)
 
-pub print-spec : {M : Type 1} → statement M
-print-spec =
+pub print-started-spec : {M : Type 1} → statement M
+print-started-spec =
     tie.close
     (tie.spec
     (λ c. search needs)

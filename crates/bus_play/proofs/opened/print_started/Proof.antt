@@ -3,8 +3,8 @@ use lib.Seq.{length-take-le}
 use Rattle.places.proofs.Placing.{places-length}
 use borrow.Author.Needs.{needs}
 use native.Mathlib.Omega.{arith}
-use Rattle.bus_runner.proofs.print.Statement.{statement}
-use Rattle.bus_runner.proofs.print.Tie as tie
+use Rattle.bus_play.proofs.opened.print_started.Statement.{statement}
+use Rattle.bus_play.proofs.opened.print_started.Tie as tie
 
 slice-aggregate-start : tie.Need-slice-aggregate-start
 slice-aggregate-start c = places-length (c .before .before .record-space .ensures)
@@ -32,8 +32,8 @@ returns-2 c = rw (c .before .before .before .before .before .opening2 .given .1)
 returns-3 : tie.Need-returns-3
 returns-3 c = rw (c .before .before .before .before .before .before .before .before .before .before .before .before .opening3 .given .1) (c .before .before .before .before .before .start .ensures)
 
-pub print-spec : {M : Type 1} → statement M
-print-spec =
+pub print-started-spec : {M : Type 1} → statement M
+print-started-spec =
     tie.close
     (tie.spec
     (λ c. search needs)

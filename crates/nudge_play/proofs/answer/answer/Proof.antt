@@ -15,10 +15,10 @@ use Rattle.places.proofs.Placing.{idle-places, places-length}
 use Rattle.session_reading.specs.Reading.{actAt}
 use Rattle.nudge_text.specs.Nudge.{atPlace, nudges, earliest, nudgeLine}
 use Rattle.nudge_calls.specs.Calls.{calls, summaryOf, soughtOf}
-use Rattle.nudge_exchange.proofs.Naming.{sought-none, sought-finishes, sought-nudge, fresh-as, fresh-reached}
+use Rattle.nudge_play.proofs.Naming.{sought-none, sought-finishes, sought-nudge, fresh-as, fresh-reached}
 use Rattle.nudge_calls.proofs.Steps.{reached-words}
-use Rattle.nudge_exchange.proofs.answer.Statement.{statement}
-use Rattle.nudge_exchange.proofs.answer.Tie as tie
+use Rattle.nudge_play.proofs.answer.answer.Statement.{statement}
+use Rattle.nudge_play.proofs.answer.answer.Tie as tie
 
 copied-requires : tie.Need-copied-requires
 copied-requires c κs = reached-words (fresh-reached (c .before .before .before .before .before .before .pre .0))
@@ -64,7 +64,7 @@ returns-2 c =
     let call = c .before .before .before .before .before .before .before .before .before .before .before .before .sought .given .0 .0 in
     let sought = ap₂ (λ (s : State) (p : List ℕ). atPlace a.n (calls a.task 0 0 (history machine (s, p) l))) (sym e) (sym (c .before .before .before .before .before .before .before .before .before .before .before .before .before .before .before .before .before .before .before .before .copied .ensures .0)) ∙ (sym (c .before .before .before .before .before .before .before .before .before .before .before .before .before .before .before .before .find-call .ensures) ∙ ap soughtOf (c .before .before .before .before .before .before .before .before .before .before .before .before .sought .given .1)) in
     subst (Appended _ _ 0 _)
-    (ap nudgeLine (c .before .before .before .before .before .before .first-nudge .ensures ∙ (ap (λ (s : State). earliest (nudges (s, a .pool .now) l (call .begun) (answerOf (call .answer))) 0 (length a.kept.now)) e₂ ∙ ap (earliest (nudges (a .first, a .pool .now) l (call .begun) (answerOf (call .answer))) 0) (sym (length-map a.kept.now (actAt a.forms.now)))))
+    (ap nudgeLine (c .before .before .before .before .before .before .first-nudge .ensures ∙ (ap (λ (s : State). earliest (nudges (s, a .pool .now) l (call .at) (answerOf (call .answer))) 0 (length a.kept.now)) e₂ ∙ ap (earliest (nudges (a .first, a .pool .now) l (call .at) (answerOf (call .answer))) 0) (sym (length-map a.kept.now (actAt a.forms.now)))))
     ∙ sought-nudge (c .before .before .before .before .before .before .before .before .before .before .before .before .before .before .before .before .before .before .before .before .before .before .before .before .before .before .before .pre .0) l a.task a.n (summaryOf call) sought) (c .before .before .put-nudge .ensures)
 
 pub answer-spec : {M : Type 1} → statement M

@@ -37,9 +37,9 @@ module _ {s : State} {p : List ℕ} (F : Fresh s p) (l : List Action) (t n : ℕ
     pub sought-finishes : Finishes (history pool (s, p) l) t c
     sought-finishes = let d = named-is-finished t n (history pool (s, p) l) f is in record { call = f; finished = d .0; its-task = d .1; kept = same }
 
-    pub sought-nudge : nudgeLine (earliest (nudges (s, p) l (c .begun) (c .answer)) 0 (length l)) ≡ asked18 (s, p) l (namedCall t n (history pool (s, p) l))
+    pub sought-nudge : nudgeLine (earliest (nudges (s, p) l (c .at) (c .answer)) 0 (length l)) ≡ asked18 (s, p) l (namedCall t n (history pool (s, p) l))
     unfolding nudge
-    sought-nudge = ap (λ (c : Summary). nudgeLine (earliest (nudges (s, p) l (c .begun) (c .answer)) 0 (length l))) (sym same) ∙ ap (asked18 (s, p) l) (sym is)
+    sought-nudge = ap (λ (c : Summary). nudgeLine (earliest (nudges (s, p) l (c .at) (c .answer)) 0 (length l))) (sym same) ∙ ap (asked18 (s, p) l) (sym is)
 
 -- the same in other words
 pub fresh-as : {s s′ : State} {p p′ : List ℕ} → Fresh s p → s′ ≡ s → p′ ≡ p → Fresh s′ p′

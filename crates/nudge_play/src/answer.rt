@@ -1,0 +1,53 @@
+// The named call sought, and its first nudge.
+use buffers::record_space;
+use nudge_calls::calls::Sought;
+use nudge_calls::calls::find_call;
+use nudge_calls::calls::frame_of;
+use nudge_calls::printing::put_nudge;
+use nudge_calls::trial::copied;
+use nudge_exchange::first_nudge;
+use numbered::put_bad;
+use questions::State;
+ghost use mathlib.Core.Path.{_≡_};
+ghost use mathlib.Core.List.{map};
+ghost use Prim.Native.Nat.{_≤_};
+ghost use lib.ListN.{length, replicate};
+ghost use Rattle.cells.specs.Machine.{pool as «machine»};
+ghost use Rattle.history.specs.History.{history};
+ghost use Rattle.lines.specs.Record.{idle};
+ghost use Rattle.nudge_text.specs.Nudge.{namedCall, asked18};
+ghost use Rattle.session_reading.specs.Kept.{Named};
+ghost use Rattle.session_reading.specs.Reading.{actAt};
+ghost use Rattle.text.specs.Append.{Appended};
+ghost use Rattle.nudge_calls.specs.Exchange.{Fresh};
+
+// The named call is sought on a copy of the pool. What is left in the pool is open: it is the tool's own.
+pub fn answer(
+    out: &mut [u8],
+    first: State,
+    pool: &mut [u32],
+    forms: &[u32],
+    kept: &[u32],
+    task: u32,
+    n: u32,
+) -> usize
+    requires { ⌜ Fresh first (now pool) ⌝ }
+    requires { ⌜ (first .records ≡ replicate 32 idle) × (length (now kept) ≤ 2000) ⌝ }
+    requires { ⌜ Named (length (now forms)) (now kept) ⌝ }
+    requires { ⌜ 67 ≤ length (now out) ⌝ }
+    ensures { λ r. ⌜ Appended (now (out .entry)) (now (out .exit)) 0 r (asked18 (first, now (pool .entry)) (map (actAt (now (forms .entry))) (now (kept .entry))) (namedCall task n (history «machine» (first, now (pool .entry)) (map (actAt (now (forms .entry))) (now (kept .entry)))))) ⌝ }
+{
+    let s = frame_of(first);
+    let words = pool.len();
+    let mut p = copied(pool);
+    let mut r = record_space();
+    let sought = find_call(&mut p[..words], &mut r, s, forms, kept, task, n);
+    let Sought::Found(call) = sought else {
+        return put_bad(out, 0, 18);
+    };
+    let mut records = record_space();
+    put_nudge(
+        out,
+        first_nudge(pool, &mut records, s, forms, kept, task, call),
+    )
+}
