@@ -28,24 +28,24 @@ prints :
     -- answers otherwise: at action 10 the read loads V, at 11 the swap stores it
     ((1, 0), ("(open 2 1 5 (5))\n(swap 0 0 5 9)\n(again 7 (step 0))\n(read 1 0)\n(again 2 (step 1))\n(step 0)\n(step 1)\n", "(nudge 10)\n")) ∷
     -- the earliest: exchange 16 too has the read answer 7, because the block is then inactive, and decided
-    ((1, 0), ("(open 3 1 6 (5))\n(swap 0 0 5 7)\n(again 7 (step 0))\n(swap 2 0 5 9)\n(again 3 (step 2))\n(read 1 0)\n(again 2 (step 1))\n(step 0)\n(step 1)\n(step 2)\n(again 3 (step 1))\n", "(nudge 14)\n")) ∷
+    ((1, 0), ("(open 3 1 7 (5))\n(swap 0 0 5 7)\n(again 7 (step 0))\n(swap 2 0 5 9)\n(again 3 (step 2))\n(read 1 0)\n(again 2 (step 1))\n(step 0)\n(step 1)\n(step 2)\n(again 3 (step 1))\n", "(nudge 14)\n")) ∷
     -- none for the next call of the first session's reader
-    ((1, 1), ("(open 2 1 4 (5))\n(swap 0 0 5 9)\n(again 7 (step 0))\n(read 1 0)\n(again 2 (step 1))\n(step 0)\n(step 1)\n(read 1 0)\n(again 3 (step 1))\n", "(nudge none)\n")) ∷
+    ((1, 1), ("(open 2 1 5 (5))\n(swap 0 0 5 9)\n(again 7 (step 0))\n(read 1 0)\n(again 2 (step 1))\n(step 0)\n(step 1)\n(read 1 0)\n(again 3 (step 1))\n", "(nudge none)\n")) ∷
     -- does not finish: exchanged, actions 4 and 5 leave the other task in X, and the swap has more than its ten steps to do
-    ((1, 0), ("(open 2 1 4 (5))\n(swap 1 0 5 7)\n(step 1)\n(swap 0 0 5 9)\n(again 2 (step 0))\n(again 9 (step 1))\n", "(nudge 4)\n")) ∷
+    ((1, 0), ("(open 2 1 5 (5))\n(swap 1 0 5 7)\n(step 1)\n(swap 0 0 5 9)\n(again 2 (step 0))\n(again 9 (step 1))\n", "(nudge 4)\n")) ∷
     -- is not begun: no exchange with another task's action has a begin refused, but one before it may leave the same task's call before it
     -- unfinished, and then it is refused with 9
-    ((1, 1), ("(open 2 1 4 (5))\n(swap 1 0 5 7)\n(step 1)\n(swap 0 0 5 9)\n(again 2 (step 0))\n(again 9 (step 1))\n(read 1 0)\n(again 3 (step 1))\n", "(nudge 4)\n")) ∷
+    ((1, 1), ("(open 2 1 5 (5))\n(swap 1 0 5 7)\n(step 1)\n(swap 0 0 5 9)\n(again 2 (step 0))\n(again 9 (step 1))\n(read 1 0)\n(again 3 (step 1))\n", "(nudge 4)\n")) ∷
     -- none: exchanged, action 12 has the read take three steps more, to the same answer; answers are compared, not counts
-    ((2, 0), ("(open 3 1 6 (5))\n(swap 1 0 5 7)\n(again 4 (step 1))\n(swap 0 0 5 9)\n(again 3 (step 0))\n(read 2 0)\n(again 3 (step 2))\n(step 0)\n(again 3 (step 2))\n", "(nudge none)\n")) ∷
+    ((2, 0), ("(open 3 1 7 (5))\n(swap 1 0 5 7)\n(again 4 (step 1))\n(swap 0 0 5 9)\n(again 3 (step 0))\n(read 2 0)\n(again 3 (step 2))\n(step 0)\n(again 3 (step 2))\n", "(nudge none)\n")) ∷
     -- none: the begin is followed to place 0; a refused action of a task that there is not is of another task; a task's own are not exchanged
-    ((1, 0), ("(open 2 1 4 (5))\n(step 7)\n(read 1 0)\n(again 3 (step 1))\n", "(nudge none)\n")) ∷
+    ((1, 0), ("(open 2 1 5 (5))\n(step 7)\n(read 1 0)\n(again 3 (step 1))\n", "(nudge none)\n")) ∷
     -- 18: one call too far; no such task; a call that is not finished
-    ((1, 1), ("(open 2 1 4 (5))\n(step 7)\n(read 1 0)\n(again 3 (step 1))\n", "(bad 18)\n")) ∷
-    ((7, 0), ("(open 2 1 4 (5))\n(step 7)\n(read 1 0)\n(again 3 (step 1))\n", "(bad 18)\n")) ∷
-    ((1, 0), ("(open 2 1 4 (5))\n(read 1 0)\n(again 2 (step 1))\n", "(bad 18)\n")) ∷
+    ((1, 1), ("(open 2 1 5 (5))\n(step 7)\n(read 1 0)\n(again 3 (step 1))\n", "(bad 18)\n")) ∷
+    ((7, 0), ("(open 2 1 5 (5))\n(step 7)\n(read 1 0)\n(again 3 (step 1))\n", "(bad 18)\n")) ∷
+    ((1, 0), ("(open 2 1 5 (5))\n(read 1 0)\n(again 2 (step 1))\n", "(bad 18)\n")) ∷
     -- 19 before 18, the open's before 19, and 13 before the open's
-    ((0, 0), ("(open 1 1 2 (5))\n(again 2001 (step 7))\n", "(bad 19)\n")) ∷
+    ((1, 0), ("(open 2 1 5 (5))\n(again 2001 (step 0))\n", "(bad 19)\n")) ∷
     ((1, 0), ("(open 2 1 3 (5))\n(again 2001 (step 0))\n", "(bad 3)\n")) ∷
     ((1, 0), ("(open 2 1 3 (5))", "(bad 13)\n")) ∷
     []
