@@ -1,4 +1,5 @@
 use mathlib.Core.Path.{refl}
+use native.Mathlib.Omega.{arith}
 use borrow.Author.Needs.{needs}
 use Rattle.session_start.proofs.Starting.{nothing-printed, all-printed}
 use Rattle.bus_text.specs.Bus.{times, busText}
@@ -8,7 +9,7 @@ use Rattle.bus_runner.proofs.run_bus.Tie as tie
 returns : tie.Need-returns
 returns c =
     let a = c .before .before .before .args in
-    nothing-printed 2400000 (busText (times a.load-low a.load-high a.store-low a.store-high a.hardware-low a.hardware-high)) a.file.now a.out.now (c .if1 .taken)
+    nothing-printed 2400000 (busText (times a.load-low a.load-high a.store-low a.store-high a.hardware-low a.hardware-high)) a.file.now a.out.now (omega arith)
 
 returns-2 : tie.Need-returns-2
 returns-2 c =

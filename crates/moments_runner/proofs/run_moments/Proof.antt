@@ -1,4 +1,5 @@
 use mathlib.Core.Path.{refl}
+use native.Mathlib.Omega.{arith}
 use borrow.Author.Needs.{needs}
 use Rattle.moments_text.specs.Printed.{momentsText}
 use Rattle.session_start.proofs.Starting.{nothing-printed, all-printed}
@@ -6,7 +7,7 @@ use Rattle.moments_runner.proofs.run_moments.Statement.{statement}
 use Rattle.moments_runner.proofs.run_moments.Tie as tie
 
 returns : tie.Need-returns
-returns c = nothing-printed 2400000 momentsText _ _ (c .if1 .taken)
+returns c = let a = c .before .before .before .args in nothing-printed 2400000 momentsText a.file.now a.out.now (omega arith)
 
 returns-2 : tie.Need-returns-2
 returns-2 c = all-printed 2400000 momentsText _ _ _ _ (c .before .before .print-file .ensures) refl (c .before .before .before .before .if1 .left)

@@ -1,4 +1,5 @@
 use mathlib.Core.Path.{refl}
+use native.Mathlib.Omega.{arith}
 use borrow.Author.Needs.{needs}
 use Rattle.nudge_text.specs.Nudge.{nudgeText}
 use Rattle.session_start.proofs.Starting.{nothing-printed, all-printed}
@@ -6,7 +7,7 @@ use Rattle.nudge_runner.proofs.run_nudge.Statement.{statement}
 use Rattle.nudge_runner.proofs.run_nudge.Tie as tie
 
 returns : tie.Need-returns
-returns c = let a = c .before .before .before .args in nothing-printed 67 (nudgeText a.task a.n) _ _ (c .if1 .taken)
+returns c = let a = c .before .before .before .args in nothing-printed 67 (nudgeText a.task a.n) a.file.now a.out.now (omega arith)
 
 returns-2 : tie.Need-returns-2
 returns-2 c = let a = c .before .before .before .before .before .before .before .args in all-printed 67 (nudgeText a.task a.n) _ _ _ _ (c .before .before .print-file .ensures) refl (c .before .before .before .before .if1 .left)
