@@ -1,4 +1,4 @@
--- Session files and their verdicts, computed.
+-- Session files and their verdicts, P1's file among them, computed.
 use mathlib.Core.Path.{_≡_, refl}
 use mathlib.Core.Bool.{true}
 use mathlib.Core.List.{List, [], _∷_, _++_}
