@@ -9,8 +9,8 @@ use crate::times::Kinds;
 use crate::times::Ranges;
 use crate::times::total;
 use lines::Finished;
-use lines::paths::Row;
-use lines::paths::row_of;
+use paths::Row;
+use paths::row_of;
 
 // A finished call: its task, how many of the task's calls finished before it, and its two totals before rounding.
 pub struct CallTime {

@@ -6,8 +6,6 @@ use mathlib.Core.List.{List, [], _∷_}
 use Prim.Native.Nat.{ℕ, zero, suc}
 use lib.Dec.{eqb}
 use lib.ListN.{getD}
-use Rattle.lines.specs.declared.paths.Row.{Row}
-use Rattle.lines.specs.declared.paths.Row.the-variants.{Counts, NoRow}
 
 -- steps, loads, stores and hardware CAS attempts: read, active; read, decided; no from 22; yes from 26; yes from 25; no from 28 by 17, 19, 21,
 -- 25 (which no fresh opening reaches); end at 30 by 17, 19, 21, 25. That these are the counts of the lines is a theorem (`table-is`, figure/proofs/Paths.antt).
@@ -29,8 +27,3 @@ rowBelow (suc i) s h = cond (eqb (entry i 0) s && eqb (entry i 3) h) (some (entr
 -- Two rows have 15 steps and 2 hardware CAS attempts. The ninth no opening reaches, so the later one is meant.
 unfoldable pub rowOf : (steps hard : ℕ) → Option (ℕ × ℕ)
 rowOf = rowBelow 13
-
--- what a search that ended says: loads and stores, or that there is no such row
-abbrev pub rowGives : Row → Option (ℕ × ℕ)
-rowGives (Counts l s) = some (l, s)
-rowGives NoRow = none

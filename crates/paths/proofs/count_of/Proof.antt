@@ -1,8 +1,8 @@
 -- The code's table is the definition's.
 use mathlib.Core.Path.{refl}
 use borrow.Author.Needs.{needs}
-use Rattle.lines.proofs.paths.count_of.Statement.{statement}
-use Rattle.lines.proofs.paths.count_of.Tie as tie
+use Rattle.paths.proofs.count_of.Statement.{statement}
+use Rattle.paths.proofs.count_of.Tie as tie
 
 returns : tie.Need-returns
 returns c = refl

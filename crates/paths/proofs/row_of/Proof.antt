@@ -1,12 +1,12 @@
 -- The loop: what is left below finds what the whole search finds.
 use mathlib.Core.Path.{_≡_, refl}
 use Prim.Native.Nat.{_≤_}
 use Rattle.lines.specs.Paths.{rowBelow, rowOf}
-use Rattle.lines.proofs.Rows.{row-here, row-after, row-none}
+use Rattle.paths.proofs.Search.{row-here, row-after, row-none}
 use borrow.Author.Needs.{needs}
 use native.Mathlib.Omega.{arith}
-use Rattle.lines.proofs.paths.row_of.Statement.{statement}
-use Rattle.lines.proofs.paths.row_of.Tie as tie
+use Rattle.paths.proofs.row_of.Statement.{statement}
+use Rattle.paths.proofs.row_of.Tie as tie
 
 abbrev Inv-loop : tie.InvT-loop
 Inv-loop steps hard i₀ i = (i ≤ 13) × (rowBelow i steps hard ≡ rowOf steps hard)

@@ -1,7 +1,8 @@
 // The counts of each complete path of figure 2.
 ghost use mathlib.Core.Path.{_≡_};
 ghost use Prim.Native.Nat.{_<_};
-ghost use Rattle.lines.specs.Paths.{entry, rowGives, rowOf};
+ghost use Rattle.lines.specs.Paths.{entry, rowOf};
+ghost use Rattle.paths.specs.Rows.{rowGives};
 
 // Document 01's rows, the last four CR 2's: steps, loads, stores, hardware CAS attempts.
 const PATHS: [[u32; 4]; 13] = [
