@@ -66,6 +66,10 @@ pub record Kept (values : ℕ → ℕ) (g : Ghost) (b : Calls) (past : ℕ → �
 pub settled-late : {p : Phase} {u : ℕ} {A : Type 0} → p ≡ settled → p ≡ late u → A
 settled-late p q = absurd (let z : _≡_ {A = ℕ} 0 1 = cc in omega arith)
 
+-- the values of the cells, with the call that takes effect there behind all others on its cell
+abbrev pub past⁺ : (ℕ → ℕ → ℕ) → (cells : ℕ → ℕ) → Point → ℕ → ℕ → ℕ
+past⁺ past cells e = since past (cell e) (e .moment) (valueLeft (cells (cell e)) (e .call .op))
+
 module _ {values : ℕ → ℕ} {g : Ghost} {b : Calls} {past : ℕ → ℕ → ℕ} {firm : ℕ → ℕ} {ms : List Mark} (k : Kept values g b past firm ms) where
   -- THE CALLS MOVE, and none ends; what begins is not placed
 
@@ -132,7 +136,33 @@ module _ {values : ℕ → ℕ} {g : Ghost} {b : Calls} {past : ℕ → ℕ → 
     lates = lates;
   }
 
-  -- A SWAP TAKES EFFECT: task u's, at the moment m, behind all others on its cell
+  -- A POINT IS KEPT, of any call: it joins those that took effect, behind all others on its cell
+
+  module _ (e : Point) (a : Response) {placed : ℕ → Bool} {when : ℕ → ℕ} {ms' : List Mark} (joins : Joins (Entry (g .placed) (g .when) (b .pending) ms) (Entry placed when (b .pending) ms') e a)
+      (firm≤ : firm (cell e) ≤ e .moment) (says : reply (g .cells (cell e)) (e .call .op) ≡ a) where
+    pub point-kept : (phase : ℕ → Phase) (firm' : ℕ → ℕ) → ((j : ℕ) → (firm j ≤ firm' j) × (firm' j ≤ b .now)) → e .moment < firm' (cell e) → Marked (b .finished) ms' →
+        ((t : ℕ) (c : Call) → b .pending t ≡ some c → T (placed t) → (c .start .at < when t) × (when t ≤ c .last)) →
+        ((j w : ℕ) → phase j ≡ late w → Late placed (g .since) (b .pending) j w) →
+        Kept values (record { cells = apply (g .cells) (e .call .op); placed = placed; when = when; phase = phase; since = g .since }) b (past⁺ past (g .cells) e) firm' ms'
+    point-kept phase firm' up below marked stands lates = record {
+      line = changed (k .line) e a joins (g .cells (cell e)) (λ n h. k .ends (cell e) n (omega arith)) says (λ x b i q. omega (arith, k .firmed x b i, ap firm q));
+      ends = λ j n h. ends j n h (either j (cell e));
+      firmed = λ x b i. firmed x b (joins .split x b i);
+      bound = λ j. up j .1;
+      marked = marked;
+      stands = stands;
+      lates = lates;
+    }
+      where
+        ends : (j n : ℕ) → firm' j ≤ n → (j ≡ cell e) ⊎ (j ≢ cell e) → past⁺ past (g .cells) e j n ≡ apply (g .cells) (e .call .op) j
+        ends j n h (inl q) = since-after past (cell e) (e .moment) _ j n q (omega (arith, ap firm' q)) ∙ ap (λ i. valueLeft (g .cells i) (e .call .op)) (sym q) ∙ sym (apply-at (g .cells) (e .call .op) j q)
+        ends j n h (inr q) = since-other past (cell e) (e .moment) _ j n q ∙ k .ends j n (omega (arith, up j .0)) ∙ sym (apply-off (g .cells) (e .call .op) j q)
+
+        firmed : (x : Point) (b₁ : Response) → ((x ≡ e) × (b₁ ≡ a)) ⊎ Entry (g .placed) (g .when) (b .pending) ms x b₁ → x .moment < firm' (cell x)
+        firmed x b₁ (inl q) = subst (λ (x : Point). x .moment < firm' (cell x)) (sym (q .0)) below
+        firmed x b₁ (inr i) = omega (arith, k .firmed x b₁ i, up (cell x) .0)
+
+  -- A PENDING SWAP TAKES EFFECT: task u's, at the moment m
 
   module _ (u : ℕ) (c : Call) (busy : b .pending u ≡ some c) (unplaced : T (not (g .placed u))) (m : ℕ) (from-begin : c .start .at < m) (lasts : m ≤ c .last) (firm≤ : firm (cell-of c) ≤ m)
       (says : reply (g .cells (cell-of c)) (c .start .op) ≡ Yes) where
@@ -144,9 +174,6 @@ module _ {values : ℕ → ℕ} {g : Ghost} {b : Calls} {past : ℕ → ℕ → 
 
     abbrev when⁺ : ℕ → ℕ
     when⁺ = upd (g .when) u m
-
-    abbrev pub past⁺ : ℕ → ℕ → ℕ
-    past⁺ = since past (cell-of c) m (valueLeft (g .cells (cell-of c)) op)
 
     other : (t : ℕ) → T (g .placed t) → t ≢ u
     other t p e = T-not (g .placed u) unplaced (subst (λ n. T (g .placed n)) e p)
@@ -171,25 +198,11 @@ module _ {values : ℕ → ℕ} {g : Ghost} {b : Calls} {past : ℕ → ℕ → 
 
     pub effect-kept : (phase : ℕ → Phase) (firm' : ℕ → ℕ) → ((j : ℕ) → (firm j ≤ firm' j) × (firm' j ≤ b .now)) → m < firm' (cell-of c) → phase (cell-of c) ≡ settled →
         ((j w : ℕ) → phase j ≡ late w → Late (g .placed) (g .since) (b .pending) j w) →
-        Kept values (record { cells = apply (g .cells) op; placed = placed⁺; when = when⁺; phase = phase; since = g .since }) b past⁺ firm' ms
-    effect-kept phase firm' up below calm lates = record {
-      line = changed (k .line) (point c m) Yes joins (g .cells (cell-of c)) (λ n h. k .ends (cell-of c) n (omega arith)) says (λ e a i q. omega (arith, k .firmed e a i, ap firm q));
-      ends = λ j n h. ends j n h (either j (cell-of c));
-      firmed = λ e a i. firmed e a (joins .split e a i);
-      bound = λ j. up j .1;
-      marked = k .marked;
-      stands = λ t d h p. stands t d h p (either t u);
-      lates = λ j w h. let p = lates j w h in record { call = p .call; busy = p .busy; on = p .on; after-begin = p .after-begin; by-last-step = p .by-last-step; unplaced = subst (λ x. T (not x)) (sym (upd-off (g .placed) u true w (unlate j w h p))) (p .unplaced) };
-    }
+        Kept values (record { cells = apply (g .cells) op; placed = placed⁺; when = when⁺; phase = phase; since = g .since }) b (past⁺ past (g .cells) (point c m)) firm' ms
+    effect-kept phase firm' up below calm lates = point-kept (point c m) Yes joins firm≤ says phase firm' up below (k .marked)
+        (λ t d h p. stands t d h p (either t u))
+        (λ j w h. let p = lates j w h in record { call = p .call; busy = p .busy; on = p .on; after-begin = p .after-begin; by-last-step = p .by-last-step; unplaced = subst (λ x. T (not x)) (sym (upd-off (g .placed) u true w (unlate j w h p))) (p .unplaced) })
       where
-        ends : (j n : ℕ) → firm' j ≤ n → (j ≡ cell-of c) ⊎ (j ≢ cell-of c) → past⁺ j n ≡ apply (g .cells) op j
-        ends j n h (inl e) = since-after past (cell-of c) m _ j n e (omega (arith, ap firm' e)) ∙ ap (λ i. valueLeft (g .cells i) op) (sym e) ∙ sym (apply-at (g .cells) op j e)
-        ends j n h (inr e) = since-other past (cell-of c) m _ j n e ∙ k .ends j n (omega (arith, up j .0)) ∙ sym (apply-off (g .cells) op j e)
-
-        firmed : (e : Point) (a : Response) → ((e ≡ point c m) × (a ≡ Yes)) ⊎ Entry (g .placed) (g .when) (b .pending) ms e a → e .moment < firm' (cell e)
-        firmed e a (inl q) = subst (λ (e : Point). e .moment < firm' (cell e)) (sym (q .0)) below
-        firmed e a (inr i) = omega (arith, k .firmed e a i, up (cell e) .0)
-
         stands : (t : ℕ) (d : Call) → b .pending t ≡ some d → T (placed⁺ t) → (t ≡ u) ⊎ (t ≢ u) → (d .start .at < when⁺ t) × (when⁺ t ≤ d .last)
         stands t d h p (inl e) = subst (λ (d : Call). (d .start .at < when⁺ t) × (when⁺ t ≤ d .last)) (some-inj busy (rw e at h)) (omega (arith, upd-at (g .when) u m t e))
         stands t d h p (inr n) = let s = k .stands t d h (subst T (upd-off (g .placed) u true t n) p) in omega (arith, upd-off (g .when) u m t n)

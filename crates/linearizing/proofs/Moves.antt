@@ -134,13 +134,13 @@ module _ {values : ℕ → ℕ} (g : Ghost) {b : Calls} {past : ℕ → ℕ → 
         m ≤ n → phase (cell-of d) ≡ settled → ((j w : ℕ) → phase j ≡ late w → LateNow j w) →
         let g₁ = takesEffect g u (d .start .op) m in Onto values (record { cells = g₁ .cells; placed = g₁ .placed; when = g₁ .when; phase = phase; since = g .since }) going past was ms
     put-effect u d i f m low high behind says phase ups lasts calm lates = record {
-      later = past⁺ k₁ u d i f m low high behind says;
+      later = past⁺ past (g .cells) (point d m);
       kept = effect-kept k₁ u d i f m low high behind says phase (λ j. firmOf (phase j) (suc n) (g .since j)) ups (rw calm (omega arith)) calm lates;
       stays = λ j q h. go j q h (either j (cell-of d));
       up = λ j. ups j .0;
     }
       where
-        go : (j q : ℕ) → q ≤ was j → (j ≡ cell-of d) ⊎ (j ≢ cell-of d) → past⁺ k₁ u d i f m low high behind says j q ≡ past j q
+        go : (j q : ℕ) → q ≤ was j → (j ≡ cell-of d) ⊎ (j ≢ cell-of d) → past⁺ past (g .cells) (point d m) j q ≡ past j q
         go j q h (inl e) = since-before past (cell-of d) m _ j q (omega (arith, ap was e))
         go j q h (inr e) = since-other past (cell-of d) m _ j q e
 
