@@ -1,7 +1,7 @@
 // The calls of one task, followed through the actions.
+use crate::copying::copied;
 use cells::Action;
 use cells::Outcome;
-use crate::copying::copied;
 use lines::Answer;
 use machine::actions::action_at;
 use machine::actions::task_of;
@@ -184,13 +184,5 @@ pub fn find_call(
     let filled = records.len();
     let mut p = copied(pool);
     let mut r = copied(records);
-    seek(
-        &mut p[..words],
-        &mut r[..filled],
-        s,
-        forms,
-        kept,
-        task,
-        n,
-    )
+    seek(&mut p[..words], &mut r[..filled], s, forms, kept, task, n)
 }
