@@ -169,6 +169,9 @@ reached-before l t i F B = record {
   came = B .state ∙ ap (λ (x : Pool). run pool x (take i l)) (F .came);
 }
 
+pub fresh-reached : {s : State} {p : List ℕ} → Fresh s p → Reached (s .tasks) (s .cells) s p
+fresh-reached {s} {p} F = reached-before [] 0 0 F (before-start (s, p) [] 0)
+
 pub reached-words : {n v : ℕ} {s : State} {p : List ℕ} → Reached n v s p → length p ≤ 640
 reached-words {s = s} {p} r = let z = sizes s p (reached-fit r) in omega (arith, z .words, z .blocks)
 

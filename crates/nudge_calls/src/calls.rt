@@ -1,4 +1,5 @@
 // The calls of one task, followed through the actions.
+use crate::copying::copied;
 use cells::Action;
 use cells::Outcome;
 use lines::Answer;
@@ -106,8 +107,8 @@ pub fn begun_after(noted: Noted, at: usize) -> usize
     }
 }
 
-// The task's call with n finished before it. What is left of pool and records is open.
-pub fn find_call(
+// The task's call with n finished before it. Pool and records are copies, used up here.
+fn seek(
     pool: &mut [u32],
     records: &mut [u32],
     s: Frame,
@@ -162,4 +163,26 @@ pub fn find_call(
         i += 1;
     }
     Sought::Nowhere
+}
+
+// The task's call with n finished before it, sought on a copy of the state.
+pub fn find_call(
+    pool: &[u32],
+    records: &[u32],
+    s: Frame,
+    forms: &[u32],
+    kept: &[u32],
+    task: u32,
+    n: u32,
+) -> Sought
+    requires { ⌜ Reached (s .tasks) (s .cells) (stateWith s (now records)) (now pool) ⌝ }
+    requires { ⌜ (length (now records) ≡ 384) × (length (now kept) ≤ 2000) ⌝ }
+    requires { ⌜ Named (length (now forms)) (now kept) ⌝ }
+    ensures { λ r. ⌜ soughtOf r ≡ atPlace n (calls task 0 0 (history «machine» (stateWith s (now (records .entry)), now (pool .entry)) (map (actAt (now (forms .entry))) (now (kept .entry))))) ⌝ }
+{
+    let words = pool.len();
+    let filled = records.len();
+    let mut p = copied(pool);
+    let mut r = copied(records);
+    seek(&mut p[..words], &mut r[..filled], s, forms, kept, task, n)
 }

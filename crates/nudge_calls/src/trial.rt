@@ -3,6 +3,7 @@ use crate::calls::Call;
 use crate::calls::Frame;
 use crate::calls::Noted;
 use crate::calls::note;
+use crate::copying::copied;
 use crate::touching::collide;
 use machine::actions::action_at;
 use machine::advance::advance;
@@ -10,8 +11,8 @@ use nudge_moves::moved_to;
 use nudge_moves::same_answer;
 ghost use mathlib.Core.Path.{_≡_};
 ghost use mathlib.Core.List.{map};
-ghost use Prim.Native.Nat.{_+_, _-_, _≤_, _<_};
-ghost use lib.ListN.{length, take, drop, replicate};
+ghost use Prim.Native.Nat.{_+_, _≤_, _<_};
+ghost use lib.ListN.{length, drop};
 ghost use Rattle.cells.specs.Machine.{pool as «machine»};
 ghost use Rattle.history.specs.History.{history};
 ghost use Rattle.lines.specs.Answers.{answerOf};
@@ -23,22 +24,8 @@ ghost use Rattle.session_reading.specs.Reading.{actAt};
 ghost use Rattle.nudge_calls.specs.Calls.{calls, answerOfCall};
 ghost use Rattle.nudge_calls.specs.Exchange.{stateWith, tried};
 
-// The words, at the start of a buffer of their own, and zeros behind them.
-pub fn copied(from: &[u32]) -> [u32; 640]
-    requires { ⌜ length (now from) ≤ 640 ⌝ }
-    ensures { λ r. ⌜ (take (length (now (from .entry))) r ≡ now (from .entry)) × (640 ≡ length r) × (drop (length (now (from .entry))) r ≡ replicate (640 - length (now (from .entry))) 0) ⌝ }
-{
-    let mut to = [0; 640];
-    let mut i = 0;
-    while i < from.len() {
-        to[i] = from[i];
-        i += 1;
-    }
-    to
-}
-
-// Whether the call, followed to where exchange i has its begin, still answers the same. The actions up to i have been done. What is left of
-// pool and records is open.
+// Whether the call, followed to where exchange i has its begin, still answers the same. The actions up to i have been done. Pool and records
+// are copies, used up here.
 fn follow(
     pool: &mut [u32],
     records: &mut [u32],

@@ -6,6 +6,7 @@ use nudge_calls::calls::Frame;
 use nudge_calls::calls::Nudge;
 use nudge_calls::calls::begun_after;
 use nudge_calls::calls::note;
+use nudge_calls::copying::copied;
 use nudge_calls::trial::try_exchange;
 ghost use mathlib.Core.Path.{_≡_};
 ghost use mathlib.Core.List.{map};
@@ -20,8 +21,8 @@ ghost use Rattle.session_reading.specs.Reading.{actAt};
 ghost use Rattle.nudge_calls.specs.Calls.{Finishes, summaryOf};
 ghost use Rattle.nudge_calls.specs.Exchange.{stateWith, Fresh, nudgeOf};
 
-// The earliest exchange that nudges the task's finished call; none after its last step does. What is left of pool and records is open.
-pub fn first_nudge(
+// The earliest exchange that nudges the task's finished call; none after its last step does. Pool and records are copies, used up here.
+fn try_each(
     pool: &mut [u32],
     records: &mut [u32],
     s: Frame,
@@ -74,4 +75,35 @@ pub fn first_nudge(
         i += 1;
     }
     Nudge::Nowhere
+}
+
+// The earliest exchange that nudges the task's finished call, tried on a copy of the state.
+pub fn first_nudge(
+    pool: &[u32],
+    records: &[u32],
+    s: Frame,
+    forms: &[u32],
+    kept: &[u32],
+    task: u32,
+    call: Call,
+) -> Nudge
+    requires { ⌜ Fresh (stateWith s (now records)) (now pool) ⌝ }
+    requires { ⌜ (length (now records) ≡ 384) × (length (now kept) ≤ 2000) ⌝ }
+    requires { ⌜ Named (length (now forms)) (now kept) ⌝ }
+    requires { ⌜ Finishes (history «machine» (stateWith s (now records), now pool) (map (actAt (now forms)) (now kept))) task (summaryOf call) ⌝ }
+    ensures { λ r. ⌜ nudgeOf r ≡ earliest (nudges (stateWith s (now (records .entry)), now (pool .entry)) (map (actAt (now (forms .entry))) (now (kept .entry))) (call .at) (answerOf (call .answer))) 0 (length (now (kept .entry))) ⌝ }
+{
+    let words = pool.len();
+    let filled = records.len();
+    let mut p = copied(pool);
+    let mut r = copied(records);
+    try_each(
+        &mut p[..words],
+        &mut r[..filled],
+        s,
+        forms,
+        kept,
+        task,
+        call,
+    )
 }

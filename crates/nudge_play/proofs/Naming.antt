@@ -1,21 +1,23 @@
 -- The named call, sought on newly opened cells.
 use mathlib.Core.Path.{_≡_, sym, ap, subst, _∙_}
 use mathlib.Core.Option.{none, some}
-use mathlib.Core.List.{List, []}
+use mathlib.Core.List.{List}
 use Prim.Native.Nat.{ℕ}
-use lib.ListN.{length}
+use lib.ListN.{length, replicate}
 use Rattle.questions.specs.declared.State.{State}
 use Rattle.cells.specs.Machine.{Pool, pool}
 use Rattle.history.specs.History.{Action, FinishedCall, noCalls, history}
-use Rattle.refinement.specs.Reached.{Reached}
+use Rattle.lines.specs.Record.{idle}
+use Rattle.places.proofs.Placing.{idle-places}
+use Rattle.pool.specs.Words.{recordsOf}
 use Rattle.text.specs.Lines.{badLine}
 use Rattle.nudge_text.specs.Nudge.{atPlace, namedCall, nudges, earliest, nudge, nudgeLine, asked18}
 use Rattle.nudge_laws.proofs.Nudge.{named-is-finished}
 use Rattle.nudge_calls.specs.Calls.{Summary, summary, calls, Finishes}
-use Rattle.nudge_calls.specs.Exchange.{Fresh}
+use Rattle.nudge_calls.specs.declared.calls.Frame.{Frame}
+use Rattle.nudge_calls.specs.Exchange.{Fresh, stateWith}
 use Rattle.nudge_calls.proofs.Following.{Between, named-none, named-some}
 use Rattle.nudge_calls.proofs.Exchanging.{whoOf, between}
-use Rattle.nudge_calls.proofs.Steps.{before-start, reached-before}
 
 module _ {s : State} {p : List ℕ} (F : Fresh s p) (l : List Action) (t n : ℕ) where
   known : Between (whoOf l) (s .cells) noCalls (history pool (s, p) l)
@@ -42,8 +44,9 @@ module _ {s : State} {p : List ℕ} (F : Fresh s p) (l : List Action) (t n : ℕ
     sought-nudge = ap (λ (c : Summary). nudgeLine (earliest (nudges (s, p) l (c .at) (c .answer)) 0 (length l))) (sym same) ∙ ap (asked18 (s, p) l) (sym is)
 
 -- the same in other words
-pub fresh-as : {s s′ : State} {p p′ : List ℕ} → Fresh s p → s′ ≡ s → p′ ≡ p → Fresh s′ p′
-fresh-as {s} {s′} {p} {p′} F es ep = subst (λ (x : State). Fresh x p′) (sym es) (subst (λ (q : List ℕ). Fresh s q) (sym ep) F)
+pub fresh-as : {s s′ : State} {p : List ℕ} → Fresh s p → s′ ≡ s → Fresh s′ p
+fresh-as {p = p} F e = subst (λ (x : State). Fresh x p) (sym e) F
 
-pub fresh-reached : {s : State} {p : List ℕ} → Fresh s p → Reached (s .tasks) (s .cells) s p
-fresh-reached {s} {p} F = reached-before [] 0 0 F (before-start (s, p) [] 0)
+-- the frame of a state in which every task is idle, with cleared records
+pub idle-frame : {s : State} {f : Frame} {w : List ℕ} → ((w : List ℕ) → recordsOf 32 w ≡ s .records → stateWith f w ≡ s) → w ≡ replicate 384 0 → s .records ≡ replicate 32 idle → stateWith f w ≡ s
+idle-frame {w = w} same z i = same w (ap (recordsOf 32) z ∙ (idle-places ∙ sym i))

@@ -4,7 +4,6 @@ use nudge_calls::calls::Sought;
 use nudge_calls::calls::find_call;
 use nudge_calls::calls::frame_of;
 use nudge_calls::printing::put_nudge;
-use nudge_calls::trial::copied;
 use nudge_exchange::first_nudge;
 use numbered::put_bad;
 use questions::State;
@@ -21,11 +20,11 @@ ghost use Rattle.session_reading.specs.Reading.{actAt};
 ghost use Rattle.text.specs.Append.{Appended};
 ghost use Rattle.nudge_calls.specs.Exchange.{Fresh};
 
-// The named call is sought on a copy of the pool. What is left in the pool is open: it is the tool's own.
+// The named call and its first nudge, from newly opened cells.
 pub fn answer(
     out: &mut [u8],
     first: State,
-    pool: &mut [u32],
+    pool: &[u32],
     forms: &[u32],
     kept: &[u32],
     task: u32,
@@ -38,16 +37,10 @@ pub fn answer(
     ensures { λ r. ⌜ Appended (now (out .entry)) (now (out .exit)) 0 r (asked18 (first, now (pool .entry)) (map (actAt (now (forms .entry))) (now (kept .entry))) (namedCall task n (history «machine» (first, now (pool .entry)) (map (actAt (now (forms .entry))) (now (kept .entry)))))) ⌝ }
 {
     let s = frame_of(first);
-    let words = pool.len();
-    let mut p = copied(pool);
-    let mut r = record_space();
-    let sought = find_call(&mut p[..words], &mut r, s, forms, kept, task, n);
+    let records = record_space();
+    let sought = find_call(pool, &records, s, forms, kept, task, n);
     let Sought::Found(call) = sought else {
         return put_bad(out, 0, 18);
     };
-    let mut records = record_space();
-    put_nudge(
-        out,
-        first_nudge(pool, &mut records, s, forms, kept, task, call),
-    )
+    put_nudge(out, first_nudge(pool, &records, s, forms, kept, task, call))
 }

@@ -20,7 +20,7 @@ fn print_started(
     out: &mut [u8],
     first: State,
     opening: Opening,
-    pool: &mut [u32],
+    pool: &[u32],
     forms: &[u32],
     kept: &[u32],
     task: u32,
@@ -42,15 +42,7 @@ fn print_started(
             if 2000 < actions {
                 return put_bad(out, 0, 19);
             }
-            answer(
-                out,
-                first,
-                &mut pool[..words],
-                forms,
-                &kept[..actions],
-                task,
-                n,
-            )
+            answer(out, first, &pool[..words], forms, &kept[..actions], task, n)
         }
     }
 }
@@ -66,14 +58,5 @@ pub fn print_file(file: &[u8], task: u32, n: u32, out: &mut [u8]) -> usize
     let mut pool = pool_space();
     let started = open_session(file, &mut values, &mut forms, &mut kept, &mut pool);
     let opening = started.opening;
-    print_started(
-        out,
-        started.state,
-        opening,
-        &mut pool,
-        &forms,
-        &kept,
-        task,
-        n,
-    )
+    print_started(out, started.state, opening, &pool, &forms, &kept, task, n)
 }

@@ -8,8 +8,8 @@ use Rattle.nudge_play.proofs.opened.print_file.Tie as tie
 
 returns : tie.Need-returns
 returns c =
-    let a = c .before .before .before .before .before .before .before .before .before .before .before .before .before .before .before .before .before .before .before .before .before .before .before .args in
-    subst (Appended _ _ 0 _) (ap (toolStart (nudgeText a.task a.n)) (c .before .before .before .before .before .before .before .before .before .before .before .before .open-session .ensures .0)) (c .before .before .before .print-started .ensures)
+    let a = c .before .before .before .before .before .before .before .before .before .before .before .before .before .before .before .before .before .before .before .before .before .before .args in
+    subst (Appended _ _ 0 _) (ap (toolStart (nudgeText a.task a.n)) (c .before .before .before .before .before .before .before .before .before .before .before .open-session .ensures .0)) (c .before .before .print-started .ensures)
 
 pub print-file-spec : {M : Type 1} → statement M
 print-file-spec =

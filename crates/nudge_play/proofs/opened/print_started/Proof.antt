@@ -14,9 +14,6 @@ returns c =
     let h = rw (c .before .before .before .before .before .before .opening3 .given .1) at (c .before .before .before .before .before .before .before .before .before .before .before .before .pre .0) in
     rw (c .before .before .before .before .before .before .opening3 .given .1) (subst (Appended _ _ 0 _) (too-many a.task a.n _ (actAt a.forms.now) a.kept.now _ (h .1) (c .before .before .before .before .if1 .taken)) (c .before .before .put-bad3 .ensures .0))
 
-slice-relend-prefix-answer : tie.Need-slice-relend-prefix-answer
-slice-relend-prefix-answer c = let h = rw (c .before .before .before .opening3 .given .1) at (c .before .before .before .before .before .before .before .before .before .pre .0) in h .0 .within
-
 slice-aggregate-answer : tie.Need-slice-aggregate-answer
 slice-aggregate-answer c = let h = rw (c .before .before .before .before .opening3 .given .1) at (c .before .before .before .before .before .before .before .before .before .before .pre .0) in sym (length-take-le _ _ (h .0 .within))
 
@@ -37,9 +34,9 @@ returns-3 c = rw (c .before .before .before .before .before .opening2 .given .1)
 
 returns-4 : tie.Need-returns-4
 returns-4 c =
-    let a = c .before .before .before .before .before .before .before .before .before .before .before .before .before .before .before .before .args in
-    let h = rw (c .before .before .before .before .before .before .before .before .before .before .opening3 .given .1) at (c .before .before .before .before .before .before .before .before .before .before .before .before .before .before .before .before .pre .0) in
-    rw (c .before .before .before .before .before .before .before .before .before .before .opening3 .given .1) (subst (Appended _ _ 0 _) (few-enough a.task a.n _ (actAt a.forms.now) a.kept.now _ (h .1) (c .before .before .before .before .before .before .before .before .if1 .left)) (c .before .before .before .before .answer .ensures))
+    let a = c .before .before .before .before .before .before .before .before .before .before .before .before .before .before .args in
+    let h = rw (c .before .before .before .before .before .before .before .before .opening3 .given .1) at (c .before .before .before .before .before .before .before .before .before .before .before .before .before .before .pre .0) in
+    rw (c .before .before .before .before .before .before .before .before .opening3 .given .1) (subst (Appended _ _ 0 _) (few-enough a.task a.n _ (actAt a.forms.now) a.kept.now _ (h .1) (c .before .before .before .before .before .before .if1 .left)) (c .before .before .answer .ensures))
 
 pub print-started-spec : {M : Type 1} → statement M
 print-started-spec =
@@ -53,7 +50,6 @@ print-started-spec =
     (λ c κs. search needs)
     (λ c. search needs)
     returns
-    slice-relend-prefix-answer
     slice-aggregate-answer
     slice-aggregate-answer-2
     answer-requires
@@ -61,6 +57,5 @@ print-started-spec =
     returns-2
     (λ c. search needs)
     returns-3
-    (λ c. search needs)
     (λ c. search needs)
     returns-4)

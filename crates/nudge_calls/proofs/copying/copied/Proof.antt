@@ -6,8 +6,8 @@ use lib.ListN.{length, take, drop, set, replicate, length-set}
 use lib.Seq.{take-all, drop-set-lt, drop-drop}
 use borrow.Author.Needs.{needs}
 use Rattle.places.proofs.Placing.{one-more}
-use Rattle.nudge_calls.proofs.trial.copied.Statement.{statement}
-use Rattle.nudge_calls.proofs.trial.copied.Tie as tie
+use Rattle.nudge_calls.proofs.copying.copied.Statement.{statement}
+use Rattle.nudge_calls.proofs.copying.copied.Tie as tie
 
 -- behind a word that was stored
 zeros-behind : (l : List ℕ) (i n v : ℕ) → i < n → drop i l ≡ replicate (n - i) 0 → drop (i + 1) (set l i v) ≡ replicate (n - (i + 1)) 0
