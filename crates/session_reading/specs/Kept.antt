@@ -2,7 +2,7 @@
 use mathlib.Core.Path.{_≡_}
 use mathlib.Core.List.{List, [], _∷_}
 use Prim.Native.Nat.{ℕ, _+_, _*_, _≤_, _<_}
-use lib.ListN.{length, take, drop, getD}
+use lib.ListN.{length, take, drop, getD, replicate}
 use Rattle.session_reading.specs.declared.Reading.{Reading}
 use Rattle.session_reading.specs.declared.Reading.the-variants as reading
 use Rattle.session_reading.specs.declared.Listed.{Listed}
@@ -16,7 +16,7 @@ ListedWithin o p listed.Wrong = Unit {0}
 ListedWithin o p (listed.Read n next) = (n ≤ length p) × (drop n p ≡ drop n o)
 
 abbrev pub OpenedWithin : (old new : List ℕ) → Opened → Type 0
-OpenedWithin o p opened.Wrong = Unit {0}
+OpenedWithin o p opened.Wrong = p ≡ replicate (length o) 0
 OpenedWithin o p (opened.Read t c b n next) = (n ≤ length p) × (drop n p ≡ drop n o)
 
 -- each of the actions numbers a form of a table of so many words
