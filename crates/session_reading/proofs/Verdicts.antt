@@ -1,20 +1,31 @@
 -- The verdict, question by question; and which sizes of buffers give it.
-use mathlib.Core.Path.{_≡_, refl, subst}
+use mathlib.Core.Path.{_≡_, refl, sym, ap, subst, _∙_}
 use mathlib.Core.Bool.{Bool, true, false, _&&_, false≢true}
-use mathlib.Core.List.{List}
+use mathlib.Core.List.{List, _++_}
 use mathlib.Core.Option.{none}
 use Prim.Native.Nat.{ℕ, _≤_, _<_}
 use borrow.Author.Tests.{le-leb, lt-leb, eqb-true}
 use lib.Dec.{eqb}
-use lib.ListN.{length, take, drop}
+use lib.ListN.{length, take, drop, take-append-drop}
+use lib.Seq.{length-take-le}
 use Rattle.text.specs.Readers.{Reads}
 use Rattle.session_shape.specs.Shape.{shaped}
 use Rattle.session_file.specs.Session.{Opening, Forms, Verdict, bad, session, opening, lines, counts, actionsOf, formed, asked15, asked14, verdict}
 use Rattle.session_reading.specs.Reading.{sized, judged}
 use Rattle.session_reading.specs.Tables.{Buffers, buffers, cleared, over, tableOf, doneOf, namesOf, left15, left14, left, leftIn}
-use Rattle.session_reading.specs.Answers.{OpenedIs}
+use Rattle.session_reading.specs.Answers.{OpenedIs, RestIs}
+use Rattle.session_reading.specs.declared.Rest.{Rest}
 use Rattle.session_reading.specs.declared.Opened.{Opened}
 use Rattle.session_reading.specs.declared.Opened.the-variants as opened
+
+-- the three buffers, one by one
+pub alike : {v v′ f f′ a a′ : List ℕ} → v ≡ v′ → f ≡ f′ → a ≡ a′ → buffers v f a ≡ buffers v′ f′ a′
+alike p q r = λ i. record { values = p i; forms = q i; actions = r i }
+
+-- so many words stored, and what was there behind them
+pub written-over : (o p : List ℕ) (n : ℕ) → (n ≤ length p) × (drop n p ≡ drop n o) → p ≡ over (take n p) o
+written-over o p n x =
+    sym (take-append-drop n p) ∙ ap (λ (l : List ℕ). take n p ++ l) (x .1) ∙ ap (λ (k : ℕ). take n p ++ drop k o) (sym (length-take-le n p (x .0)))
 
 module _ (s : List ℕ) where
   pub opened-at : (out : List ℕ) {r : Opened} {t c b n next : ℕ} → r ≡ opened.Read t c b n next → OpenedIs s out r → Reads opening s 0 0 (record { tasks = t; cells = c; blocks = b; values = take n out }) next
@@ -22,6 +33,9 @@ module _ (s : List ℕ) where
 
   pub opened-no : (out : List ℕ) {r : Opened} → r ≡ opened.Wrong → OpenedIs s out r → opening s ≡ none
   opened-no out q x = subst (OpenedIs s out) q x
+
+  pub rest-is : (at : ℕ) (F F′ A A′ : List ℕ) {r t : Rest} → r ≡ t → RestIs s at F F′ A A′ r → RestIs s at F F′ A A′ t
+  rest-is at F F′ A A′ q x = subst (RestIs s at F F′ A A′) q x
 
   -- what is answered, and what is left in the buffers
   abbrev pub Judged : Buffers → Verdict → Buffers → Type 0
