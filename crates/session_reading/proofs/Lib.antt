@@ -7,3 +7,4 @@ pub mod Repeated
 pub mod Walks
 pub mod Forming
 pub mod Verdicts
+mod Examples
