@@ -8,7 +8,8 @@ ghost use lib.ListN.{length};
 ghost use Rattle.session_file.specs.Session.{verdict};
 ghost use Rattle.session_reading.specs.Reading.{verdictOf, judged};
 ghost use Rattle.session_reading.specs.Kept.{Within};
-ghost use Rattle.session_reading.specs.Tables.{buffers, left, leftIn};
+ghost use Rattle.session_reading.specs.Tables.{zeros, buffers, left, leftIn};
+ghost use Rattle.session_reading.specs.declared.Reading.the-variants.{Bad};
 
 // Words that a file can fill: a value takes at least 2 bytes, and a form of five words at least 8.
 const VALUES: usize = 32768;
@@ -16,6 +17,15 @@ const VALUES: usize = 32768;
 const FORMS: usize = 40960;
 
 const ACTIONS: usize = 65535;
+
+// A buffer cleared, and the answer.
+fn refused(words: &mut [u32], n: u32) -> Reading
+    ensures { λ r. ⌜ r ≡ Bad n ⌝ }
+    ensures { λ _. ⌜ now (words .exit) ≡ zeros (now (words .entry)) ⌝ }
+{
+    clear(words);
+    Reading::Bad(n)
+}
 
 fn read(file: &[u8], values: &mut [u32], kept: &mut [u32], actions: &mut [u32]) -> Reading
     requires { ⌜ length (now values) ≡ 32768 ⌝ }
@@ -34,19 +44,12 @@ fn read(file: &[u8], values: &mut [u32], kept: &mut [u32], actions: &mut [u32]) 
     let first = session_opening::opening(file, values);
     let Opened::Read(tasks, cells, blocks, count, next) = first else {
         clear(kept);
-        clear(actions);
-        return Reading::Bad(14);
+        return refused(actions, 14);
     };
     let rest = session_forms::lines(file, next, kept, actions);
     match rest {
-        Rest::Wrong => {
-            clear(values);
-            Reading::Bad(14)
-        }
-        Rest::Many => {
-            clear(values);
-            Reading::Bad(15)
-        }
+        Rest::Wrong => refused(values, 14),
+        Rest::Many => refused(values, 15),
         Rest::Kept(n) => Reading::Session {
             tasks,
             cells,
