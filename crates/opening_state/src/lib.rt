@@ -1,8 +1,8 @@
-// What an opening that is not refused leaves, but for the values: the state, and a pool of zeros.
+// The state that an opening leaves, if it is not refused.
 ghost use mathlib.Core.Path.{_≡_};
 ghost use mathlib.Core.List.{_++_};
 ghost use Prim.Native.Nat.{_-_, _≤_};
-ghost use lib.ListN.{length, replicate};
+ghost use lib.ListN.{replicate};
 ghost use Rattle.cells.specs.Open.{openState};
 use lines::records::idle;
 use questions::State;
@@ -35,15 +35,5 @@ pub fn open_state(tasks: u32, cells: u32, blocks: u32) -> State
         current: [0, 1, 2, 3, 4, 5, 6, 7, 8, 9, 10, 11, 12, 13, 14, 15],
         records: [r; 32],
         counts: open_counts(cells),
-    }
-}
-
-pub fn clear(pool: &mut [u32])
-    ensures { λ _. ⌜ now (pool .exit) ≡ replicate (length (now (pool .entry))) 0 ⌝ }
-{
-    let mut i: usize = 0;
-    while i < pool.len() {
-        pool[i] = 0;
-        i = i + 1;
     }
 }

@@ -1,5 +1,7 @@
 // The forms after the first line, and the actions that they make.
+use clearing::clear;
 use session_reading::Got;
+use session_reading::Rest;
 use session_reading::Start;
 use session_reading::Word;
 use text::Place;
@@ -8,9 +10,8 @@ ghost use mathlib.Core.List.{List};
 ghost use Prim.Native.Nat.{ℕ, _+_, _-_, _*_, _≤_, _<_};
 ghost use lib.ListN.{length, take, drop};
 ghost use Rattle.text.specs.Append.{Appended};
-ghost use Rattle.session_file.specs.Session.{times, form as «formOf», list as «listOf», line as «lineOf», lines as «linesOf», count, counts, actions as «actionsOf1», actionsOf};
-ghost use Rattle.history.specs.History.{Action};
-ghost use Rattle.session_reading.specs.Answers.{KeywordIs, HeadIs, kept, Stands, KeptIs, GotIs, Ready};
+ghost use Rattle.session_file.specs.Session.{times, form as «formOf», list as «listOf», line as «lineOf», lines as «linesOf»};
+ghost use Rattle.session_reading.specs.Answers.{KeywordIs, HeadIs, kept, Stands, KeptIs, Ready, ofForm, ofForms, GotIs, RestIs};
 
 fn keyword(s: &[u8], at: usize) -> Word
     requires { ⌜ at ≤ length (now s) ⌝ }
@@ -39,7 +40,7 @@ fn keyword(s: &[u8], at: usize) -> Word
 fn head(s: &[u8], at: usize, out: &mut [u32]) -> Start
     requires { ⌜ at ≤ length (now s) ⌝ }
     requires { ⌜ 4 ≤ length (now out) ⌝ }
-    ensures { λ r. ⌜ HeadIs (now (s .entry)) at (now (out .exit)) r ⌝ }
+    ensures { λ r. ⌜ HeadIs (now (s .entry)) at (now (out .entry)) (now (out .exit)) r ⌝ }
 {
     let word = keyword(s, at);
     let Word::Known(kind, k, a) = word else {
@@ -83,7 +84,7 @@ fn again(
     requires { ⌜ (0 < c) × (f ≤ g) ⌝ }
     requires { ⌜ (n ≤ m) × (m ≤ length (now actions)) ⌝ }
     requires { ⌜ length (now actions) ≤ 65535 ⌝ }
-    ensures { λ r. ⌜ ((F F′ A : List ℕ) (k : ℕ) (l : List Action) → length A ≡ length (now (actions .entry)) → Stands F F′ A (now (actions .entry)) f n (kept over g m) k l → KeptIs F F′ A (now (actions .exit)) f n next g (c * k) (times c l) r) ⌝ }
+    ensures { λ r. ⌜ ((F F′ A t w : List ℕ) → length A ≡ length (now (actions .entry)) → Stands F F′ A (now (actions .entry)) f n (kept over g m) t w → KeptIs F F′ A (now (actions .exit)) f n next g t (times c w) r) ⌝ }
 {
     if over {
         return Got::At(next, over, g, m);
@@ -110,7 +111,7 @@ fn form(
 ) -> Got
     requires { ⌜ depth ≤ 8 ⌝ }
     requires { ⌜ Ready (now s) at (now forms) f (now actions) n ⌝ }
-    ensures { λ r. ⌜ GotIs count «actionsOf1» («formOf» depth) (now (s .entry)) at 8 (now (forms .entry)) (now (forms .exit)) (now (actions .entry)) (now (actions .exit)) f n r ⌝ }
+    ensures { λ r. ⌜ GotIs ofForm («formOf» depth) (now (s .entry)) at 8 (now (forms .entry)) (now (forms .exit)) (now (actions .entry)) (now (actions .exit)) f n r ⌝ }
 {
     if depth == 0 {
         return Got::Bad;
@@ -154,7 +155,7 @@ fn list(
 ) -> Got
     requires { ⌜ depth ≤ 8 ⌝ }
     requires { ⌜ Ready (now s) at (now forms) f (now actions) n ⌝ }
-    ensures { λ r. ⌜ GotIs counts actionsOf («listOf» («formOf» depth)) (now (s .entry)) at 1 (now (forms .entry)) (now (forms .exit)) (now (actions .entry)) (now (actions .exit)) f n r ⌝ }
+    ensures { λ r. ⌜ GotIs ofForms («listOf» («formOf» depth)) (now (s .entry)) at 1 (now (forms .entry)) (now (forms .exit)) (now (actions .entry)) (now (actions .exit)) f n r ⌝ }
 {
     let mut i = at;
     let mut g = f;
@@ -183,7 +184,7 @@ fn list(
 // The line that starts at `at`: one form and byte 10.
 fn line(s: &[u8], at: usize, forms: &mut [u32], f: usize, actions: &mut [u32], n: usize) -> Got
     requires { ⌜ Ready (now s) at (now forms) f (now actions) n ⌝ }
-    ensures { λ r. ⌜ GotIs count «actionsOf1» «lineOf» (now (s .entry)) at 8 (now (forms .entry)) (now (forms .exit)) (now (actions .entry)) (now (actions .exit)) f n r ⌝ }
+    ensures { λ r. ⌜ GotIs ofForm «lineOf» (now (s .entry)) at 8 (now (forms .entry)) (now (forms .exit)) (now (actions .entry)) (now (actions .exit)) f n r ⌝ }
 {
     let got = form(s, at, 8, forms, f, actions, n);
     let Got::At(a, over, g, m) = got else {
@@ -197,9 +198,9 @@ fn line(s: &[u8], at: usize, forms: &mut [u32], f: usize, actions: &mut [u32], n
 }
 
 // All lines from `at` on.
-pub fn lines(s: &[u8], at: usize, forms: &mut [u32], actions: &mut [u32]) -> Got
+fn all_lines(s: &[u8], at: usize, forms: &mut [u32], actions: &mut [u32]) -> Got
     requires { ⌜ Ready (now s) at (now forms) 0 (now actions) 0 ⌝ }
-    ensures { λ r. ⌜ GotIs counts actionsOf «linesOf» (now (s .entry)) at 0 (now (forms .entry)) (now (forms .exit)) (now (actions .entry)) (now (actions .exit)) 0 0 r ⌝ }
+    ensures { λ r. ⌜ GotIs ofForms «linesOf» (now (s .entry)) at 0 (now (forms .entry)) (now (forms .exit)) (now (actions .entry)) (now (actions .exit)) 0 0 r ⌝ }
 {
     let mut i = at;
     let mut g = 0;
@@ -216,4 +217,23 @@ pub fn lines(s: &[u8], at: usize, forms: &mut [u32], actions: &mut [u32]) -> Got
         i = next;
     }
     Got::At(i, over, g, m)
+}
+
+// All lines from `at` on: forms and actions are left in the buffers, or zeros.
+pub fn lines(s: &[u8], at: usize, forms: &mut [u32], actions: &mut [u32]) -> Rest
+    requires { ⌜ Ready (now s) at (now forms) 0 (now actions) 0 ⌝ }
+    ensures { λ r. ⌜ RestIs (now (s .entry)) at (now (forms .entry)) (now (forms .exit)) (now (actions .entry)) (now (actions .exit)) r ⌝ }
+{
+    let got = all_lines(s, at, forms, actions);
+    let Got::At(_, over, _, m) = got else {
+        clear(forms);
+        clear(actions);
+        return Rest::Wrong;
+    };
+    if over {
+        clear(forms);
+        clear(actions);
+        return Rest::Many;
+    }
+    Rest::Kept(m)
 }

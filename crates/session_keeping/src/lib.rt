@@ -1,13 +1,11 @@
 // One form kept, and the action that it makes.
 use session_reading::Got;
 ghost use mathlib.Core.Path.{_≡_};
-ghost use mathlib.Core.Bool.{cond};
-ghost use mathlib.Core.List.{[], _∷_};
+ghost use mathlib.Core.Bool.{true, false, cond};
 ghost use Prim.Native.Nat.{_+_, _*_, _≤_, _<_};
 ghost use lib.Dec.{leb};
 ghost use lib.ListN.{length, getD, set};
-ghost use Rattle.session_reading.specs.Reading.{acted};
-ghost use Rattle.session_reading.specs.Answers.{KeptIs};
+ghost use Rattle.session_reading.specs.declared.Got.the-variants.{At};
 
 // Keeps a form of five words, read up to `next`, and one action of it, if there is room for the action.
 pub fn keep(
@@ -23,8 +21,9 @@ pub fn keep(
     requires { ⌜ f < 65536 ⌝ }
     requires { ⌜ n ≤ length (now actions) ⌝ }
     requires { ⌜ 4 ≤ length (now numbers) ⌝ }
-    ensures { λ r. ⌜ KeptIs (now (forms .entry)) (now (forms .exit)) (now (actions .entry)) (now (actions .exit)) f n next (f + 1) 1 (acted kind (now (numbers .entry)) ∷ []) r ⌝ }
+    ensures { λ r. ⌜ r ≡ cond (leb (length (now (actions .entry))) n) (At next true f n) (At next false (f + 1) (n + 1)) ⌝ }
     ensures { λ _. ⌜ now (forms .exit) ≡ cond (leb (length (now (actions .entry))) n) (now (forms .entry)) (set (set (set (set (set (now (forms .entry)) (5 * f) kind) (5 * f + 1) (getD (now (numbers .entry)) 0 0)) (5 * f + 2) (getD (now (numbers .entry)) 1 0)) (5 * f + 3) (getD (now (numbers .entry)) 2 0)) (5 * f + 4) (getD (now (numbers .entry)) 3 0)) ⌝ }
+    ensures { λ _. ⌜ now (actions .exit) ≡ cond (leb (length (now (actions .entry))) n) (now (actions .entry)) (set (now (actions .entry)) n f) ⌝ }
 {
     if actions.len() <= n {
         return Got::At(next, true, f, n);

@@ -1,4 +1,5 @@
 // The first line: (open N V B (values)).
+use clearing::clear;
 use session_reading::Listed;
 use session_reading::Opened;
 use text::Numeral;
@@ -57,6 +58,7 @@ fn lead(s: &[u8], out: &mut [u32]) -> Place
     readers::starts_with(s, b, b" (")
 }
 
+// Stores the values; nothing but zeros where the line is wrong.
 pub fn opening(s: &[u8], out: &mut [u32]) -> Opened
     requires { ⌜ length (now s) ≤ 2 * length (now out) ⌝ }
     ensures { λ r. ⌜ OpenedIs (now (s .entry)) (now (out .exit)) r ⌝ }
@@ -65,14 +67,17 @@ pub fn opening(s: &[u8], out: &mut [u32]) -> Opened
     let mut n = [0u32; 4];
     let start = lead(s, &mut n);
     let Place::At(c) = start else {
+        clear(out);
         return Opened::Wrong;
     };
     let read = values(s, c, out);
     let Listed::Read(count, d) = read else {
+        clear(out);
         return Opened::Wrong;
     };
     let end = readers::starts_with(s, d, b")\n");
     let Place::At(next) = end else {
+        clear(out);
         return Opened::Wrong;
     };
     Opened::Read(n[0], n[1], n[2], count, next)

@@ -1,12 +1,15 @@
 // Reads a session file: the first of questions 12 to 15 that is answered no, or the session.
-use session_reading::Got;
+use clearing::clear;
 use session_reading::Opened;
 use session_reading::Reading;
+use session_reading::Rest;
 ghost use mathlib.Core.Path.{_≡_};
 ghost use lib.ListN.{length};
 ghost use Rattle.session_file.specs.Session.{verdict};
 ghost use Rattle.session_reading.specs.Reading.{verdictOf, judged};
-ghost use Rattle.session_reading.specs.Kept.{Within, Left};
+ghost use Rattle.session_reading.specs.Kept.{Within};
+ghost use Rattle.session_reading.specs.Tables.{zeros, buffers, left, leftIn};
+ghost use Rattle.session_reading.specs.declared.Reading.the-variants.{Bad};
 
 // Words that a file can fill: a value takes at least 2 bytes, and a form of five words at least 8.
 const VALUES: usize = 32768;
@@ -15,13 +18,22 @@ const FORMS: usize = 40960;
 
 const ACTIONS: usize = 65535;
 
+// A buffer cleared, and the answer.
+fn refused(words: &mut [u32], n: u32) -> Reading
+    ensures { λ r. ⌜ r ≡ Bad n ⌝ }
+    ensures { λ _. ⌜ now (words .exit) ≡ zeros (now (words .entry)) ⌝ }
+{
+    clear(words);
+    Reading::Bad(n)
+}
+
 fn read(file: &[u8], values: &mut [u32], kept: &mut [u32], actions: &mut [u32]) -> Reading
     requires { ⌜ length (now values) ≡ 32768 ⌝ }
     requires { ⌜ length (now kept) ≡ 40960 ⌝ }
     requires { ⌜ length (now actions) ≡ 65535 ⌝ }
     ensures { λ r. ⌜ verdictOf r (now (values .exit)) (now (kept .exit)) (now (actions .exit)) ≡ verdict (now (file .entry)) ⌝ }
     ensures { λ r. ⌜ Within r (now (values .exit)) (now (kept .exit)) (now (actions .exit)) ⌝ }
-    ensures { λ r. ⌜ Left r (now (values .entry)) (now (values .exit)) (now (kept .entry)) (now (kept .exit)) (now (actions .entry)) (now (actions .exit)) ⌝ }
+    ensures { λ _. ⌜ buffers (now (values .exit)) (now (kept .exit)) (now (actions .exit)) ≡ left (now (file .entry)) (buffers (now (values .entry)) (now (kept .entry)) (now (actions .entry))) ⌝ }
 {
     if 65536 < file.len() {
         return Reading::Bad(12);
@@ -31,27 +43,25 @@ fn read(file: &[u8], values: &mut [u32], kept: &mut [u32], actions: &mut [u32]) 
     }
     let first = session_opening::opening(file, values);
     let Opened::Read(tasks, cells, blocks, count, next) = first else {
-        return Reading::Bad(14);
+        clear(kept);
+        return refused(actions, 14);
     };
     let rest = session_forms::lines(file, next, kept, actions);
-    let Got::At(_, over, _, n) = rest else {
-        return Reading::Bad(14);
-    };
-    if over {
-        return Reading::Bad(15);
-    }
-    Reading::Session {
-        tasks,
-        cells,
-        blocks,
-        values: count,
-        actions: n,
+    match rest {
+        Rest::Wrong => refused(values, 14),
+        Rest::Many => refused(values, 15),
+        Rest::Kept(n) => Reading::Session {
+            tasks,
+            cells,
+            blocks,
+            values: count,
+            actions: n,
+        },
     }
 }
 
-// The session's values, its forms of five words (kind 1 read, 2 swap, another step; then its numbers) and its actions, each
-// the number of its form, are left in the buffers. Open is only what nobody reads: a step's kind, the words that a form's
-// kind does not have, whether equal forms share a number, and all three buffers after 14 or 15.
+// The session's values, its forms of five words (kind 1 read, 2 swap, 3 step; then its numbers and zeros) and its actions,
+// each the number of its form, are left in the buffers, and behind them what was there. After 14 or 15 there are zeros.
 pub fn read_session(
     file: &[u8],
     values: &mut [u32],
@@ -60,7 +70,7 @@ pub fn read_session(
 ) -> Reading
     ensures { λ r. ⌜ verdictOf r (now (values .exit)) (now (forms .exit)) (now (actions .exit)) ≡ judged (length (now (values .entry))) (length (now (forms .entry))) (length (now (actions .entry))) (now (file .entry)) ⌝ }
     ensures { λ r. ⌜ Within r (now (values .exit)) (now (forms .exit)) (now (actions .exit)) ⌝ }
-    ensures { λ r. ⌜ Left r (now (values .entry)) (now (values .exit)) (now (forms .entry)) (now (forms .exit)) (now (actions .entry)) (now (actions .exit)) ⌝ }
+    ensures { λ _. ⌜ buffers (now (values .exit)) (now (forms .exit)) (now (actions .exit)) ≡ leftIn (now (file .entry)) (buffers (now (values .entry)) (now (forms .entry)) (now (actions .entry))) ⌝ }
 {
     if (values.len() == VALUES) & ((forms.len() == FORMS) & (actions.len() == ACTIONS)) {
         return read(file, values, forms, actions);

@@ -1,30 +1,37 @@
 -- The cases of a form, at a place of the text.
 use mathlib.Core.Path.{_≡_, refl, sym, ap, subst, _∙_}
-use mathlib.Core.List.{List}
+use mathlib.Core.List.{List, [], _∷_}
 use mathlib.Core.Option.{none}
-use Prim.Native.Nat.{ℕ, zero, suc, _-_}
+use Prim.Native.Nat.{ℕ, suc, _+_, _-_}
 use native.Mathlib.Omega.{arith}
-use lib.ListN.{take, drop, getD}
-use lib.Seq.{getD-take}
+use lib.ListN.{take, drop, getD, replicate}
+use lib.Seq.{getD-take, getD-drop}
 use Rattle.text.specs.Readers.{Reader, Reads, pure, _>>=_, _>>_}
-use Rattle.session_file.specs.Session.{Kind, reading, swapping, stepping, repeating, arity, head, close, Forms, act, again, body, list, form, actions, actionsOf, times}
+use Rattle.session_file.specs.Session.{Kind, reading, swapping, stepping, repeating, arity, head, close, Forms, act, again, body, list, form}
 use Rattle.session_reading.specs.Reading.{acted}
+use Rattle.session_reading.specs.Tables.{tableOf, done}
 use Rattle.session_reading.specs.Answers.{kindNumber, HeadIs}
 use Rattle.session_reading.specs.declared.Start.{Start}
 use Rattle.session_reading.specs.declared.Start.the-variants as start
-use Rattle.session_reading.proofs.Repeated.{times-none}
 
-pub head-at : (s : List ℕ) (at : ℕ) (out : List ℕ) {r : Start} {n next : ℕ} → r ≡ start.Known n next → HeadIs s at out r → (kind : Kind) × (n ≡ kindNumber kind) × Reads head s at 7 (kind, take (arity kind) out) next
-head-at s at out q x = subst (HeadIs s at out) q x
+pub head-at : (s : List ℕ) (at : ℕ) (o p : List ℕ) {r : Start} {n next : ℕ} → r ≡ start.Known n next → HeadIs s at o p r → (kind : Kind) × (n ≡ kindNumber kind) × Reads head s at 7 (kind, take (arity kind) p) next × (drop (arity kind) p ≡ drop (arity kind) o)
+head-at s at o p q x = subst (HeadIs s at o p) q x
 
-pub head-no : (s : List ℕ) (at : ℕ) (out : List ℕ) {r : Start} → r ≡ start.Unknown → HeadIs s at out r → head (drop at s) ≡ none
-head-no s at out q x = subst (HeadIs s at out) q x
+pub head-no : (s : List ℕ) (at : ℕ) (o p : List ℕ) {r : Start} → r ≡ start.Unknown → HeadIs s at o p r → head (drop at s) ≡ none
+head-no s at o p q x = subst (HeadIs s at o p) q x
 
--- again c makes its forms' actions c times
-pub actions-again : (c : ℕ) (l : Forms) → actions (again c l) ≡ times c (actionsOf l)
-unfolding actions
-actions-again zero l = sym (times-none (actionsOf l))
-actions-again (suc c) l = refl
+-- a number that a kind does not have is what it was
+unread : (k i : ℕ) (o p : List ℕ) → drop k p ≡ drop k o → getD p (k + i) 0 ≡ getD o (k + i) 0
+unread k i o p e = sym (getD-drop k p i 0) ∙ ap (λ (l : List ℕ). getD l i 0) e ∙ getD-drop k o i 0
+
+-- so with zeros at first the five words are those of the action
+pub act-table : (k : Kind) (n : ℕ) (out : List ℕ) → n ≡ kindNumber k → (kindNumber k ≡ 4 → ⊥) → drop (arity k) out ≡ drop (arity k) (replicate {A = ℕ} 4 0) → tableOf (done (act (acted (kindNumber k) out))) ≡ n ∷ getD out 0 0 ∷ getD out 1 0 ∷ getD out 2 0 ∷ getD out 3 0 ∷ []
+unfolding done tableOf
+act-table reading n out q h e = rw (q, unread 2 0 (replicate {A = ℕ} 4 0) out e, unread 2 1 (replicate {A = ℕ} 4 0) out e)
+act-table swapping n out q h e = rw q
+act-table stepping n out q h e =
+    rw (q, unread 1 0 (replicate {A = ℕ} 4 0) out e, unread 1 1 (replicate {A = ℕ} 4 0) out e, unread 1 2 (replicate {A = ℕ} 4 0) out e)
+act-table repeating n out q h e = absurd (h refl)
 
 again-body : (k : Kind) (out : List ℕ) (inner : Reader Forms) → kindNumber k ≡ 4 → body inner k (take (arity k) out) ≡ (inner >>= λ l. pure (again (getD out 0 0) l))
 unfolding body

@@ -2,10 +2,9 @@ pub mod Counted
 pub mod Arms
 pub mod Turns
 pub mod Denoting
-pub mod Growing
 pub mod Standing
 pub mod Repeated
 pub mod Walks
 pub mod Forming
-pub mod Keeping
 pub mod Verdicts
+mod Examples

@@ -9,24 +9,25 @@ use lib.ListN.{length, take, drop, drop-of-length-le}
 use lib.Seq.{length-take-le}
 use Rattle.text.proofs.Reading.{drop-byte}
 use Rattle.text.specs.Readers.{Reader, Reads}
-use Rattle.session_file.specs.Session.{Form, Forms, empty, with, many, finish, count, counts, actions, actionsOf}
-use Rattle.history.specs.History.{Action}
-use Rattle.session_reading.specs.Answers.{Kept, kept, Stands, KeptIs, Ready, GotIs}
+use Rattle.session_file.specs.Session.{Form, Forms, empty, with, many, finish}
+use Rattle.session_reading.specs.Answers.{Kept, kept, Stands, KeptIs, Ready, Account, ofForm, ofForms, GotIs}
+use Rattle.session_reading.specs.Tables.{tableOf, done, doneOf, names, namesOf}
 use Rattle.session_reading.specs.declared.Got.{Got}
 use Rattle.session_reading.specs.declared.Got.the-variants as got
+use Rattle.session_reading.proofs.Denoting.{length-table, table-append}
 use Rattle.session_reading.proofs.Standing.{stands-nothing, stands-join}
 use Rattle.session_reading.proofs.Turns.{Turn, turn-start, turn-end, turn-stop, turn-more}
 
 -- what an arm of a match on an answer knows
-module _ {X : Type 0} (count : X → ℕ) (acts : X → List Action) (p : Reader X) (s : List ℕ) (at long : ℕ) (F F′ A A′ : List ℕ) (f n : ℕ) where
-  pub got-at : {r : Got} {next : ℕ} {o : Bool} {g m : ℕ} → r ≡ got.At next o g m → GotIs count acts p s at long F F′ A A′ f n r → (x : X) × Reads p s at long x next × Stands F F′ A A′ f n (kept o g m) (count x) (acts x) × (8 * g ≤ next)
-  got-at q x = subst (GotIs count acts p s at long F F′ A A′ f n) q x
+module _ {X : Type 0} (c : Account X) (p : Reader X) (s : List ℕ) (at long : ℕ) (F F′ A A′ : List ℕ) (f n : ℕ) where
+  pub got-at : {r : Got} {next : ℕ} {o : Bool} {g m : ℕ} → r ≡ got.At next o g m → GotIs c p s at long F F′ A A′ f n r → (x : X) × Reads p s at long x next × Stands F F′ A A′ f n (kept o g m) (c .table x) (c .words f x) × (8 * g ≤ next)
+  got-at q x = subst (GotIs c p s at long F F′ A A′ f n) q x
 
-  pub got-no : {r : Got} → r ≡ got.Bad → GotIs count acts p s at long F F′ A A′ f n r → p (drop at s) ≡ none
-  got-no q x = subst (GotIs count acts p s at long F F′ A A′ f n) q x
+  pub got-no : {r : Got} → r ≡ got.Bad → GotIs c p s at long F F′ A A′ f n r → p (drop at s) ≡ none
+  got-no q x = subst (GotIs c p s at long F F′ A A′ f n) q x
 
   -- an answer that hands on what is kept
-  pub kept-got : {next : ℕ} (most : ℕ) (x : X) → Reads p s at long x next → 8 * most ≤ next → (r : Got) → KeptIs F F′ A A′ f n next most (count x) (acts x) r → GotIs count acts p s at long F F′ A A′ f n r
+  pub kept-got : {next : ℕ} (most : ℕ) (x : X) → Reads p s at long x next → 8 * most ≤ next → (r : Got) → KeptIs F F′ A A′ f n next most (c .table x) (c .words f x) r → GotIs c p s at long F F′ A A′ f n r
   kept-got most x y h got.Bad k = absurd k
   kept-got most x y h (got.At to o g m) k = (x, rw (k .0) y, k .1, omega (arith, k .0, k .2))
 
@@ -50,10 +51,10 @@ module _ (each : Reader Form) (end : Reader (Unit {0})) (s : List ℕ) (at : ℕ
     pub same-actions : length A′ ≡ length A
     pub l : Forms
     pub turn : Turn with each end whole s at i l
-    pub stands : Stands F F′ A A′ f n (kept over g m) (counts l) (actionsOf l)
+    pub stands : Stands F F′ A A′ f n (kept over g m) (ofForms .table l) (namesOf f l)
 
   pub walk-start : Ready s at F f A n → Walk F A at f n false
-  unfolding counts actionsOf
+  unfolding doneOf namesOf tableOf
   walk-start r = record {
     ready = r;
     same-forms = refl;
@@ -64,15 +65,15 @@ module _ (each : Reader Form) (end : Reader (Unit {0})) (s : List ℕ) (at : ℕ
   }
 
   module _ {F′ A′ : List ℕ} {i g m : ℕ} {over : Bool} (w : Walk F′ A′ i g m over) where
-    pub walk-end : {next : ℕ} (long : ℕ) → end (drop i s) ≡ some (tt, drop next s) → i + long ≤ next → next ≤ length s → GotIs counts actionsOf (many with each end empty) s at long F F′ A A′ f n (got.At next over g m)
+    pub walk-end : {next : ℕ} (long : ℕ) → end (drop i s) ≡ some (tt, drop next s) → i + long ≤ next → next ≤ length s → GotIs ofForms (many with each end empty) s at long F F′ A A′ f n (got.At next over g m)
     walk-end long e h k =
         (w .l, record { finds = turn-end with each end (w .turn) e; past = omega (arith, w .turn .from); within = k }, w .stands, omega (arith, w .ready .few))
 
     pub walk-stop : end (drop i s) ≡ none → each (drop i s) ≡ none → whole ≡ none
     walk-stop e f = turn-stop with each end (w .turn) e f
 
-    pub walk-more : {F″ A″ : List ℕ} {x : Form} {j : ℕ} {b : Kept} → end (drop i s) ≡ none → each (drop i s) ≡ some (x, drop j s) → i < j → j ≤ length s → Stands F′ F″ A′ A″ g m b (count x) (actions x) → 8 * b .forms ≤ j → length F″ ≡ length F′ → length A″ ≡ length A′ → Walk F″ A″ j (b .forms) (b .actions) (over || b .over)
-    unfolding counts actionsOf
+    pub walk-more : {F″ A″ : List ℕ} {x : Form} {j : ℕ} {b : Kept} → end (drop i s) ≡ none → each (drop i s) ≡ some (x, drop j s) → i < j → j ≤ length s → Stands F′ F″ A′ A″ g m b (ofForm .table x) (names g x) → 8 * b .forms ≤ j → length F″ ≡ length F′ → length A″ ≡ length A′ → Walk F″ A″ j (b .forms) (b .actions) (over || b .over)
+    unfolding doneOf namesOf
     walk-more {x = x} {j = j} e q h k y few p o =
         let r = w .ready in
         record {
@@ -81,7 +82,7 @@ module _ (each : Reader Form) (end : Reader (Unit {0})) (s : List ℕ) (at : ℕ
           same-actions = o ∙ w .same-actions;
           l = with (w .l) x;
           turn = turn-more with each end (w .turn) e q h k;
-          stands = stands-join (w .same-forms) (w .same-actions) (w .stands) y;
+          stands = rw (table-append (doneOf (w .l)) (done x)) (stands-join (λ i. names i x) (length (doneOf (w .l))) (w .same-forms) (w .same-actions) (length-table (doneOf (w .l))) (w .stands) y);
         }
 
 -- what ends the lines

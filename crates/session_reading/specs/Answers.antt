@@ -1,19 +1,17 @@
 -- What the parts of the reader answer, against the definition's readers.
 use mathlib.Core.Path.{_≡_}
 use mathlib.Core.Bool.{Bool, true, false}
-use mathlib.Core.List.{List, [], _∷_}
+use mathlib.Core.List.{List}
 use mathlib.Core.Option.{none}
 use Prim.Native.Nat.{ℕ, _+_, _*_, _≤_, _<_}
 use lib.ListN.{length, take, drop}
-use Rattle.text.specs.Append.{Stored}
+use Rattle.text.specs.Append.{Appended}
 use Rattle.text.specs.Bytes.{bytes}
 use Rattle.text.specs.Readers.{Reader, Reads, word as literal}
 use Rattle.text.specs.declared.Place.{Place}
 use Rattle.text.specs.declared.Place.the-variants as place
-use Rattle.session_file.specs.Session.{Kind, reading, swapping, stepping, repeating, numbers, values, opening, keyword, arity, head}
-use Rattle.history.specs.History.{Action}
-use Rattle.session_reading.specs.Reading.{actAt}
-use Rattle.session_reading.specs.Kept.{Grows}
+use Rattle.session_file.specs.Session.{Kind, reading, swapping, stepping, repeating, numbers, values, opening, keyword, arity, head, Form, Forms, counts, lines}
+use Rattle.session_reading.specs.Tables.{tableOf, done, doneOf, names, namesOf, over, zeros}
 use Rattle.session_reading.specs.declared.Listed.{Listed}
 use Rattle.session_reading.specs.declared.Listed.the-variants as listed
 use Rattle.session_reading.specs.declared.Opened.{Opened}
@@ -24,6 +22,8 @@ use Rattle.session_reading.specs.declared.Start.{Start}
 use Rattle.session_reading.specs.declared.Start.the-variants as start
 use Rattle.session_reading.specs.declared.Got.{Got}
 use Rattle.session_reading.specs.declared.Got.the-variants as got
+use Rattle.session_reading.specs.declared.Rest.{Rest}
+use Rattle.session_reading.specs.declared.Rest.the-variants as rest
 
 -- numbers, values and the first line: stored in the buffer from its start
 abbrev pub NumbersAre : List ℕ → (at k : ℕ) → List ℕ → Place → Type 0
@@ -60,19 +60,16 @@ abbrev pub KeywordIs : List ℕ → ℕ → Word → Type 0
 KeywordIs s at word.Unknown = keyword (drop at s) ≡ none
 KeywordIs s at (word.Known n k next) = (kind : Kind) × (n ≡ kindNumber kind) × (k ≡ arity kind) × Reads keyword s at 5 kind next
 
-abbrev pub HeadIs : List ℕ → ℕ → List ℕ → Start → Type 0
-HeadIs s at out start.Unknown = head (drop at s) ≡ none
-HeadIs s at out (start.Known n next) = (kind : Kind) × (n ≡ kindNumber kind) × Reads head s at 7 (kind, take (arity kind) out) next
+-- behind its numbers the buffer is as it was
+abbrev pub HeadIs : List ℕ → ℕ → (old new : List ℕ) → Start → Type 0
+HeadIs s at o p start.Unknown = head (drop at s) ≡ none
+HeadIs s at o p (start.Known n next) =
+    (kind : Kind) × (n ≡ kindNumber kind) × Reads head s at 7 (kind, take (arity kind) p) next × (drop (arity kind) p ≡ drop (arity kind) o)
 
--- words that number forms of a table, and the actions they make
-pub data Denotes (table : List ℕ) : List ℕ → List Action → Type 0 where
-  none-denoted : Denotes table [] []
-  one-denoted : {i : ℕ} {w : List ℕ} {a : Action} {l : List Action} → 5 * i + 5 ≤ length table → actAt table i ≡ a → Denotes table w l → Denotes table (i ∷ w) (a ∷ l)
-
--- more actions than there is room for, or just those kept
-abbrev pub Far : Bool → (room n m k : ℕ) → (table words : List ℕ) → List Action → Type 0
-Far true room n m k table words l = room < n + k
-Far false room n m k table words l = (m ≡ n + k) × Denotes table words l
+-- more actions than there is room for, or just these forms and actions appended
+abbrev pub Far : Bool → (F F′ A A′ : List ℕ) → (f n g m : ℕ) → (table words : List ℕ) → Type 0
+Far true F F′ A A′ f n g m table words = length A < n + length words
+Far false F F′ A A′ f n g m table words = Appended F F′ (5 * f) (5 * g) table × Appended A A′ n m words
 
 -- more actions than fit, or not, and how many forms and actions are kept
 pub record Kept : Type 0 where
@@ -83,24 +80,20 @@ pub record Kept : Type 0 where
 abbrev pub kept : Bool → (forms actions : ℕ) → Kept
 kept o f n = record { over = o; forms = f; actions = n }
 
--- k actions, l, read with f forms and n actions kept before them, and what is kept then of the buffers F and A; nothing else
--- is changed where all fits, and nothing at all where there is no room
-pub record Stands (F F′ A A′ : List ℕ) (f n : ℕ) (b : Kept) (k : ℕ) (l : List Action) : Type 0 where
-  pub table : List ℕ
-  pub words : List ℕ
-  pub forms : Stored F F′ (5 * f) (5 * b .forms) table
-  pub acts : Stored A A′ n (b .actions) words
+-- a table and actions that number its forms, read with f forms and n actions kept before them, and what is kept then of
+-- the buffers F and A; nothing is changed where there is no room
+pub record Stands (F F′ A A′ : List ℕ) (f n : ℕ) (b : Kept) (table words : List ℕ) : Type 0 where
+  pub more-forms : f ≤ b .forms
+  pub more-actions : n ≤ b .actions
   pub fits : 5 * b .forms ≤ length F
   pub room : b .actions ≤ length A
-  pub far : Far (b .over) (length A) n (b .actions) k (take (5 * b .forms) F′) words l
-  pub grows : b .over ≡ false → Grows f words (b .forms)
+  pub far : Far (b .over) F F′ A A′ f n (b .forms) (b .actions) table words
   pub still : length A ≤ n → (F′ ≡ F) × (A′ ≡ A)
-  pub rest : b .over ≡ false → (drop (5 * b .forms) F′ ≡ drop (5 * b .forms) F) × (drop (b .actions) A′ ≡ drop (b .actions) A)
 
 -- the same of an answer, which hands on the place next and keeps at most so many forms
-abbrev pub KeptIs : (F F′ A A′ : List ℕ) → (f n next most k : ℕ) → List Action → Got → Type 0
-KeptIs F F′ A A′ f n next most k l got.Bad = ⊥
-KeptIs F F′ A A′ f n next most k l (got.At to o g m) = (to ≡ next) × Stands F F′ A A′ f n (kept o g m) k l × (g ≤ most)
+abbrev pub KeptIs : (F F′ A A′ : List ℕ) → (f n next most : ℕ) → (table words : List ℕ) → Got → Type 0
+KeptIs F F′ A A′ f n next most table words got.Bad = ⊥
+KeptIs F F′ A A′ f n next most table words (got.At to o g m) = (to ≡ next) × Stands F F′ A A′ f n (kept o g m) table words × (g ≤ most)
 
 -- each form takes at least 8 bytes of s
 pub record Ready (s : List ℕ) (at : ℕ) (F : List ℕ) (f : ℕ) (A : List ℕ) (n : ℕ) : Type 0 where
@@ -111,8 +104,27 @@ pub record Ready (s : List ℕ) (at : ℕ) (F : List ℕ) (f : ℕ) (A : List �
   pub room : n ≤ length A
   pub limit : length A ≤ 65535
 
-module _ {X : Type 0} (count : X → ℕ) (actions : X → List Action) (p : Reader X) where
+-- what is kept of one form, and of several
+pub record Account (X : Type 0) : Type 0 where
+  pub table : X → List ℕ
+  pub words : ℕ → X → List ℕ
+
+abbrev pub ofForm : Account Form
+ofForm = record { table = λ x. tableOf (done x); words = names }
+
+abbrev pub ofForms : Account Forms
+ofForms = record { table = λ l. tableOf (doneOf l); words = namesOf }
+
+module _ {X : Type 0} (a : Account X) (p : Reader X) where
   abbrev pub GotIs : List ℕ → (at long : ℕ) → (F F′ A A′ : List ℕ) → (f n : ℕ) → Got → Type 0
   GotIs s at long F F′ A A′ f n got.Bad = p (drop at s) ≡ none
   GotIs s at long F F′ A A′ f n (got.At next o g m) =
-      (x : X) × Reads p s at long x next × Stands F F′ A A′ f n (kept o g m) (count x) (actions x) × (8 * g ≤ next)
+      (x : X) × Reads p s at long x next × Stands F F′ A A′ f n (kept o g m) (a .table x) (a .words f x) × (8 * g ≤ next)
+
+-- the lines after the first; zeros where they are not kept
+abbrev pub RestIs : List ℕ → (at : ℕ) → (F F′ A A′ : List ℕ) → Rest → Type 0
+RestIs s at F F′ A A′ rest.Wrong = (lines (drop at s) ≡ none) × (F′ ≡ zeros F) × (A′ ≡ zeros A)
+RestIs s at F F′ A A′ rest.Many =
+    (l : Forms) × (next : ℕ) × Reads lines s at 0 l next × (length A < counts l) × (F′ ≡ zeros F) × (A′ ≡ zeros A)
+RestIs s at F F′ A A′ (rest.Kept n) =
+    (l : Forms) × (next : ℕ) × Reads lines s at 0 l next × (n ≡ counts l) × (n ≤ length A) × (F′ ≡ over (tableOf (doneOf l)) F) × (A′ ≡ over (namesOf 0 l) A)

@@ -1,5 +1,5 @@
 -- What the reader answers, as a verdict.
-use mathlib.Core.Bool.{cond, _&&_}
+use mathlib.Core.Bool.{Bool, cond, _&&_}
 use mathlib.Core.List.{List, map}
 use Prim.Native.Nat.{ℕ, _+_, _*_}
 use lib.Dec.{eqb}
@@ -25,6 +25,9 @@ verdictOf (reading.Bad n) v f a = bad n
 verdictOf (reading.Session t c b i n) v f a =
     session (record { tasks = t; cells = c; blocks = b; values = take i v }) (map (actAt f) (take n a))
 
+abbrev pub sized : (values forms actions : ℕ) → Bool
+sized v f a = eqb v 32768 && (eqb f 40960 && eqb a 65535)
+
 -- buffers of other sizes: 0, the number of no question
 unfoldable pub judged : (values forms actions : ℕ) → List ℕ → Verdict
-judged v f a s = cond (eqb v 32768 && (eqb f 40960 && eqb a 65535)) (verdict s) (bad 0)
+judged v f a s = cond (sized v f a) (verdict s) (bad 0)

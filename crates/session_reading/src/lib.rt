@@ -42,3 +42,10 @@ pub enum Got {
     Bad,
     At(usize, bool, usize, usize),
 }
+
+// The lines after the first: wrong, more actions than fit, or how many actions are kept.
+pub enum Rest {
+    Wrong,
+    Many,
+    Kept(usize),
+}

@@ -24,7 +24,7 @@ use Rattle.session_reading.specs.Kept.{Named}
 use Rattle.session_reading.proofs.Verdicts.{right-sizes}
 use Rattle.session_text.specs.Printed.{blank, poolWords}
 use Rattle.session_text.specs.Tools.{toolAfterOpen, toolText, toolPrinted, toolWithin}
-use Rattle.starts.specs.Start.{Start, startAfter, startOf, toolStart, New, Opens, Ready}
+use Rattle.starts.specs.Start.{Start, startAfter, startOf, inPool, toolStart, New, Opens, Ready}
 use Rattle.starts.specs.declared.Opening.{Opening}
 use Rattle.starts.specs.declared.Opening.the-variants as opening
 
@@ -47,10 +47,16 @@ module _ (n v b : ℕ) (vs new : List ℕ) {w : ℕ} (en : new ≡ replicate 640
   theirs : take w whole ≡ p
   theirs = take-at p (drop w new) w words
 
-  pub opens : leaving s (take w whole) o ≡ opened blank (replicate (poolWords b) 0) n v b vs
-  opens =
-      ap (λ (q : List ℕ). leaving s q o) theirs ∙ e ∙ ap (λ (t : State). opened t (take w new) n v b vs) eb
+  leaves : leaving s p o ≡ opened blank (replicate (poolWords b) 0) n v b vs
+  leaves =
+      e ∙ ap (λ (t : State). opened t (take w new) n v b vs) eb
       ∙ ap (λ (q : List ℕ). opened blank q n v b vs) (ap (take w) en ∙ take-zeros w 640 hw ∙ ap (λ (k : ℕ). replicate k 0) ew)
+
+  pub opens : leaving s (take w whole) o ≡ opened blank (replicate (poolWords b) 0) n v b vs
+  opens = ap (λ (q : List ℕ). leaving s q o) theirs ∙ leaves
+
+  pub in-pool : (s, whole) ≡ inPool (opened blank (replicate (poolWords b) 0) n v b vs)
+  in-pool = ap (λ (q : List ℕ). (s, p ++ drop w q)) en ∙ ap (λ (k : ℕ). (s, p ++ drop k (replicate 640 0))) (sym words) ∙ ap inPool leaves
 
   pub newly : o ≡ Acted → New n v s w whole
   unfolding opened
@@ -64,8 +70,8 @@ module _ (n v b : ℕ) (vs new : List ℕ) {w : ℕ} (en : new ≡ replicate 640
 
 -- THE READER'S ANSWER
 
-pub judged-start : {a b c : ℕ} {v : Verdict} (s : List ℕ) → v ≡ judged a b c s → a ≡ 32768 → b ≡ 40960 → c ≡ 65535 → startOf v ≡ startOf (verdict s)
-judged-start {a} {b} {c} s e p q r = ap startOf (e ∙ right-sizes a b c s p q r)
+pub judged-is : {a b c : ℕ} {v : Verdict} (s : List ℕ) → v ≡ judged a b c s → a ≡ 32768 → b ≡ 40960 → c ≡ 65535 → v ≡ verdict s
+judged-is {a} {b} {c} s e p q r = e ∙ right-sizes a b c s p q r
 
 pub made-ready : (o : Opening) (s : State) (f k p : List ℕ) {i : ℕ} → Opens o s i p → i ≤ length k → length k ≡ 65535 → Named (length f) (take i k) → Ready o s f k p
 made-ready (opening.NoSession n) s f k p x h l m = tt

@@ -14,8 +14,9 @@ ghost use lib.ListN.{length, take, replicate};
 ghost use Rattle.cells.specs.Open.{opened};
 ghost use Rattle.session_file.specs.Session.{verdict};
 ghost use Rattle.session_reading.specs.Reading.{actAt};
+ghost use Rattle.session_reading.specs.Tables.{buffers, left};
 ghost use Rattle.session_text.specs.Printed.{blank as «blankOf», poolWords};
-ghost use Rattle.starts.specs.Start.{startAfter, startOf, startAt, Opens, Ready};
+ghost use Rattle.starts.specs.Start.{startAfter, startOf, startAt, inPool, poolOf, Opens, Ready};
 
 fn blank() -> State
     ensures { λ s. ⌜ s ≡ «blankOf» ⌝ }
@@ -43,6 +44,7 @@ fn open_pool(
     requires { ⌜ now pool ≡ replicate 640 0 ⌝ }
     ensures { λ r. ⌜ ((forms kept : List ℕ) → startAt (r .opening) (r .state) forms kept (now (pool .exit)) ≡ startAfter tasks cells (map (actAt forms) (take actions kept)) (opened «blankOf» (replicate (poolWords blocks) 0) tasks cells blocks (now (values .entry)))) ⌝ }
     ensures { λ r. ⌜ Opens (r .opening) (r .state) actions (now (pool .exit)) ⌝ }
+    ensures { λ r. ⌜ (r .state, now (pool .exit)) ≡ inPool (opened «blankOf» (replicate (poolWords blocks) 0) tasks cells blocks (now (values .entry))) ⌝ }
 {
     let words = pool_words(blocks);
     let first = opening::open(blank(), &mut pool[..words], tasks, cells, blocks, values);
@@ -65,6 +67,8 @@ pub fn open_session(
     requires { ⌜ (length (now values) ≡ 32768) × (length (now forms) ≡ 40960) × (length (now kept) ≡ 65535) × (now pool ≡ replicate 640 0) ⌝ }
     ensures { λ r. ⌜ startAt (r .opening) (r .state) (now (forms .exit)) (now (kept .exit)) (now (pool .exit)) ≡ startOf (verdict (now (file .entry))) ⌝ }
     ensures { λ r. ⌜ Ready (r .opening) (r .state) (now (forms .exit)) (now (kept .exit)) (now (pool .exit)) ⌝ }
+    ensures { λ _. ⌜ buffers (now (values .exit)) (now (forms .exit)) (now (kept .exit)) ≡ left (now (file .entry)) (buffers (now (values .entry)) (now (forms .entry)) (now (kept .entry))) ⌝ }
+    ensures { λ r. ⌜ (r .state, now (pool .exit)) ≡ poolOf (verdict (now (file .entry))) ⌝ }
 {
     let found = read_session(file, values, forms, kept);
     match found {

@@ -13,7 +13,8 @@ use Rattle.history.specs.History.{Action}
 use Rattle.session_file.specs.Session.{Verdict, bad, session}
 use Rattle.session_reading.specs.Reading.{actAt}
 use Rattle.session_reading.specs.Kept.{Named}
-use Rattle.session_text.specs.Printed.{openedBy}
+use Rattle.session_reading.specs.Tables.{over}
+use Rattle.session_text.specs.Printed.{blank, openedBy}
 use Rattle.text.specs.Lines.{badLine}
 use Rattle.starts.specs.declared.Opening.{Opening}
 use Rattle.starts.specs.declared.Opening.the-variants as opening
@@ -30,6 +31,14 @@ startAfter n v l r = elim (r .outcome) [ Refused q ↦ notOpened q | Acted ↦ r
 abbrev pub startOf : Verdict → Start
 startOf (bad n) = noSession n
 startOf (session o l) = startAfter (o .tasks) (o .cells) l (openedBy o)
+
+-- the state and all 640 words of the pool: those in use, and zeros
+abbrev pub inPool : After → Pool
+inPool r = (r .state, over (r .pool) (replicate 640 0))
+
+abbrev pub poolOf : Verdict → Pool
+poolOf (bad n) = (blank, replicate 640 0)
+poolOf (session o l) = inPool (openedBy o)
 
 -- what the tool with that text prints of it
 abbrev pub toolStart : ((tasks : ℕ) → Pool → List Action → List ℕ) → Start → List ℕ

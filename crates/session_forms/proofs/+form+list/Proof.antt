@@ -1,15 +1,16 @@
 use borrow.Author.Needs.{needs}
 use native.Mathlib.Omega.{arith}
-use Rattle.session_reading.proofs.Standing.{again-none}
+use Rattle.session_reading.proofs.Standing.{again-none, again-done, again-names, keep-is}
 use Rattle.session_reading.proofs.Walks.{got-at, got-no, kept-got, ready-later, ready-part, Walk, walk-start, walk-end, walk-stop, walk-more}
-use Rattle.session_reading.proofs.Forming.{head-at, head-no, actions-again, form-none, form-no, again-no, again-at, act-no, act-at}
+use Rattle.session_reading.proofs.Forming.{head-at, head-no, act-table, form-none, form-no, again-no, again-at, act-no, act-at}
 use Rattle.session_file.specs.Session as specs
-use Rattle.session_reading.specs.Answers.{HeadIs, GotIs}
+use Rattle.session_reading.specs.Answers.{kindNumber, HeadIs, ofForm, ofForms, GotIs}
+use Rattle.session_reading.specs.Tables.{names, namesOf}
 use Rattle.session_reading.specs.declared.Start.the-variants as start
 use Rattle.session_reading.specs.declared.Got.the-variants as got
 use Rattle.text.proofs.Reading.{place-at, place-no}
 use Rattle.text.specs.Readers.{_>>_, Reads}
-use lib.ListN.{length, take, drop, getD}
+use lib.ListN.{length, take, drop, getD, replicate}
 use lib.Seq.{length-take-le}
 use Prim.Native.Nat.{ℕ, _+_, _-_, _<_}
 use mathlib.Core.Path.{_≡_, sym, _∙_}
@@ -79,14 +80,14 @@ module _ (t : ℕ) where
   entered c = c .before .before .before .before .before .before .before .before .before
 
   -- the head was read
-  head-read : (c : form-lts.After-start (form-claims t) (form-at t) form.Post) → let a = entered c .args in HeadIs a.s.now a.at (c .before .before .before .head .last .1 .1 .0) (start.Known (c .start .given .0 .0) (c .start .given .0 .1 .0))
-  head-read c = head-at _ _ _ (c .start .given .1) (c .before .before .before .head .ensures)
+  head-read : (c : form-lts.After-start (form-claims t) (form-at t) form.Post) → let a = entered c .args in HeadIs a.s.now a.at (replicate 4 0) (c .before .before .before .head .last .1 .1 .0) (start.Known (c .start .given .0 .0) (c .start .given .0 .1 .0))
+  head-read c = head-at _ _ _ _ (c .start .given .1) (c .before .before .before .head .ensures)
 
   -- the forms of again were read
-  inner-read : (c : form-lts.After-inner (form-claims t) (form-at t) form.Post) → let a = entered (c .before .before .before .before .before .before .before .before .before .before .before .before) .args in let l = c .before .before .before .before .before .before .list2 .last .1 .1 .1 in let g = c .inner .given .0 in GotIs specs.counts specs.actionsOf (specs.list (specs.form (a.depth - 1))) a.s.now (c .before .before .before .before .before .before .before .before .before .before .before .before .start .given .0 .1 .0) 1 a.forms.now (l .0) a.actions.now (l .1 .1 .0) a.f a.n (got.At (g .0) (g .1 .0) (g .1 .1 .0) (g .1 .1 .1 .0))
+  inner-read : (c : form-lts.After-inner (form-claims t) (form-at t) form.Post) → let a = entered (c .before .before .before .before .before .before .before .before .before .before .before .before) .args in let l = c .before .before .before .before .before .before .list2 .last .1 .1 .1 in let g = c .inner .given .0 in GotIs ofForms (specs.list (specs.form (a.depth - 1))) a.s.now (c .before .before .before .before .before .before .before .before .before .before .before .before .start .given .0 .1 .0) 1 a.forms.now (l .0) a.actions.now (l .1 .1 .0) a.f a.n (got.At (g .0) (g .1 .0) (g .1 .1 .0) (g .1 .1 .1 .0))
   inner-read c =
       let a = entered (c .before .before .before .before .before .before .before .before .before .before .before .before) .args in
-      got-at specs.counts specs.actionsOf (specs.list (specs.form (a.depth - 1))) _ _ 1 _ _ _ _ _ _ (c .inner .given .1) (c .before .before .before .before .before .before .list2 .ensures)
+      got-at ofForms (specs.list (specs.form (a.depth - 1))) _ _ 1 _ _ _ _ _ _ (c .inner .given .1) (c .before .before .before .before .before .before .list2 .ensures)
 
   -- the bracket of an action was read
   end-read : (c : form-lts.After-end (form-claims t) (form-at t) form.Post) → Reads specs.close (entered (c .before .before .before .before .before) .args .s .now) (c .before .before .before .before .before .start .given .0 .1 .0) 1 tt (c .end .given .0 .0)
@@ -101,7 +102,7 @@ module _ (t : ℕ) where
   form-returns-2 : form-lts.Need-returns-2 (form-claims t) (form-at t) form.Post
   form-returns-2 c =
       let a = c .before .before .before .before .before .before .before .before .before .args in
-      form-no a.s.now a.at a.depth (c .before .before .before .before .before .if1 .left) (head-no a.s.now a.at _ (c .enum-told .given .1) (c .before .before .before .head .ensures))
+      form-no a.s.now a.at a.depth (c .before .before .before .before .before .if1 .left) (head-no a.s.now a.at _ _ (c .enum-told .given .1) (c .before .before .before .head .ensures))
 
   -- in both calls the list starts after the head, one deeper
   form-list-requires : form-lts.Need-list-requires (form-claims t) (form-at t) form.Post
@@ -118,20 +119,19 @@ module _ (t : ℕ) where
       let a = entered (c .before .before .before .before .before .before .before .before .before .before .before .before) .args in
       let x = head-read (c .before .before .before .before .before .before .before .before .before .before .before .before) in
       again-no a.s.now a.at a.depth (c .before .before .before .before .before .before .before .before .before .before .before .before .before .before .before .before .before .if1 .left) _ (x .2) (sym (x .1) ∙ c .before .before .before .before .before .before .before .before .before .before .if2 .taken)
-      (got-no specs.counts specs.actionsOf (specs.list (specs.form (a.depth - 1))) _ _ 1 _ _ _ _ _ _ (c .enum-told2 .given .1) (c .before .before .before .before .before .before .list .ensures))
+      (got-no ofForms (specs.list (specs.form (a.depth - 1))) _ _ 1 _ _ _ _ _ _ (c .enum-told2 .given .1) (c .before .before .before .before .before .before .list .ensures))
 
   form-returns-4 : form-lts.Need-returns-4 (form-claims t) (form-at t) form.Post
-  unfolding specs.count
   form-returns-4 c =
       let a = entered (c .before .before .before .before .before .before .before .before .before .before .before .before .before) .args in
       let x = head-read (c .before .before .before .before .before .before .before .before .before .before .before .before .before) in
       let l = c .before .before .before .before .before .before .before .list in
       let g = c .before .none .given .0 in
-      let y : GotIs specs.counts specs.actionsOf (specs.list (specs.form (a.depth - 1))) a.s.now _ 1 a.forms.now _ (take a.n a.actions.now) _ a.f a.n (got.At (g .0) (g .1 .0) (g .1 .1 .0) (g .1 .1 .1 .0)) = got-at specs.counts specs.actionsOf (specs.list (specs.form (a.depth - 1))) _ _ 1 _ _ _ _ _ _ (c .before .none .given .1) l.ensures in
+      let y : GotIs ofForms (specs.list (specs.form (a.depth - 1))) a.s.now _ 1 a.forms.now _ (take a.n a.actions.now) _ a.f a.n (got.At (g .0) (g .1 .0) (g .1 .1 .0) (g .1 .1 .1 .0)) = got-at ofForms (specs.list (specs.form (a.depth - 1))) _ _ 1 _ _ _ _ _ _ (c .before .none .given .1) l.ensures in
       let p = entered (c .before .before .before .before .before .before .before .before .before .before .before .before .before) .pre .1 .1 in
       let times = getD (c .before .before .before .before .before .before .before .before .before .before .before .before .before .before .before .before .head .last .1 .1 .0) 0 0 in
       let whole = again-at a.s.now a.at a.depth (c .before .before .before .before .before .before .before .before .before .before .before .before .before .before .before .before .before .before .if1 .left) _ (x .2) (sym (x .1) ∙ c .before .before .before .before .before .before .before .before .before .before .before .if2 .taken) (y .1) in
-      (specs.again times (y .0), whole, rw (actions-again times (y .0)) (again-none times (y .2) (c .before .before .before .before .before .before .before .before .before .before .if3 .taken) (p .room) (omega (arith, p .here, p .table, p .few))), omega (arith, x .2 .past, y .1 .past, p .few))
+      (specs.again times (y .0), whole, again-none times (y .0) (y .2) (c .before .before .before .before .before .before .before .before .before .before .if3 .taken) (p .room) (omega (arith, p .here, p .table, p .few)), omega (arith, x .2 .past, y .1 .past, p .few))
 
   form-list-requires-2 : form-lts.Need-list-requires-2 (form-claims t) (form-at t) form.Post
   form-list-requires-2 c κs =
@@ -144,17 +144,16 @@ module _ (t : ℕ) where
       let a = entered (c .before .before .before .before .before .before .before .before .before .before .before .before) .args in
       let x = head-read (c .before .before .before .before .before .before .before .before .before .before .before .before) in
       again-no a.s.now a.at a.depth (c .before .before .before .before .before .before .before .before .before .before .before .before .before .before .before .before .before .if1 .left) _ (x .2) (sym (x .1) ∙ c .before .before .before .before .before .before .before .before .before .before .if2 .taken)
-      (got-no specs.counts specs.actionsOf (specs.list (specs.form (a.depth - 1))) _ _ 1 _ _ _ _ _ _ (c .enum-told3 .given .1) (c .before .before .before .before .before .before .list2 .ensures))
+      (got-no ofForms (specs.list (specs.form (a.depth - 1))) _ _ 1 _ _ _ _ _ _ (c .enum-told3 .given .1) (c .before .before .before .before .before .before .list2 .ensures))
 
   form-again-requires : form-lts.Need-again-requires (form-claims t) (form-at t) form.Post
   form-again-requires c κs =
       let p = entered (c .before .before .before .before .before .before .before .before .before .before .before .before .before .before) .pre .1 .1 in
       let y = inner-read (c .before .before) in
       let same = c .before .before .before .before .before .before .before .before .list2 .kept .1 .1 .1 .1 .1 .0 in
-      (omega (arith, y .2 .forms .next), ((omega (arith, y .2 .acts .next), omega (arith, y .2 .room)), omega (arith, p .limit)))
+      (omega (arith, y .2 .more-forms), ((y .2 .more-actions, omega (arith, y .2 .room)), omega (arith, p .limit)))
 
   form-returns-6 : form-lts.Need-returns-6 (form-claims t) (form-at t) form.Post
-  unfolding specs.count
   form-returns-6 c =
       let a = entered (c .before .before .before .before .before .before .before .before .before .before .before .before .before .before .before .before .before) .args in
       let x = head-read (c .before .before .before .before .before .before .before .before .before .before .before .before .before .before .before .before .before) in
@@ -162,8 +161,9 @@ module _ (t : ℕ) where
       let g = c .before .before .again in
       let whole = again-at a.s.now a.at a.depth (c .before .before .before .before .before .before .before .before .before .before .before .before .before .before .before .before .before .before .before .before .before .before .if1 .left) _ (x .2) (sym (x .1) ∙ c .before .before .before .before .before .before .before .before .before .before .before .before .before .before .before .if2 .taken) (y .1) in
       let times = getD (c .before .before .before .before .before .before .before .before .before .before .before .before .before .before .before .before .before .before .before .before .head .last .1 .1 .0) 0 0 in
-      kept-got specs.count specs.actions (specs.form a.depth) a.s.now a.at 8 a.forms.now (c .before .before .before .before .before .before .before .before .before .before .before .list2 .last .1 .1 .1 .0) a.actions.now (g.last .0) a.f a.n (c .before .before .before .before .before .inner .given .0 .1 .1 .0) (specs.again times (y .0)) whole (y .3) g.result
-      (rw (actions-again times (y .0)) (g.ensures _ _ _ (specs.counts (y .0)) (specs.actionsOf (y .0)) (sym (c .before .before .before .before .before .before .before .before .before .before .before .list2 .kept .1 .1 .1 .1 .1 .0)) (y .2)))
+      let many = c .before .before .before .before .before .before .before .before .before .before .before .before .before .before .if3 .left in
+      kept-got ofForm (specs.form a.depth) a.s.now a.at 8 a.forms.now (c .before .before .before .before .before .before .before .before .before .before .before .list2 .last .1 .1 .1 .0) a.actions.now (g.last .0) a.f a.n (c .before .before .before .before .before .inner .given .0 .1 .1 .0) (specs.again times (y .0)) whole (y .3) g.result
+      (rw (again-done times (y .0) many, again-names times (y .0) many a.f) (g.ensures _ _ _ (ofForms .table (y .0)) (namesOf a.f (y .0)) (sym (c .before .before .before .before .before .before .before .before .before .before .before .list2 .kept .1 .1 .1 .1 .1 .0)) (y .2)))
 
   form-close-requires : form-lts.Need-close-requires (form-claims t) (form-at t) form.Post
   form-close-requires c κs = head-read (c .before .before) .2 .within
@@ -182,15 +182,19 @@ module _ (t : ℕ) where
       (omega (arith, x .2 .past, y .past, y .within, p .few, p .table), (omega (arith, p .few, p .here, p .small), (p .room, search needs)))
 
   form-returns-8 : form-lts.Need-returns-8 (form-claims t) (form-at t) form.Post
-  unfolding specs.count specs.actions
+  unfolding names
   form-returns-8 c =
       let a = entered (c .before .before .before .before .before .before .before .before .before .before .before .before .before .before) .args in
       let p = entered (c .before .before .before .before .before .before .before .before .before .before .before .before .before .before) .pre .1 .1 in
       let x = head-read (c .before .before .before .before .before .before .before .before .before .before .before .before .before .before) in
       let y = end-read (c .before .before .before .before .before .before .before .before .before) in
       let k = c .before .before .before .before .keep in
-      let whole = act-at a.s.now a.at a.depth (c .before .before .before .before .before .before .before .before .before .before .before .before .before .before .before .before .before .before .before .if1 .left) _ (x .2) (λ e. c .before .before .before .before .before .before .before .before .before .before .before .before .if2 .left (x .1 ∙ e)) y in
-      kept-got specs.count specs.actions (specs.form a.depth) a.s.now a.at 8 a.forms.now (k.last .0) a.actions.now (k.last .1 .1 .0) a.f a.n (a.f + 1) (specs.act _) whole (omega (arith, x .2 .past, y .past, p .few)) k.result (rw (x .1) at (k.ensures .0))
+      let other : kindNumber (x .0) ≡ 4 → ⊥ = λ e. c .before .before .before .before .before .before .before .before .before .before .before .before .if2 .left (x .1 ∙ e) in
+      let out = c .before .before .before .before .before .before .before .before .before .before .before .before .before .before .before .before .before .head .last .1 .1 .0 in
+      let kind = c .before .before .before .before .before .before .before .before .before .before .before .before .before .before .start .given .0 .0 in
+      let whole = act-at a.s.now a.at a.depth (c .before .before .before .before .before .before .before .before .before .before .before .before .before .before .before .before .before .before .before .if1 .left) _ (x .2) other y in
+      let one = keep-is a.forms.now a.actions.now a.f a.n kind (c .before .before .before .before .before .before .before .before .before .end .given .0 .0) out (omega (arith, x .2 .past, y .past, y .within, p .few, p .table)) (p .room) (k.ensures .0) (k.ensures .1 .0) (k.ensures .1 .1) in
+      kept-got ofForm (specs.form a.depth) a.s.now a.at 8 a.forms.now (k.last .0) a.actions.now (k.last .1 .1 .0) a.f a.n (a.f + 1) (specs.act _) whole (omega (arith, x .2 .past, y .past, p .few)) k.result (rw (act-table (x .0) kind out (x .1) other (x .3)) one)
 
 abbrev list-Inv-loop : list-lts.InvT-loop
 list-Inv-loop s at depth forms₀ f actions₀ n i₀ g₀ m₀ over₀ forms actions i g m over = Walk (specs.space >> specs.form depth) specs.close s at forms₀ actions₀ f n forms actions i g m over
@@ -215,10 +219,10 @@ module _ (t : ℕ) where
   gap-read c = place-at _ _ specs.space 1 (c .gap .given .1) (c .before .before .space .ensures)
 
   -- a form was read after the space
-  form-read : (c : list-lts.After-got (list-claims t) (list-at t) list.Post list-Inv-loop list-μ-loop) → let l = tested (spaced (c .before .before .before .before .before .before .before .before .before .before)) in let a = l .before .before .before .before .args in let b = c .before .before .before .before .before .before .form .last .1 .1 .1 in let g = c .got .given .0 in GotIs specs.count specs.actions (specs.form a.depth) a.s.now (c .before .before .before .before .before .before .before .before .before .before .gap .given .0 .0) 8 (l.loop .forms) (b .0) (l.loop .actions) (b .1 .1 .0) (l.loop .g) (l.loop .m) (got.At (g .0) (g .1 .0) (g .1 .1 .0) (g .1 .1 .1 .0))
+  form-read : (c : list-lts.After-got (list-claims t) (list-at t) list.Post list-Inv-loop list-μ-loop) → let l = tested (spaced (c .before .before .before .before .before .before .before .before .before .before)) in let a = l .before .before .before .before .args in let b = c .before .before .before .before .before .before .form .last .1 .1 .1 in let g = c .got .given .0 in GotIs ofForm (specs.form a.depth) a.s.now (c .before .before .before .before .before .before .before .before .before .before .gap .given .0 .0) 8 (l.loop .forms) (b .0) (l.loop .actions) (b .1 .1 .0) (l.loop .g) (l.loop .m) (got.At (g .0) (g .1 .0) (g .1 .1 .0) (g .1 .1 .1 .0))
   form-read c =
       let a = tested (spaced (c .before .before .before .before .before .before .before .before .before .before)) .before .before .before .before .args in
-      got-at specs.count specs.actions (specs.form a.depth) _ _ 8 _ _ _ _ _ _ (c .got .given .1) (c .before .before .before .before .before .before .form .ensures)
+      got-at ofForm (specs.form a.depth) _ _ 8 _ _ _ _ _ _ (c .got .given .1) (c .before .before .before .before .before .before .form .ensures)
 
   list-loop-holds : list-lts.Need-loop-holds (list-claims t) (list-at t) list.Post list-Inv-loop list-μ-loop
   list-loop-holds c =
@@ -254,7 +258,7 @@ module _ (t : ℕ) where
   list-returns-3 c =
       let l = tested (spaced (c .before .before .before .before .before .before .before .before .before .before)) in
       let a = l .before .before .before .before .args in
-      let bad = got-no specs.count specs.actions (specs.form a.depth) _ _ 8 _ _ _ _ _ _ (c .enum-told3 .given .1) (c .before .before .before .before .before .before .form .ensures) in
+      let bad = got-no ofForm (specs.form a.depth) _ _ 8 _ _ _ _ _ _ (c .enum-told3 .given .1) (c .before .before .before .before .before .before .form .ensures) in
       walk-stop (specs.space >> specs.form a.depth) specs.close a.s.now a.at a.forms.now a.actions.now a.f a.n (l.loop .inv) (end-no (spaced (c .before .before .before .before .before .before .before .before .before .before))) (rw (gap-read (c .before .before .before .before .before .before .before .before .before .before) .finds) bad)
 
   list-loop-less : list-lts.Need-loop-less (list-claims t) (list-at t) list.Post list-Inv-loop list-μ-loop

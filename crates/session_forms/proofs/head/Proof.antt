@@ -16,7 +16,7 @@ returns-2 : tie.Need-returns-2
 returns-2 c = let a = c .before .before .before .before .before .before .before .before .before .before .before .before .args in let x = keyword-at a.s.now a.at (c .before .before .before .before .before .before .before .word .given .1) (c .before .before .before .before .before .before .before .before .before .keyword .ensures) in head-no a.s.now a.at (x .3) (rw (x .2) at (numbers-no a.s.now _ _ (c .before .before .before .before .numbers .last .1 .1 .1 .0) (c .enum-told2 .given .1) (c .before .before .before .before .numbers .ensures .0)))
 
 returns-3 : tie.Need-returns-3
-returns-3 c = let a = c .before .before .before .before .before .before .before .before .before .before .before .before .before .args in let x = keyword-at a.s.now a.at (c .before .before .before .before .before .before .before .before .word .given .1) (c .before .before .before .before .before .before .before .before .before .before .keyword .ensures) in (x .0, x .1, head-at a.s.now a.at (x .3) (rw (x .2) at (numbers-at a.s.now _ _ (c .before .before .before .before .before .numbers .last .1 .1 .1 .0) (c .before .read .given .1) (c .before .before .before .before .before .numbers .ensures .0))))
+returns-3 c = let a = c .before .before .before .before .before .before .before .before .before .before .before .before .before .args in let x = keyword-at a.s.now a.at (c .before .before .before .before .before .before .before .before .word .given .1) (c .before .before .before .before .before .before .before .before .before .before .keyword .ensures) in (x .0, x .1, head-at a.s.now a.at (x .3) (rw (x .2) at (numbers-at a.s.now _ _ (c .before .before .before .before .before .numbers .last .1 .1 .1 .0) (c .before .read .given .1) (c .before .before .before .before .before .numbers .ensures .0))), rw (x .2) at (c .before .before .before .before .before .numbers .ensures .1))
 
 pub head-spec : {M : Type 1} → statement M
 head-spec =

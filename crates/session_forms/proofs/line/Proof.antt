@@ -2,7 +2,7 @@ use borrow.Author.Needs.{needs}
 use native.Mathlib.Omega.{arith}
 use Rattle.session_reading.proofs.Walks.{got-at, got-no}
 use Rattle.session_file.specs.Session as specs
-use Rattle.session_reading.specs.Answers.{GotIs}
+use Rattle.session_reading.specs.Answers.{ofForm, GotIs}
 use Rattle.session_reading.specs.declared.Got.the-variants as got
 use Rattle.text.proofs.Reading.{place-at, place-no}
 use Rattle.text.specs.Readers.{word}
@@ -11,8 +11,8 @@ use Rattle.session_forms.proofs.line.Statement.{statement}
 use Rattle.session_forms.proofs.line.Tie as tie
 
 -- the form was read
-form-read : (c : tie.After-got) → let a = c .before .before .before .before .before .before .before .before .before .before .before .before .args in let b = c .before .before .before .before .before .before .form .last .1 .1 .1 in let g = c .got .given .0 in GotIs specs.count specs.actions (specs.form 8) a.s.now a.at 8 a.forms.now (b .0) a.actions.now (b .1 .1 .0) a.f a.n (got.At (g .0) (g .1 .0) (g .1 .1 .0) (g .1 .1 .1 .0))
-form-read c = got-at specs.count specs.actions (specs.form 8) _ _ 8 _ _ _ _ _ _ (c .got .given .1) (c .before .before .before .before .before .before .form .ensures)
+form-read : (c : tie.After-got) → let a = c .before .before .before .before .before .before .before .before .before .before .before .before .args in let b = c .before .before .before .before .before .before .form .last .1 .1 .1 in let g = c .got .given .0 in GotIs ofForm (specs.form 8) a.s.now a.at 8 a.forms.now (b .0) a.actions.now (b .1 .1 .0) a.f a.n (got.At (g .0) (g .1 .0) (g .1 .1 .0) (g .1 .1 .1 .0))
+form-read c = got-at ofForm (specs.form 8) _ _ 8 _ _ _ _ _ _ (c .got .given .1) (c .before .before .before .before .before .before .form .ensures)
 
 form-requires : tie.Need-form-requires
 form-requires c κs = (omega arith, c .before .before .before .before .before .pre)
@@ -22,7 +22,7 @@ unfolding specs.line
 returns c =
     let a = c .before .before .before .before .before .before .before .before .before .before .before .before .args in
     let b = c .before .before .before .before .before .before .form .last .1 .1 .1 in
-    rw (got-no specs.count specs.actions (specs.form 8) a.s.now a.at 8 a.forms.now (b .0) a.actions.now (b .1 .1 .0) a.f a.n (c .enum-told .given .1) (c .before .before .before .before .before .before .form .ensures))
+    rw (got-no ofForm (specs.form 8) a.s.now a.at 8 a.forms.now (b .0) a.actions.now (b .1 .1 .0) a.f a.n (c .enum-told .given .1) (c .before .before .before .before .before .before .form .ensures))
 
 starts-with-requires : tie.Need-starts-with-requires
 starts-with-requires c κs = form-read (c .before .before) .1 .within

@@ -6,7 +6,9 @@ use Rattle.session_reading.specs.Answers.{Led}
 use Rattle.text.proofs.Reading.{place-at, place-no}
 use Rattle.text.specs.Readers.{Reads, word}
 use Rattle.text.specs.Bytes.{bytes}
-use lib.ListN.{take}
+use lib.ListN.{take, replicate}
+use Prim.Native.Nat.{ℕ}
+use mathlib.Core.Path.{ap, _∙_}
 use Rattle.session_opening.proofs.opening.Statement.{statement}
 use Rattle.session_opening.proofs.opening.Tie as tie
 
@@ -18,7 +20,7 @@ listed : (c : tie.After-read) → Reads values (c .before .before .before .befor
 listed c = values-at _ _ _ (c .read .given .1) (c .before .before .before .before .values .ensures .0)
 
 returns : tie.Need-returns
-returns c = (lead-no (c .before .before .before .before .before .before .before .args .s .now) (c .before .before .before .lead .last .1 .0) (c .enum-told .given .1) (c .before .before .before .lead .ensures), tt)
+returns c = (lead-no (c .before .before .before .before .before .before .before .before .before .before .before .args .s .now) (c .before .before .before .before .before .before .before .lead .last .1 .0) (c .before .before .before .before .enum-told .given .1) (c .before .before .before .before .before .before .before .lead .ensures), c .before .before .clear .ensures)
 
 values-requires : tie.Need-values-requires
 values-requires c κs =
@@ -26,13 +28,17 @@ values-requires c κs =
     ((omega (arith, x .past), x .within), search needs)
 
 returns-2 : tie.Need-returns-2
-returns-2 c = (values-wrong _ _ (led (c .before .before .before .before .before .before .before)) (values-no (c .before .before .before .before .before .before .before .before .before .before .before .before .before .before .args .s .now) _ (c .before .before .before .before .values .last .1 .1 .0) (c .enum-told2 .given .1) (c .before .before .before .before .values .ensures .0)), tt)
+returns-2 c =
+    let wrong = values-no (c .before .before .before .before .before .before .before .before .before .before .before .before .before .before .before .before .before .before .args .s .now) _ (c .before .before .before .before .before .before .before .before .values .last .1 .1 .0) (c .before .before .before .before .enum-told2 .given .1) (c .before .before .before .before .before .before .before .before .values .ensures .0) in
+    (values-wrong _ _ (led (c .before .before .before .before .before .before .before .before .before .before .before)) wrong, c .before .before .clear2 .ensures ∙ ap (λ (k : ℕ). replicate k 0) (c .before .before .before .before .before .before .before .before .values .kept .1 .1 .0))
 
 starts-with-requires : tie.Need-starts-with-requires
 starts-with-requires c κs = listed (c .before .before) .within
 
 returns-3 : tie.Need-returns-3
-returns-3 c = (end-wrong _ _ (led (c .before .before .before .before .before .before .before .before .before .before .before .before)) (listed (c .before .before .before .before .before)) (place-no _ _ (word (bytes ")\n")) 2 (c .enum-told3 .given .1) (c .before .before .starts-with .ensures)), tt)
+returns-3 c =
+    let wrong = place-no _ _ (word (bytes ")\n")) 2 (c .before .before .before .before .enum-told3 .given .1) (c .before .before .before .before .before .before .starts-with .ensures) in
+    (end-wrong _ _ (led (c .before .before .before .before .before .before .before .before .before .before .before .before .before .before .before .before)) (listed (c .before .before .before .before .before .before .before .before .before)) wrong, c .before .before .clear3 .ensures ∙ ap (λ (k : ℕ). replicate k 0) (c .before .before .before .before .before .before .before .before .before .before .before .before .before .values .kept .1 .1 .0))
 
 returns-4 : tie.Need-returns-4
 returns-4 c =
@@ -47,16 +53,20 @@ opening-spec =
     (λ c κs. search needs)
     (λ c. search needs)
     (λ c. search needs)
+    (λ c κs. search needs)
+    (λ c. search needs)
     returns
     values-requires
     (λ c. search needs)
     (λ c. search needs)
+    (λ c κs. search needs)
     (λ c. search needs)
     returns-2
     (λ c. search needs)
     starts-with-requires
     (λ c. search needs)
     (λ c. search needs)
+    (λ c κs. search needs)
     (λ c. search needs)
     returns-3
     (λ c. search needs)

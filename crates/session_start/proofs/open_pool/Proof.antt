@@ -6,7 +6,7 @@ use lib.Seq.{length-take-le}
 use borrow.Author.Needs.{needs}
 use Rattle.session_reading.specs.Reading.{actAt}
 use Rattle.starts.specs.Start.{startAfter}
-use Rattle.session_start.proofs.Starting.{new-length, opens, newly}
+use Rattle.session_start.proofs.Starting.{new-length, opens, in-pool, newly}
 use Rattle.session_start.proofs.open_pool.Statement.{statement}
 use Rattle.session_start.proofs.open_pool.Tie as tie
 
@@ -24,7 +24,7 @@ returns c =
     let o = c .before .before .before .before .«open» in
     let eb = c .before .before .before .before .before .before .blank .ensures in (
       λ f k. c .opening-of .ensures .0 _ f k _ ∙ ap (startAfter a.tasks a.cells (map (actAt f) (take a.actions k))) (opens a.tasks a.cells a.blocks a.values.now a.pool.now en (w .ensures .0) (w .ensures .1) eb (o .ensures) (o .kept .1 .0)),
-      c .opening-of .ensures .1 _ _ (newly a.tasks a.cells a.blocks a.values.now a.pool.now en (w .ensures .0) (w .ensures .1) eb (o .ensures) (o .kept .1 .0)),
+      (c .opening-of .ensures .1 _ _ (newly a.tasks a.cells a.blocks a.values.now a.pool.now en (w .ensures .0) (w .ensures .1) eb (o .ensures) (o .kept .1 .0)), in-pool a.tasks a.cells a.blocks a.values.now a.pool.now en (w .ensures .0) (w .ensures .1) eb (o .ensures) (o .kept .1 .0)),
     )
 
 pub open-pool-spec : {M : Type 1} → statement M

@@ -1,8 +1,11 @@
-use mathlib.Core.Path.{sym, _∙_}
+use mathlib.Core.Path.{sym, ap, _∙_}
 use native.Mathlib.Omega.{arith}
 use lib.Seq.{length-take-le}
 use borrow.Author.Needs.{needs}
-use Rattle.session_start.proofs.Starting.{judged-start, made-ready}
+use Rattle.session_reading.specs.Tables.{buffers}
+use Rattle.session_reading.proofs.Verdicts.{right-left}
+use Rattle.starts.specs.Start.{startOf, poolOf}
+use Rattle.session_start.proofs.Starting.{judged-is, made-ready}
 use Rattle.session_start.proofs.open_session.Statement.{statement}
 use Rattle.session_start.proofs.open_session.Tie as tie
 
@@ -15,19 +18,23 @@ slice-aggregate-open-pool c = let h = rw (c .before .before .before .found2 .giv
 returns : tie.Need-returns
 returns c =
     let r = c .before .before .before .before .before .before .before .before .before .before .read-session in
+    let a = c .before .before .before .before .before .before .before .before .before .before .before .before .before .before .before .before .before .before .before .args in
     let p = c .before .before .before .before .before .before .before .before .before .before .before .before .before .before .before .before .before .before .before .pre in
-    let e = rw (c .before .before .found .given .1) at (r .ensures .0) in
-    (judged-start (c .before .before .before .before .before .before .before .before .before .before .before .before .before .before .before .before .before .before .before .args .file .now) e (p .0) (p .1) (p .2), tt)
+    let e = judged-is a.file.now (rw (c .before .before .found .given .1) at (r .ensures .0)) (p .0) (p .1) (p .2) in
+    let b = r .ensures .1 .1 ∙ right-left a.file.now (buffers a.values.now a.forms.now a.kept.now) (p .0) (p .1) (p .2) in
+    (ap startOf e, (tt, (b, rw (c .blank .ensures, p .3) (ap poolOf e))))
 
 returns-2 : tie.Need-returns-2
 returns-2 c =
     let r = c .before .before .before .before .before .before .before .before .before .before .before .before .before .before .read-session in
-    let p = c .before .before .before .before .before .before .before .before .before .before .before .before .before .before .before .before .before .before .before .before .before .before .before .pre in
     let a = c .before .before .before .before .before .before .before .before .before .before .before .before .before .before .before .before .before .before .before .before .before .before .before .args in
+    let p = c .before .before .before .before .before .before .before .before .before .before .before .before .before .before .before .before .before .before .before .before .before .before .before .pre in
     let o = c .before .before .open-pool in
-    let e = rw (c .before .before .before .before .before .before .found2 .given .1) at (r .ensures .0) in
+    let e = judged-is a.file.now (rw (c .before .before .before .before .before .before .found2 .given .1) at (r .ensures .0)) (p .0) (p .1) (p .2) in
+    let b = r .ensures .1 .1 ∙ right-left a.file.now (buffers a.values.now a.forms.now a.kept.now) (p .0) (p .1) (p .2) in
     let h = rw (c .before .before .before .before .before .before .found2 .given .1) at (r .ensures .1 .0) in
-    (o .ensures .0 _ _ ∙ judged-start a.file.now e (p .0) (p .1) (p .2), made-ready (o .result .opening) (o .result .state) (r .last .1 .1 .0) (r .last .1 .1 .1 .0) (o .last .0) (o .ensures .1) (h .many) (omega (arith, p .2, r .kept)) (h .named))
+    let ready = made-ready (o .result .opening) (o .result .state) (r .last .1 .1 .0) (r .last .1 .1 .1 .0) (o .last .0) (o .ensures .1 .0) (h .many) (omega (arith, p .2, r .kept)) (h .named) in
+    (o .ensures .0 _ _ ∙ ap startOf e, (ready, (b, o .ensures .1 .1 ∙ ap poolOf e)))
 
 pub open-session-spec : {M : Type 1} → statement M
 open-session-spec =

@@ -8,14 +8,14 @@ use denote.Ref.{now}
 use borrow.Author.Fill.{fill-more}
 use borrow.Author.Needs.{needs}
 use native.Mathlib.Omega.{arith}
-use Rattle.opening_state.proofs.clear.Statement.{statement}
-use Rattle.opening_state.proofs.clear.Tie as tie
+use Rattle.clearing.proofs.clear.Statement.{statement}
+use Rattle.clearing.proofs.clear.Tie as tie
 
 abbrev Inv-loop : tie.InvT-loop
-Inv-loop pool₀ i₀ pool i = (i ≤ length pool₀) × (length pool ≡ length pool₀) × (pool ≡ replicate i 0 ++ drop i pool₀)
+Inv-loop words₀ i₀ words i = (i ≤ length words₀) × (length words ≡ length words₀) × (words ≡ replicate i 0 ++ drop i words₀)
 
 abbrev μ-loop : tie.MeasureT-loop
-μ-loop pool₀ i₀ pool i = length pool₀ - i
+μ-loop words₀ i₀ words i = length words₀ - i
 
 loop-holds : tie.Need-loop-holds Inv-loop μ-loop
 loop-holds c = (search needs, refl, refl)
@@ -23,7 +23,7 @@ loop-holds c = (search needs, refl, refl)
 loop-again : tie.Need-loop-again Inv-loop μ-loop
 loop-again c =
     let l = c .before .loop in
-    let p = now (c .before .before .args .pool) in
+    let p = now (c .before .before .args .words) in
     let h : l .i < length p = omega arith in
     (omega arith, simp length-set (l .inv .1), rw (l .inv .2) (fill-more (l .i) 0 p h))
 
@@ -33,7 +33,7 @@ same-length c = c .before .loop .inv .1
 returns : tie.Need-returns Inv-loop μ-loop
 returns c =
     let l = c .before .loop in
-    let e : l .i ≡ length (now (c .before .before .args .pool)) = omega arith in
+    let e : l .i ≡ length (now (c .before .before .args .words)) = omega arith in
     l .inv .2 ∙ rw (e, drop-length, append-nil)
 
 pub clear-spec : {M : Type 1} → statement M

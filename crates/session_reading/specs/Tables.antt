@@ -1,0 +1,77 @@
+-- What the reader leaves in its three buffers, every word.
+use mathlib.Core.Bool.{Bool, true, false, cond}
+use mathlib.Core.List.{List, [], _∷_, _++_}
+use mathlib.Core.Option.{Option, none, some}
+use Prim.Native.Nat.{ℕ, zero, suc, _+_}
+use lib.Dec.{leb}
+use lib.ListN.{length, drop, replicate}
+use Rattle.history.specs.History.{Action, read, swap, step, begin}
+use Rattle.session_shape.specs.Shape.{shaped}
+use Rattle.session_file.specs.Session.{Opening, Form, act, again, Forms, empty, with, times, counts, short, formed}
+use Rattle.session_reading.specs.Reading.{sized}
+
+-- a form's five words: its kind, its numbers, and zeros
+abbrev pub wordsOf : Action → List ℕ
+wordsOf (begin t (read c)) = 1 ∷ t ∷ c ∷ 0 ∷ 0 ∷ []
+wordsOf (begin t (swap c e n)) = 2 ∷ t ∷ c ∷ e ∷ n ∷ []
+wordsOf (step t) = 3 ∷ t ∷ 0 ∷ 0 ∷ 0 ∷ []
+
+unfoldable pub tableOf : List Action → List ℕ
+tableOf [] = []
+tableOf (a ∷ l) = wordsOf a ++ tableOf l
+
+-- the forms that are done at least once, in their order
+unfoldable mutual
+  pub done : Form → List Action
+  done (act a) = a ∷ []
+  done (again zero l) = []
+  done (again (suc c) l) = doneOf l
+
+  pub doneOf : Forms → List Action
+  doneOf empty = []
+  doneOf (with l f) = doneOf l ++ done f
+
+-- each action as the number of its form, with n forms before these
+unfoldable mutual
+  pub names : ℕ → Form → List ℕ
+  names n (act a) = n ∷ []
+  names n (again zero l) = []
+  names n (again (suc c) l) = times (suc c) (namesOf n l)
+
+  pub namesOf : ℕ → Forms → List ℕ
+  namesOf n empty = []
+  namesOf n (with l f) = namesOf n l ++ names (n + length (doneOf l)) f
+
+-- words written over the start of a buffer
+abbrev pub over : List ℕ → List ℕ → List ℕ
+over l b = l ++ drop (length l) b
+
+abbrev pub zeros : List ℕ → List ℕ
+zeros b = replicate (length b) 0
+
+pub record Buffers : Type 0 where
+  pub values : List ℕ
+  pub forms : List ℕ
+  pub actions : List ℕ
+
+abbrev pub buffers : (values forms actions : List ℕ) → Buffers
+buffers v f a = record { values = v; forms = f; actions = a }
+
+abbrev pub cleared : Buffers → Buffers
+cleared b = buffers (zeros (b .values)) (zeros (b .forms)) (zeros (b .actions))
+
+-- refused with 14 or 15: zeros; before that nothing is written
+unfoldable pub left15 : Bool → Opening → Forms → Buffers → Buffers
+left15 true o l b = buffers (over (o .values) (b .values)) (over (tableOf (doneOf l)) (b .forms)) (over (namesOf 0 l) (b .actions))
+left15 false o l b = cleared b
+
+unfoldable pub left14 : Option ((Opening × Forms) × List ℕ) → Buffers → Buffers
+left14 none b = cleared b
+left14 (some ((o, l), s)) b = left15 (leb (counts l) 65535) o l b
+
+unfoldable pub left : List ℕ → Buffers → Buffers
+left s b = cond (short s) (cond (shaped s) (left14 (formed s) b) b) b
+
+-- also buffers of other sizes stay as they were
+unfoldable pub leftIn : List ℕ → Buffers → Buffers
+leftIn s b = cond (sized (length (b .values)) (length (b .forms)) (length (b .actions))) (left s b) b
