@@ -5,12 +5,13 @@ use mathlib.Core.List.{List, [], _∷_}
 use mathlib.Core.Option.{none}
 use Prim.Native.Nat.{ℕ, _+_, _*_, _≤_, _<_}
 use lib.ListN.{length, take, drop}
+use Rattle.text.specs.Answers.{SeveralIs}
 use Rattle.text.specs.Append.{Stored}
 use Rattle.text.specs.Bytes.{bytes}
 use Rattle.text.specs.Readers.{Reader, Reads, word as literal}
 use Rattle.text.specs.declared.Place.{Place}
 use Rattle.text.specs.declared.Place.the-variants as place
-use Rattle.session_file.specs.Session.{Kind, reading, swapping, stepping, repeating, numbers, values, opening, keyword, arity, head}
+use Rattle.session_file.specs.Session.{Kind, reading, swapping, stepping, repeating, item, numbers, values, opening, keyword, arity, head}
 use Rattle.history.specs.History.{Action}
 use Rattle.session_reading.specs.Reading.{actAt}
 use Rattle.session_reading.specs.Kept.{Grows}
@@ -27,8 +28,7 @@ use Rattle.session_reading.specs.declared.Got.the-variants as got
 
 -- numbers, values and the first line: stored in the buffer from its start
 abbrev pub NumbersAre : List ℕ → (at k : ℕ) → List ℕ → Place → Type 0
-NumbersAre s at k out place.Nowhere = numbers k (drop at s) ≡ none
-NumbersAre s at k out (place.At next) = Reads (numbers k) s at (2 * k) (take k out) next
+NumbersAre = SeveralIs item
 
 abbrev pub ValuesAre : List ℕ → ℕ → List ℕ → Listed → Type 0
 ValuesAre s at out listed.Wrong = values (drop at s) ≡ none
