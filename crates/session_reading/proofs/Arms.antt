@@ -12,7 +12,7 @@ use Rattle.text.specs.Answers.{PlaceIs}
 use Rattle.text.specs.declared.Place.{Place}
 use Rattle.text.specs.declared.Place.the-variants as place
 use Rattle.session_file.specs.Session.{Kind, reading, swapping, stepping, repeating, arity, keyword, head, numbers, values, opening}
-use Rattle.session_reading.specs.Answers.{kindNumber, KeywordIs, NumbersAre, ValuesAre, Led, LeadIs}
+use Rattle.session_reading.specs.Answers.{kindNumber, KeywordIs, ValuesAre, Led, LeadIs}
 use Rattle.session_reading.specs.declared.Word.{Word}
 use Rattle.session_reading.specs.declared.Word.the-variants as key
 use Rattle.session_reading.specs.declared.Listed.{Listed}
@@ -24,12 +24,6 @@ module _ (s : List ℕ) (at : ℕ) where
 
   pub keyword-no : {r : Word} → r ≡ key.Unknown → KeywordIs s at r → keyword (drop at s) ≡ none
   keyword-no q x = subst (KeywordIs s at) q x
-
-  pub numbers-at : (k : ℕ) (out : List ℕ) {r : Place} {next : ℕ} → r ≡ place.At next → NumbersAre s at k out r → Reads (numbers k) s at (2 * k) (take k out) next
-  numbers-at k out q x = subst (NumbersAre s at k out) q x
-
-  pub numbers-no : (k : ℕ) (out : List ℕ) {r : Place} → r ≡ place.Nowhere → NumbersAre s at k out r → numbers k (drop at s) ≡ none
-  numbers-no k out q x = subst (NumbersAre s at k out) q x
 
   pub values-at : (out : List ℕ) {r : Listed} {n next : ℕ} → r ≡ listed.Read n next → ValuesAre s at out r → Reads values s at 1 (take n out) next
   values-at out q x = subst (ValuesAre s at out) q x

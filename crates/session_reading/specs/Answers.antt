@@ -5,13 +5,12 @@ use mathlib.Core.List.{List, [], _∷_}
 use mathlib.Core.Option.{none}
 use Prim.Native.Nat.{ℕ, _+_, _*_, _≤_, _<_}
 use lib.ListN.{length, take, drop}
-use Rattle.text.specs.Answers.{SeveralIs}
 use Rattle.text.specs.Append.{Stored}
 use Rattle.text.specs.Bytes.{bytes}
 use Rattle.text.specs.Readers.{Reader, Reads, word as literal}
 use Rattle.text.specs.declared.Place.{Place}
 use Rattle.text.specs.declared.Place.the-variants as place
-use Rattle.session_file.specs.Session.{Kind, reading, swapping, stepping, repeating, item, numbers, values, opening, keyword, arity, head}
+use Rattle.session_file.specs.Session.{Kind, reading, swapping, stepping, repeating, numbers, values, opening, keyword, arity, head}
 use Rattle.history.specs.History.{Action}
 use Rattle.session_reading.specs.Reading.{actAt}
 use Rattle.session_reading.specs.Kept.{Grows}
@@ -26,10 +25,7 @@ use Rattle.session_reading.specs.declared.Start.the-variants as start
 use Rattle.session_reading.specs.declared.Got.{Got}
 use Rattle.session_reading.specs.declared.Got.the-variants as got
 
--- numbers, values and the first line: stored in the buffer from its start
-abbrev pub NumbersAre : List ℕ → (at k : ℕ) → List ℕ → Place → Type 0
-NumbersAre = SeveralIs item
-
+-- the values, stored in the buffer from its start
 abbrev pub ValuesAre : List ℕ → ℕ → List ℕ → Listed → Type 0
 ValuesAre s at out listed.Wrong = values (drop at s) ≡ none
 ValuesAre s at out (listed.Read n next) = Reads values s at 1 (take n out) next
