@@ -91,12 +91,14 @@ module _ (p : Reader ℕ) (s : List ℕ) (at k : ℕ) (old : List ℕ) where
     one-missing h e = (sym (x .read) ∙ none-there p s k n i h (take n new) e, as-stored (nothing-stored p (k - n) (drop i s) (drop n old) e))
 
     pub all-stored : k ≡ n → i ≤ length s → Reads (several p k) s at (2 * k) (take k new) i × (new ≡ stored p k (drop at s) old)
-    all-stored e w =
-        (record {
-          finds = sym (x .read) ∙ all-read p (take n new) k n (drop i s) e ∙ ap (λ (j : ℕ). some (take j new, drop i s)) (sym e);
-          past = omega (arith, x .past);
-          within = w;
-        }, as-stored (no-more-stored p k n (drop i s) (drop n old) e))
+    all-stored e w = (
+      record {
+        finds = sym (x .read) ∙ all-read p (take n new) k n (drop i s) e ∙ ap (λ (j : ℕ). some (take j new, drop i s)) (sym e);
+        past = omega (arith, x .past);
+        within = w;
+      },
+      as-stored (no-more-stored p k n (drop i s) (drop n old) e),
+    )
 
     pub then-stored : {v j : ℕ} → n < k → n < length new → length new ≡ length old → Reads p s i 2 v j → Storing p s at k old (set new n v) j (n + 1)
     then-stored {v} {j} h b e y =
