@@ -132,6 +132,9 @@ def run(load_low, load_high, store_low, store_high, hard_low, hard_high, data,
     return (text + all_line(trace.calls, lows, highs)).encode("ascii")
 
 
+ARGUMENTS = 6
+
+
 def run_args(arguments, data, trace=None):
     """What is printed for a list of arguments, each a run of bytes.  "A wrong
     number of arguments, or one that is no number by question 14, prints `(bad

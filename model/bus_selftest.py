@@ -134,7 +134,7 @@ def arguments():
     good = b"1 2 3 4 5 6".split(b" ")
     check("good ones", bus.run_args(good, data), bus.run(1, 2, 3, 4, 5, 6,
                                                          data))
-    check("a stored case", tools.Stored(bus).run(b"1 2 3 4 5 6\n" + data),
+    check("a stored case", tools.Stored(bus).run(tools.stored(range(1, 7), data)),
           b"(bus 0 0 1 3)\n(bus 1 0 0 1)\n(all 2 4 0 0)\n")
     lists = list(bad_arguments(6, good))
     for words in lists:

@@ -1,8 +1,8 @@
 """The cases of bus, which make_tool_cases.py writes.
 
-Each file's first line has the six arguments, parted by one space; the rest is the
-session.  Everything is the same on every run.  The cases must come by each row of
-the table that an opening reaches, and by every rest of a total, rounded down and
+Each file's first six lines are the arguments; the rest is the session.
+Everything is the same on every run.  The cases must come by each row of the
+table that an opening reaches, and by every rest of a total, rounded down and
 up.
 """
 
@@ -61,7 +61,7 @@ class Cases(make_cases.Cases):
         """A call of the tool; hands back its trace."""
         if not isinstance(data, bytes):
             data = draw.text(data)
-        trace = self.add(name, b"%d %d %d %d %d %d\n" % tuple(times) + data)
+        trace = self.add(name, tools.stored(times, data))
         self.refusals += trace.refusals
         if not trace.refusals:
             self.paths.update(cells.path_of(call.lines)

@@ -1,8 +1,8 @@
 """The cases of nudge, which make_tool_cases.py writes.
 
-Each file's first line has the two arguments, parted by one space; the rest is the
-session.  Everything is the same on every run.  The cases must come by each thing
-that may become of a call, at each place of the exchange.
+Each file's first two lines are the arguments; the rest is the session.
+Everything is the same on every run.  The cases must come by each thing that may
+become of a call, at each place of the exchange.
 """
 
 from collections import Counter
@@ -52,7 +52,7 @@ class Cases(make_cases.Cases):
         if not isinstance(data, bytes):
             data = draw.text(data)
         trace = self.add("%s_%d_%d" % (name, task, n),
-                         b"%d %d\n" % (task, n) + data)
+                         tools.stored((task, n), data))
         self.refusals += trace.refusals
         if not trace.refusals:
             self.seen.update(seen_in(trace, *sizes(data)))

@@ -1,6 +1,6 @@
 """The cases of the shaker, which make_tool_cases.py writes.
 
-Each file is a line of the five arguments, parted by one space.  Everything is the
+Each file has the five arguments, each on a line of its own.  Everything is the
 same on every run.  Each drawn session is checked to be one that the reader takes
 with just its actions, none of them refused when run.
 """
@@ -34,7 +34,7 @@ class Cases(make_cases.Cases):
         given = Counter()
         for number, five in enumerate(sets):
             case = "%s_%d" % (name, number)
-            given += self.add(case, ["%d %d %d %d %d" % five]).refusals
+            given += self.add(case, tools.stored(five)).refusals
             if not refusals:
                 runs_unrefused(five, self.seen)
         self.sets += sets

@@ -21,7 +21,7 @@ import tools
 
 
 class Shaken:
-    """Session on what shake draws for the five numbers of the first line."""
+    """Session on what shake draws for the five numbers of a case."""
 
     Trace = session.Trace
 
@@ -32,7 +32,7 @@ class Shaken:
 
 def shaken_cases():
     cases = make_cases.Cases(Shaken)
-    cases.accepted("longest", ["1 32 16 128 3000"])
+    cases.accepted("longest", tools.stored((1, 32, 16, 128, 3000)))
     return cases
 
 

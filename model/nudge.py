@@ -137,6 +137,9 @@ def run(task, n, data, trace=None):
     return b"(nudge none)\n" if i is None else b"(nudge %d)\n" % i
 
 
+ARGUMENTS = 2
+
+
 def run_args(arguments, data, trace=None):
     """What is printed for a list of arguments, each a run of bytes.  "A wrong
     number of arguments, or one that is no number by question 14, prints `(bad

@@ -86,8 +86,8 @@ def drawn_sessions(count):
 
 def stored_sessions():
     """The sessions of the stored cases, those below 60 actions."""
-    sessions = {tools.arguments_of(data)[1]: name for name, data
-                in make_nudge_cases.make().files.items()
+    sessions = {tools.arguments_of(data, nudge.ARGUMENTS)[1]: name
+                for name, data in make_nudge_cases.make().files.items()
                 if not name.startswith("bad_")}
     for data in sessions:
         if len(tools.take_session(data)[1]) < 60:
@@ -172,7 +172,7 @@ def arguments():
         for session in (data, b"", b"(" * 70000):
             check("arguments %r" % (words,), nudge.run_args(words, session),
                   b"(bad 14)\n")
-    check("a stored case", tools.Stored(nudge).run(b"1 0\n" + data),
+    check("a stored case", tools.Stored(nudge).run(tools.stored((1, 0), data)),
           b"(nudge none)\n")
     return len(lists)
 

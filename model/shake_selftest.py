@@ -204,7 +204,8 @@ def arguments():
     for words, wanted in GOOD_ARGUMENTS:
         found = shaker.shake_arguments(words.split(b" "))
         check("arguments %r" % words, found[:len(wanted)], wanted)
-        check("a stored case", tools.Stored(shaker).run(words + b"\n"), found)
+        check("a stored case", tools.Stored(shaker).run(
+            words.replace(b" ", b"\n") + b"\n"), found)
     count = 0
     for words in bad_arguments():
         check("arguments %r" % (words,), shaker.shake_arguments(words),

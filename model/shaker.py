@@ -116,6 +116,9 @@ def shake_arguments(arguments):
 
 # ------------------------------------------------------ the stored cases
 
+ARGUMENTS = 5
+
+
 class Trace:
     """What a case came by, for coverage; no part of the printed text."""
 
@@ -124,7 +127,7 @@ class Trace:
 
 
 def run_args(arguments, rest=b"", trace=None):
-    """What is printed for a stored case: its first line has the arguments, and
+    """What is printed for a stored case: its lines are the arguments, and
     nothing follows."""
     if rest:
         raise ValueError("more than the arguments: %r" % rest)

@@ -28,13 +28,18 @@ def bad(number):
     return b"(bad %d)\n" % number
 
 
-def arguments_of(data):
-    """A stored case of a tool with arguments: "the first line holds the
-    arguments", parted by one space; and the session, which is the rest."""
-    line, end, rest = data.partition(b"\n")
-    if not end:
-        raise ValueError("a first line without its end: %r" % line)
-    return line.split(b" "), rest
+def stored(numbers, data=b""):
+    """A stored case of a tool with arguments: each on a line of its own, and then
+    the session."""
+    return b"".join(b"%d\n" % number for number in numbers) + data
+
+
+def arguments_of(data, count):
+    """The arguments of a stored case, and the session."""
+    *lines, rest = data.split(b"\n", count)
+    if len(lines) != count:
+        raise ValueError("fewer than %d lines: %r" % (count, data))
+    return lines, rest
 
 
 class Stored:
@@ -43,9 +48,10 @@ class Stored:
     def __init__(self, tool):
         self.Trace = tool.Trace
         self.run_args = tool.run_args
+        self.count = tool.ARGUMENTS
 
     def run(self, data, trace=None):
-        return self.run_args(*arguments_of(data), trace)
+        return self.run_args(*arguments_of(data, self.count), trace)
 
 
 def main(usage, count, run):

@@ -1,28 +1,28 @@
--- One argument, and the end after k of them.
+-- One number and its end, and the end after k of them.
 use mathlib.Core.Path.{_≡_, refl, sym, ap, _∙_}
 use mathlib.Core.Bool.{Bool, true, false}
 use mathlib.Core.List.{List, [], _∷_}
 use mathlib.Core.Option.{Option, none, some}
-use Prim.Native.Nat.{ℕ, _-_, _≤_, _<_}
+use Prim.Native.Nat.{ℕ, _*_, _≤_, _<_}
 use native.Mathlib.Omega.{arith}
 use borrow.Author.Tests.{eqb-true, eqb-false}
 use lib.Dec.{eqb}
-use lib.ListN.{length, drop, drop-of-length-le}
-use Rattle.text.specs.Readers.{Reads, word, number}
+use lib.ListN.{length, take, drop, drop-of-length-le}
+use lib.Seq.{take-all}
+use Rattle.text.specs.Readers.{Reads, word, number, several}
 use Rattle.text.proofs.Reading.{drop-byte}
-use Rattle.text.proofs.Several.{prefixed, all-read}
-use Rattle.argument_numbers.specs.Arguments.{argument, given, whole, numbersGiven, numbersOr}
+use Rattle.argument_numbers.specs.Arguments.{ended, argument, whole, numbersGiven, numbersOr}
 
-module _ (s : List ℕ) (at : ℕ) where
-  pub no-number : number (drop at s) ≡ none → argument (drop at s) ≡ none
+module _ (s : List ℕ) (at end : ℕ) where
+  pub no-number : number (drop at s) ≡ none → ended end (drop at s) ≡ none
   no-number e = rw e
 
   module _ {v a : ℕ} (x : Reads number s at 1 v a) where
-    pub no-end : word (0 ∷ []) (drop a s) ≡ none → argument (drop at s) ≡ none
+    pub no-end : word (end ∷ []) (drop a s) ≡ none → ended end (drop at s) ≡ none
     no-end e = rw (x .finds, e)
 
-    pub is-argument : {next : ℕ} → Reads (word (0 ∷ [])) s a 1 tt next → Reads argument s at 2 v next
-    is-argument y = record { finds = rw (x .finds, y .finds); past = omega (arith, x .past, y .past); within = y .within }
+    pub is-ended : {next : ℕ} → Reads (word (end ∷ [])) s a 1 tt next → Reads (ended end) s at 2 v next
+    is-ended y = record { finds = rw (x .finds, y .finds); past = omega (arith, x .past, y .past); within = y .within }
 
 -- AT THE END
 
@@ -33,10 +33,11 @@ at-end s l at h = go (eqb at (length s)) refl
     go true e = let q : length s ≤ at = omega (arith, eqb-true at (length s) e) in rw (drop-of-length-le s q)
     go false e = let q : at < length s = omega (arith, eqb-false at (length s) e) in rw (drop-byte s at q)
 
-pub all-given : (s l : List ℕ) (k n at : ℕ) → k ≡ n → at ≤ length s → prefixed l (given (k - n) (drop at s)) ≡ given k s → numbersOr (eqb at (length s)) l ≡ numbersGiven k s
+pub all-given : (s out : List ℕ) (k at : ℕ) → length out ≡ k → Reads (several argument k) s 0 (2 * k) (take k out) at → numbersOr (eqb at (length s)) out ≡ numbersGiven k s
 unfolding numbersGiven
-all-given s l k n at e h i = at-end s l at h ∙ ap whole (sym (all-read argument l k n (drop at s) e) ∙ i)
+all-given s out k at e x =
+    at-end s out at (x .within) ∙ ap (λ (l : List ℕ). whole (some (l, drop at s))) (sym (take-all k out (omega (arith, e)))) ∙ ap whole (sym (x .finds))
 
-pub none-given : (s : List ℕ) (k : ℕ) → given k s ≡ none → none ≡ numbersGiven k s
+pub none-given : (s : List ℕ) (k : ℕ) → several argument k s ≡ none → none ≡ numbersGiven k s
 unfolding numbersGiven
 none-given s k e = ap whole (sym e)

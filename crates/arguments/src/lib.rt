@@ -1,6 +1,11 @@
 // The numbers that a program is started with, for every tool that takes numbers.
 ghost use mathlib.Core.Path.{_≡_};
+ghost use mathlib.Core.Bool.{cond};
+ghost use mathlib.Core.Option.{none};
+ghost use lib.ListN.{length};
 ghost use Rattle.io.specs.Counts.{Counts};
+ghost use Rattle.text.specs.Readers.{stored};
+ghost use Rattle.argument_numbers.specs.Arguments.{argument, numbersGiven, numbersOr};
 use libc::STDERR_FILENO;
 use libc::STDOUT_FILENO;
 use report::Input;
@@ -14,8 +19,9 @@ fn partial(count: usize) -> Input
     }
 }
 
-// Every argument, each ended by byte 0, at the start of a buffer; not whole where one does not fit.
-fn gather(buf: &mut [u8]) -> Input
+// Every argument that the program was started with, each ended by byte 0, at the start of a buffer; not whole where one does
+// not fit. Which bytes the system hands over no contract can say.
+pub fn gather(buf: &mut [u8]) -> Input
     ensures { λ r. ⌜ Counts (r .count) (now (buf .exit)) ⌝ }
 {
     let count = os::arg_count();
@@ -45,17 +51,17 @@ fn refuse(usage: &[u8], what: &[u8]) {
     io::write_all(STDERR_FILENO, usage);
 }
 
-// Stores the numbers that the program was started with: as many as out has places. Where that is not so, writes (bad 14),
-// and how the program is used on standard error. Of what the system hands over no contract can say anything.
-pub fn take(out: &mut [u32], usage: &[u8], what: &[u8]) -> bool {
-    let mut buf = io::buffer();
-    let line = gather(&mut buf);
-    if !line.whole {
+// Stores the numbers of the arguments that were gathered, if all of them were; whether there are as many as places, and all
+// are numbers. Where not, writes (bad 14), and how the program is used on standard error.
+pub fn take(line: &[u8], whole: bool, out: &mut [u32], usage: &[u8], what: &[u8]) -> bool
+    ensures { λ r. ⌜ numbersOr r (now (out .exit)) ≡ cond whole (numbersGiven (length (now (out .entry))) (now (line .entry))) none ⌝ }
+    ensures { λ r. ⌜ now (out .exit) ≡ cond whole (stored argument (length (now (out .entry))) (now (line .entry)) (now (out .entry))) (now (out .entry)) ⌝ }
+{
+    if !whole {
         refuse(usage, what);
         return false;
     }
-    let n = line.count;
-    if argument_numbers::numbers(&buf[..n], out) {
+    if argument_numbers::numbers(line, out) {
         return true;
     }
     refuse(usage, what);

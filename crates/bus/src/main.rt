@@ -7,7 +7,12 @@ use libc::STDOUT_FILENO;
 
 fn main() {
     let mut n = [0u32; 6];
+    let mut line = io::buffer();
+    let given = arguments::gather(&mut line);
+    let length = given.count;
     if !arguments::take(
+        &line[..length],
+        given.whole,
         &mut n,
         b"usage: bus LL LH SL SH HL HH\n",
         b"bus: cannot write standard output",

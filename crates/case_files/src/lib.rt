@@ -1,9 +1,18 @@
 // The files that a program's arguments name, each of them a case.
-pub mod first_line;
-
+ghost use mathlib.Core.Path.{_≡_};
+ghost use lib.ListN.{length};
 ghost use Rattle.io.specs.Counts.{Counts};
+ghost use Rattle.buffers.specs.Space.{zeros};
 use libc::STDOUT_FILENO;
 use report::Input;
+
+// The numbers that a tool takes, and one byte more than a session may have.
+pub fn case_space() -> [u8; 65700]
+    ensures { λ r. ⌜ r ≡ zeros 65700 ⌝ }
+    ensures { λ r. ⌜ 65700 ≡ length r ⌝ }
+{
+    [0; 65700]
+}
 
 // A file open for reading, negative where that failed, and how long its name is.
 pub struct Case {

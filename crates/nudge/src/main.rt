@@ -6,7 +6,12 @@ use nudge_runner::run_nudge;
 
 fn main() {
     let mut call = [0u32; 2];
+    let mut line = io::buffer();
+    let given = arguments::gather(&mut line);
+    let length = given.count;
     if !arguments::take(
+        &line[..length],
+        given.whole,
         &mut call,
         b"usage: nudge TASK FINISHED-BEFORE < SESSION\n",
         b"nudge: cannot write standard output",

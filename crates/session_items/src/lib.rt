@@ -4,9 +4,9 @@ use text::Place;
 ghost use mathlib.Core.Path.{_≡_};
 ghost use Prim.Native.Nat.{_≤_};
 ghost use lib.ListN.{length, drop};
-ghost use Rattle.text.specs.Answers.{PlaceIs, NumeralIs};
+ghost use Rattle.text.specs.Readers.{stored};
+ghost use Rattle.text.specs.Answers.{PlaceIs, NumeralIs, SeveralIs};
 ghost use Rattle.session_file.specs.Session.{space as «spaceOf», item as «itemOf», close as «closeOf»};
-ghost use Rattle.session_reading.specs.Answers.{NumbersAre};
 
 pub fn space(s: &[u8], at: usize) -> Place
     requires { ⌜ at ≤ length (now s) ⌝ }
@@ -34,12 +34,12 @@ pub fn close(s: &[u8], at: usize) -> Place
     readers::starts_with(s, at, b")")
 }
 
-// Stores k numbers, each after a space, and nothing behind them. Where one is missing, the first k words are open.
+// Stores k numbers, each after a space; where one is missing, those before it.
 pub fn numbers(s: &[u8], at: usize, k: usize, out: &mut [u32]) -> Place
     requires { ⌜ at ≤ length (now s) ⌝ }
     requires { ⌜ k ≤ length (now out) ⌝ }
-    ensures { λ r. ⌜ NumbersAre (now (s .entry)) at k (now (out .exit)) r ⌝ }
-    ensures { λ r. ⌜ drop k (now (out .exit)) ≡ drop k (now (out .entry)) ⌝ }
+    ensures { λ r. ⌜ SeveralIs «itemOf» (now (s .entry)) at k (now (out .exit)) r ⌝ }
+    ensures { λ r. ⌜ now (out .exit) ≡ stored «itemOf» k (drop at (now (s .entry))) (now (out .entry)) ⌝ }
 {
     let mut i = at;
     let mut n = 0;

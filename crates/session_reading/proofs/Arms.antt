@@ -1,5 +1,5 @@
 -- What an arm of a match on an answer knows, and the readers that follow one another in a form's head and in open.
-use mathlib.Core.Path.{_≡_, subst}
+use mathlib.Core.Path.{_≡_, ap, subst, _∙_}
 use mathlib.Core.List.{List}
 use mathlib.Core.Option.{none}
 use Prim.Native.Nat.{ℕ, _*_, _≤_}
@@ -7,12 +7,13 @@ use native.Mathlib.Omega.{arith}
 use lib.ListN.{take, drop, getD}
 use lib.Seq.{getD-take}
 use Rattle.text.specs.Bytes.{bytes}
-use Rattle.text.specs.Readers.{Reads, word}
+use Rattle.text.specs.Readers.{Reads, word, stored}
 use Rattle.text.specs.Answers.{PlaceIs}
+use Rattle.text.proofs.Several.{stored-rest}
 use Rattle.text.specs.declared.Place.{Place}
 use Rattle.text.specs.declared.Place.the-variants as place
-use Rattle.session_file.specs.Session.{Kind, reading, swapping, stepping, repeating, arity, keyword, head, numbers, values, opening}
-use Rattle.session_reading.specs.Answers.{kindNumber, KeywordIs, NumbersAre, ValuesAre, Led, LeadIs}
+use Rattle.session_file.specs.Session.{Kind, reading, swapping, stepping, repeating, arity, keyword, head, item, numbers, values, opening}
+use Rattle.session_reading.specs.Answers.{kindNumber, KeywordIs, ValuesAre, Led, LeadIs}
 use Rattle.session_reading.specs.declared.Word.{Word}
 use Rattle.session_reading.specs.declared.Word.the-variants as key
 use Rattle.session_reading.specs.declared.Listed.{Listed}
@@ -25,12 +26,6 @@ module _ (s : List ℕ) (at : ℕ) where
   pub keyword-no : {r : Word} → r ≡ key.Unknown → KeywordIs s at r → keyword (drop at s) ≡ none
   keyword-no q x = subst (KeywordIs s at) q x
 
-  pub numbers-at : (k : ℕ) (out : List ℕ) {r : Place} {next : ℕ} → r ≡ place.At next → NumbersAre s at k out r → Reads (numbers k) s at (2 * k) (take k out) next
-  numbers-at k out q x = subst (NumbersAre s at k out) q x
-
-  pub numbers-no : (k : ℕ) (out : List ℕ) {r : Place} → r ≡ place.Nowhere → NumbersAre s at k out r → numbers k (drop at s) ≡ none
-  numbers-no k out q x = subst (NumbersAre s at k out) q x
-
   pub values-at : (out : List ℕ) {r : Listed} {n next : ℕ} → r ≡ listed.Read n next → ValuesAre s at out r → Reads values s at 1 (take n out) next
   values-at out q x = subst (ValuesAre s at out) q x
 
@@ -42,6 +37,10 @@ few-numbers reading = (omega arith, omega arith)
 few-numbers swapping = (omega arith, omega arith)
 few-numbers stepping = (omega arith, omega arith)
 few-numbers repeating = (omega arith, omega arith)
+
+-- behind a form's numbers the buffer is as it was
+pub numbers-rest : {k n : ℕ} (s old : List ℕ) {new : List ℕ} → k ≡ n → new ≡ stored item k s old → drop n new ≡ drop n old
+numbers-rest {n = n} s old e q = ap (drop n) (q ∙ ap (λ (j : ℕ). stored item j s old) e) ∙ stored-rest item n s old
 
 -- a form's word, and then its numbers
 module _ (s : List ℕ) (at : ℕ) {kind : Kind} {a : ℕ} (x : Reads keyword s at 5 kind a) where

@@ -25,11 +25,7 @@ use Rattle.session_reading.specs.declared.Got.the-variants as got
 use Rattle.session_reading.specs.declared.Rest.{Rest}
 use Rattle.session_reading.specs.declared.Rest.the-variants as rest
 
--- numbers, values and the first line: stored in the buffer from its start
-abbrev pub NumbersAre : List ℕ → (at k : ℕ) → List ℕ → Place → Type 0
-NumbersAre s at k out place.Nowhere = numbers k (drop at s) ≡ none
-NumbersAre s at k out (place.At next) = Reads (numbers k) s at (2 * k) (take k out) next
-
+-- the values, stored in the buffer from its start
 abbrev pub ValuesAre : List ℕ → ℕ → List ℕ → Listed → Type 0
 ValuesAre s at out listed.Wrong = values (drop at s) ≡ none
 ValuesAre s at out (listed.Read n next) = Reads values s at 1 (take n out) next

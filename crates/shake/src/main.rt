@@ -4,7 +4,12 @@ use libc::STDOUT_FILENO;
 
 fn main() {
     let mut n = [0u32; 5];
+    let mut line = io::buffer();
+    let given = arguments::gather(&mut line);
+    let length = given.count;
     if !arguments::take(
+        &line[..length],
+        given.whole,
         &mut n,
         b"usage: shake SEED N V B LENGTH\n",
         b"shake: cannot write standard output",

@@ -8,10 +8,10 @@ use native.Mathlib.Numerals.{add-one}
 use native.Mathlib.Omega.{arith}
 use borrow.Author.Tests.{ltb-true, ltb-false, le-leb, lt-leb, eq-eqb, ne-eqb}
 use lib.Dec.{T, ltb}
-use lib.ListN.{length, drop, getD, drop-of-length-le}
+use lib.ListN.{length, take, drop, getD, drop-of-length-le}
 use lib.Seq.{drop-cons}
-use Rattle.text.specs.Readers.{Reader, Reads, word, isDigit, digitsAfter, number}
-use Rattle.text.specs.Answers.{PlaceIs, NumeralIs}
+use Rattle.text.specs.Readers.{Reader, Reads, several, word, isDigit, digitsAfter, number}
+use Rattle.text.specs.Answers.{PlaceIs, NumeralIs, SeveralIs}
 use Rattle.text.specs.declared.Place.{Place}
 use Rattle.text.specs.declared.Place.the-variants as place
 use Rattle.text.specs.declared.Numeral.{Numeral}
@@ -109,3 +109,9 @@ module _ (s : List ℕ) (at : ℕ) where
 
   pub number-no : (p : Reader ℕ) (m : ℕ) {r : Numeral} → r ≡ numeral.Absent → NumeralIs p s at m r → p (drop at s) ≡ none
   number-no p m q x = subst (NumeralIs p s at m) q x
+
+  pub several-at : (p : Reader ℕ) (k : ℕ) (out : List ℕ) {r : Place} {next : ℕ} → r ≡ place.At next → SeveralIs p s at k out r → Reads (several p k) s at (2 * k) (take k out) next
+  several-at p k out q x = subst (SeveralIs p s at k out) q x
+
+  pub several-no : (p : Reader ℕ) (k : ℕ) (out : List ℕ) {r : Place} → r ≡ place.Nowhere → SeveralIs p s at k out r → several p k (drop at s) ≡ none
+  several-no p k out q x = subst (SeveralIs p s at k out) q x

@@ -2,9 +2,9 @@
 use mathlib.Core.Path.{_≡_}
 use mathlib.Core.List.{List}
 use mathlib.Core.Option.{none}
-use Prim.Native.Nat.{ℕ}
-use lib.ListN.{drop}
-use Rattle.text.specs.Readers.{Reader, Reads}
+use Prim.Native.Nat.{ℕ, _*_}
+use lib.ListN.{take, drop}
+use Rattle.text.specs.Readers.{Reader, Reads, several}
 use Rattle.text.specs.declared.Place.{Place}
 use Rattle.text.specs.declared.Place.the-variants as place
 use Rattle.text.specs.declared.Numeral.{Numeral}
@@ -18,3 +18,8 @@ PlaceIs p s at long (place.At next) = Reads p s at long tt next
 abbrev pub NumeralIs : Reader ℕ → List ℕ → (at long : ℕ) → Numeral → Type 0
 NumeralIs p s at long numeral.Absent = p (drop at s) ≡ none
 NumeralIs p s at long (numeral.Read v next) = Reads p s at long v next
+
+-- k of them, each two bytes long or more, and out has them at its start
+abbrev pub SeveralIs : Reader ℕ → List ℕ → (at k : ℕ) → List ℕ → Place → Type 0
+SeveralIs p s at k out place.Nowhere = several p k (drop at s) ≡ none
+SeveralIs p s at k out (place.At next) = Reads (several p k) s at (2 * k) (take k out) next

@@ -41,6 +41,17 @@ several p (suc k) = do
   l ← several p k
   pure (a ∷ l)
 
+-- what was found, and then the rest, over what stood there; nothing found leaves it
+abbrev pub overwritten : Option (ℕ × List ℕ) → (List ℕ → List ℕ) → List ℕ → List ℕ
+overwritten none rest old = old
+overwritten (some (v, t)) rest old = v ∷ rest t
+
+-- a buffer after at most k of them were stored from its start, one after another until one is missing
+unfoldable pub stored : Reader ℕ → ℕ → (s old : List ℕ) → List ℕ
+stored p zero s old = old
+stored p (suc k) s [] = []
+stored p (suc k) s (o ∷ old) = overwritten (p s) (λ t. stored p k t old) (o ∷ old)
+
 -- the word w
 unfoldable pub word : List ℕ → Reader (Unit {0})
 word [] s = some (tt, s)

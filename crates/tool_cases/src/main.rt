@@ -1,13 +1,12 @@
 // Writes the name of each case that an argument names, and what the tool prints of it in whose folder it stands. Where a tool
-// takes numbers, the first line has them; one that has not gives (bad 14), as does a folder of no tool.
+// takes numbers, the first lines have one each; a case that has not gives (bad 14), as does a folder of no tool.
 ghost use Rattle.io.specs.Counts.{Counts};
 use buffers::lines_space;
 use buffers::session_space;
-use case_files::first_line::First;
-use case_files::first_line::case_space;
-use case_files::first_line::read_first;
+use case_files::case_space;
 use case_files::read_case;
 use libc::STDOUT_FILENO;
+use text::Place;
 
 const SESSION: u32 = 0;
 
@@ -58,7 +57,7 @@ fn tool_of(name: [u8; 4096]) -> Tool {
     Tool { number, takes }
 }
 
-// The numbers that the first line has, and where the next one begins.
+// The numbers that the first lines have, and where the next one begins.
 struct Start {
     good: bool,
     next: usize,
@@ -72,16 +71,19 @@ struct Start {
 
 fn read_start(s: &[u8], takes: usize) -> Start {
     let mut n = [0u32; 6];
-    let mut first = First {
-        good: false,
-        next: 0,
-    };
+    let mut read = Place::Nowhere;
     if takes <= 6 {
-        first = read_first(s, &mut n[..takes]);
+        read = argument_numbers::ended_numbers(s, b'\n', &mut n[..takes]);
+    }
+    let mut good = false;
+    let mut next = 0;
+    if let Place::At(at) = read {
+        good = true;
+        next = at;
     }
     Start {
-        good: first.good,
-        next: first.next,
+        good,
+        next,
         a: n[0],
         b: n[1],
         c: n[2],

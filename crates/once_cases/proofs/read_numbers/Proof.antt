@@ -7,7 +7,7 @@ use Rattle.once_cases.proofs.read_numbers.Tie as tie
 starts-with-requires : tie.Need-starts-with-requires
 starts-with-requires c κs =
     let e = c .before .before .before .before .before .before .before .before .args in
-    numbered (e .s .now) (e .from) (c .before .before .read .given .1) (e .form) _ (c .before .before .before .before .before .numbers .ensures .0) .1
+    numbered (e .s .now) (e .from) (c .before .before .read .given .1) _ (e .form) _ (c .before .before .before .before .before .numbers .ensures .0) .1
 
 pub read-numbers-spec : {M : Type 1} → statement M
 read-numbers-spec =

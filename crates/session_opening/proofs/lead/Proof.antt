@@ -1,7 +1,7 @@
 use borrow.Author.Needs.{needs}
-use Rattle.session_reading.proofs.Arms.{numbers-at, numbers-no, lead-ends}
-use Rattle.session_file.specs.Session.{numbers, opening}
-use Rattle.text.proofs.Reading.{place-at, place-no}
+use Rattle.session_reading.proofs.Arms.{lead-ends}
+use Rattle.session_file.specs.Session.{item, numbers, opening}
+use Rattle.text.proofs.Reading.{place-at, place-no, several-at, several-no}
 use Rattle.text.specs.Readers.{Reads, word}
 use Rattle.text.specs.Bytes.{bytes}
 use lib.ListN.{take}
@@ -13,7 +13,7 @@ opens : (c : tie.After-word) → Reads (word (bytes "(open")) (c .before .before
 opens c = place-at _ _ (word (bytes "(open")) 5 (c .word .given .1) (c .before .before .starts-with .ensures)
 
 three : (c : tie.After-three) → Reads (numbers 3) (c .before .before .before .before .before .before .before .before .before .before .before .before .before .args .s .now) (c .before .before .before .before .before .before .before .word .given .0 .0) 6 (take 3 (c .before .before .before .before .numbers .last .1 .1 .1 .0)) (c .three .given .0 .0)
-three c = numbers-at _ _ 3 _ (c .three .given .1) (c .before .before .before .before .numbers .ensures .0)
+three c = several-at _ _ item 3 _ (c .three .given .1) (c .before .before .before .before .numbers .ensures .0)
 
 returns : tie.Need-returns
 unfolding opening
@@ -24,7 +24,7 @@ numbers-requires c κs = (opens (c .before .before) .within, search needs)
 
 returns-2 : tie.Need-returns-2
 unfolding opening
-returns-2 c = rw (opens (c .before .before .before .before .before .before .before) .finds, numbers-no (c .before .before .before .before .before .before .before .before .before .before .before .before .before .args .s .now) _ 3 (c .before .before .before .before .numbers .last .1 .1 .1 .0) (c .enum-told2 .given .1) (c .before .before .before .before .numbers .ensures .0))
+returns-2 c = rw (opens (c .before .before .before .before .before .before .before) .finds, several-no (c .before .before .before .before .before .before .before .before .before .before .before .before .before .args .s .now) _ item 3 (c .before .before .before .before .numbers .last .1 .1 .1 .0) (c .enum-told2 .given .1) (c .before .before .before .before .numbers .ensures .0))
 
 starts-with-requires-2 : tie.Need-starts-with-requires-2
 starts-with-requires-2 c κs = three (c .before .before) .within

@@ -6,16 +6,18 @@ use native.Mathlib.Omega.{arith}
 use Rattle.tool_cases.proofs.read_start.Statement.{statement}
 use Rattle.tool_cases.proofs.read_start.Tie as tie
 
-slice-aggregate-read-first : tie.Need-slice-aggregate-read-first
-slice-aggregate-read-first c = sym (length-take-le _ _ (omega arith))
+slice-aggregate-ended-numbers : tie.Need-slice-aggregate-ended-numbers
+slice-aggregate-ended-numbers c = sym (length-take-le _ _ (omega arith))
 
 pub read-start-spec : {M : Type 1} → statement M
 read-start-spec =
     tie.close
     (tie.spec
     (λ c. search needs)
-    slice-aggregate-read-first
+    slice-aggregate-ended-numbers
     (λ c κs. search needs)
+    (λ c. search needs)
+    (λ c. search needs)
     (λ c. search needs)
     (λ c. search needs)
     (λ c. search needs)

@@ -1,6 +1,6 @@
 use Rattle.buffers.proofs.Zeros.{all-zeros, as-long}
-use Rattle.case_files.proofs.first_line.case_space.Statement.{statement}
-use Rattle.case_files.proofs.first_line.case_space.Tie as tie
+use Rattle.case_files.proofs.case_space.Statement.{statement}
+use Rattle.case_files.proofs.case_space.Tie as tie
 
 returns : tie.Need-returns
 returns c = (all-zeros 65700, as-long 65700)
