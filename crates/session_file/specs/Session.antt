@@ -73,30 +73,30 @@ opening = do
   pure (record { tasks = getD n 0 0; cells = getD n 1 0; blocks = getD n 2 0; values = v })
 
 -- the other forms, each a word, its numbers and, of again, forms
-pub data Kind : Type 0 where
-  reading : Kind
-  swapping : Kind
-  stepping : Kind
-  repeating : Kind
+pub data FormKind : Type 0 where
+  reading : FormKind
+  swapping : FormKind
+  stepping : FormKind
+  repeating : FormKind
 
-abbrev pub means : List ℕ → Kind → Reader Kind
+abbrev pub means : List ℕ → FormKind → Reader FormKind
 means w k = word w >> pure k
 
-unfoldable pub keyword : Reader Kind
+unfoldable pub keyword : Reader FormKind
 keyword s =
     either (means (bytes "(read") reading s)
     (either (means (bytes "(swap") swapping s)
     (either (means (bytes "(step") stepping s)
     (means (bytes "(again") repeating s)))
 
-abbrev pub arity : Kind → ℕ
+abbrev pub arity : FormKind → ℕ
 arity reading = 2
 arity swapping = 4
 arity stepping = 1
 arity repeating = 1
 
 -- a form up to the last of its numbers
-unfoldable pub head : Reader (Kind × List ℕ)
+unfoldable pub head : Reader (FormKind × List ℕ)
 head = do
   k ← keyword
   n ← numbers (arity k)
@@ -112,7 +112,7 @@ mutual
     with : Forms → Form → Forms
 
 -- the rest of a form
-unfoldable pub body : Reader Forms → Kind → List ℕ → Reader Form
+unfoldable pub body : Reader Forms → FormKind → List ℕ → Reader Form
 body forms reading n = close >> pure (act (begin (getD n 0 0) (read (getD n 1 0))))
 body forms swapping n = close >> pure (act (begin (getD n 0 0) (swap (getD n 1 0) (getD n 2 0) (getD n 3 0))))
 body forms stepping n = close >> pure (act (step (getD n 0 0)))

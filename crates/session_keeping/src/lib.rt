@@ -2,10 +2,11 @@
 use session_reading::Got;
 ghost use mathlib.Core.Path.{_≡_};
 ghost use mathlib.Core.Bool.{true, false, cond};
+ghost use mathlib.Core.Option.{some};
 ghost use Prim.Native.Nat.{_+_, _*_, _≤_, _<_};
 ghost use lib.Dec.{leb};
 ghost use lib.ListN.{length, getD, set};
-ghost use Rattle.session_reading.specs.declared.Got.the-variants.{At};
+ghost use Rattle.session_reading.specs.Answers.{kept, gotOf};
 
 // Keeps a form of five words, read up to `next`, and one action of it, if there is room for the action.
 pub fn keep(
@@ -21,7 +22,7 @@ pub fn keep(
     requires { ⌜ f < 65536 ⌝ }
     requires { ⌜ n ≤ length (now actions) ⌝ }
     requires { ⌜ 4 ≤ length (now numbers) ⌝ }
-    ensures { λ r. ⌜ r ≡ cond (leb (length (now (actions .entry))) n) (At next true f n) (At next false (f + 1) (n + 1)) ⌝ }
+    ensures { λ r. ⌜ gotOf r ≡ some (next, cond (leb (length (now (actions .entry))) n) (kept true f n) (kept false (f + 1) (n + 1))) ⌝ }
     ensures { λ _. ⌜ now (forms .exit) ≡ cond (leb (length (now (actions .entry))) n) (now (forms .entry)) (set (set (set (set (set (now (forms .entry)) (5 * f) kind) (5 * f + 1) (getD (now (numbers .entry)) 0 0)) (5 * f + 2) (getD (now (numbers .entry)) 1 0)) (5 * f + 3) (getD (now (numbers .entry)) 2 0)) (5 * f + 4) (getD (now (numbers .entry)) 3 0)) ⌝ }
     ensures { λ _. ⌜ now (actions .exit) ≡ cond (leb (length (now (actions .entry))) n) (now (actions .entry)) (set (now (actions .entry)) n f) ⌝ }
 {

@@ -12,15 +12,15 @@ use Rattle.text.specs.Answers.{PlaceIs}
 use Rattle.text.proofs.Several.{stored-rest}
 use Rattle.text.specs.declared.Place.{Place}
 use Rattle.text.specs.declared.Place.the-variants as place
-use Rattle.session_file.specs.Session.{Kind, reading, swapping, stepping, repeating, arity, keyword, head, item, numbers, values, opening}
-use Rattle.session_reading.specs.Answers.{kindNumber, KeywordIs, ValuesAre, Led, LeadIs}
+use Rattle.session_file.specs.Session.{FormKind, reading, swapping, stepping, repeating, arity, keyword, head, item, numbers, values, opening}
+use Rattle.session_reading.specs.Answers.{formNumber, KeywordIs, ValuesAre, Led, LeadIs}
 use Rattle.session_reading.specs.declared.Word.{Word}
 use Rattle.session_reading.specs.declared.Word.the-variants as key
 use Rattle.session_reading.specs.declared.Listed.{Listed}
 use Rattle.session_reading.specs.declared.Listed.the-variants as listed
 
 module _ (s : List ℕ) (at : ℕ) where
-  pub keyword-at : {r : Word} {n k next : ℕ} → r ≡ key.Known n k next → KeywordIs s at r → (kind : Kind) × (n ≡ kindNumber kind) × (k ≡ arity kind) × Reads keyword s at 5 kind next
+  pub keyword-at : {r : Word} {n k next : ℕ} → r ≡ key.Known n k next → KeywordIs s at r → (kind : FormKind) × (n ≡ formNumber kind) × (k ≡ arity kind) × Reads keyword s at 5 kind next
   keyword-at q x = subst (KeywordIs s at) q x
 
   pub keyword-no : {r : Word} → r ≡ key.Unknown → KeywordIs s at r → keyword (drop at s) ≡ none
@@ -32,7 +32,7 @@ module _ (s : List ℕ) (at : ℕ) where
   pub values-no : (out : List ℕ) {r : Listed} → r ≡ listed.Wrong → ValuesAre s at out r → values (drop at s) ≡ none
   values-no out q x = subst (ValuesAre s at out) q x
 
-pub few-numbers : (k : Kind) → (1 ≤ arity k) × (arity k ≤ 4)
+pub few-numbers : (k : FormKind) → (1 ≤ arity k) × (arity k ≤ 4)
 few-numbers reading = (omega arith, omega arith)
 few-numbers swapping = (omega arith, omega arith)
 few-numbers stepping = (omega arith, omega arith)
@@ -43,7 +43,7 @@ pub numbers-rest : {k n : ℕ} (s old : List ℕ) {new : List ℕ} → k ≡ n �
 numbers-rest {n = n} s old e q = ap (drop n) (q ∙ ap (λ (j : ℕ). stored item j s old) e) ∙ stored-rest item n s old
 
 -- a form's word, and then its numbers
-module _ (s : List ℕ) (at : ℕ) {kind : Kind} {a : ℕ} (x : Reads keyword s at 5 kind a) where
+module _ (s : List ℕ) (at : ℕ) {kind : FormKind} {a : ℕ} (x : Reads keyword s at 5 kind a) where
   pub head-no : numbers (arity kind) (drop a s) ≡ none → head (drop at s) ≡ none
   unfolding head
   head-no e = rw (x .finds, e)

@@ -2,6 +2,7 @@
 use mathlib.Core.Path.{_≡_, refl, sym, ap, _∙_}
 use mathlib.Core.Bool.{Bool, true, false, cond, _||_, false≢true}
 use mathlib.Core.List.{List, [], _∷_, _++_, append-nil}
+use mathlib.Core.Option.{Option, none, some}
 use Prim.Native.Nat.{ℕ, zero, suc, _+_, _-_, _*_, _≤_, _<_}
 use native.Mathlib.Nat.{mul-le-mul-right}
 use native.Mathlib.Omega.{arith}
@@ -12,7 +13,7 @@ use borrow.Author.Tests.{leb-true, leb-false}
 use Rattle.text.specs.Append.{Appended}
 use Rattle.text.proofs.Appending.{nothing, one, then, stored-then, front, behind, later, whole}
 use Rattle.session_file.specs.Session.{again, Forms, times}
-use Rattle.session_reading.specs.Answers.{Far, Kept, kept, Stands, KeptIs, ofForm}
+use Rattle.session_reading.specs.Answers.{Far, Kept, kept, gotOf, Stands, KeptIs, ofForm}
 use Rattle.session_reading.specs.Tables.{done, doneOf, names, namesOf, over, tableOf}
 use Rattle.session_reading.specs.declared.Got.{Got}
 use Rattle.session_reading.specs.declared.Got.the-variants as got
@@ -142,6 +143,15 @@ module _ (c : ℕ) (l : Forms) (z : c ≡ 0 → ⊥) where
 next-one : {a b : List ℕ} {p q : ℕ} {t : List ℕ} (i x : ℕ) → Appended a b p q t → q ≡ i → i < length b → Appended a (set b i x) p (i + 1) (t ++ (x ∷ []))
 next-one {b = b} i x y e h = then (rw e at y) (one b i x h)
 
+-- an answer is known by what it stands for
+abbrev answered : Option (ℕ × Kept) → Got
+answered none = got.Bad
+answered (some (next, k)) = got.At next (k .over) (k .forms) (k .actions)
+
+got-is : (r : Got) {x : Option (ℕ × Kept)} → gotOf r ≡ x → r ≡ answered x
+got-is got.Bad e = ap answered e
+got-is (got.At next o f n) e = ap answered e
+
 -- one form kept, and an action of it
 module _ (F A : List ℕ) (f n kind next : ℕ) (numbers : List ℕ) (g : 5 * f + 5 ≤ length F) (h : n ≤ length A) where
   abbrev filled : List ℕ
@@ -167,9 +177,9 @@ module _ (F A : List ℕ) (f n kind next : ℕ) (numbers : List ℕ) (g : 5 * f 
   keep-one : n < length A → Stands F filled A (set A n f) f n (kept false (f + 1) (n + 1)) five (f ∷ [])
   keep-one k = record { more-forms = omega arith; more-actions = omega arith; fits = omega arith; room = omega arith; far = (five-kept, one A n f k); still = λ w. absurd (omega arith) }
 
-  pub keep-is : {r : Got} {G B : List ℕ} → r ≡ cond (leb (length A) n) (got.At next true f n) (got.At next false (f + 1) (n + 1)) → G ≡ cond (leb (length A) n) F filled → B ≡ cond (leb (length A) n) A (set A n f) → KeptIs F G A B f n next (f + 1) five (f ∷ []) r
-  keep-is p q e = rw (p, q, e) (go (leb (length A) n) (leb-true (length A) n) (leb-false (length A) n))
+  pub keep-is : (r : Got) {G B : List ℕ} → gotOf r ≡ some (next, cond (leb (length A) n) (kept true f n) (kept false (f + 1) (n + 1))) → G ≡ cond (leb (length A) n) F filled → B ≡ cond (leb (length A) n) A (set A n f) → KeptIs F G A B f n next (f + 1) five (f ∷ []) r
+  keep-is r p q e = rw (got-is r p, q, e) (go (leb (length A) n) (leb-true (length A) n) (leb-false (length A) n))
     where
-      go : (o : Bool) → (o ≡ true → length A ≤ n) → (o ≡ false → n < length A) → KeptIs F (cond o F filled) A (cond o A (set A n f)) f n next (f + 1) five (f ∷ []) (cond o (got.At next true f n) (got.At next false (f + 1) (n + 1)))
+      go : (o : Bool) → (o ≡ true → length A ≤ n) → (o ≡ false → n < length A) → KeptIs F (cond o F filled) A (cond o A (set A n f)) f n next (f + 1) five (f ∷ []) (answered (some (next, cond o (kept true f n) (kept false (f + 1) (n + 1)))))
       go true x y = (refl, keep-over (x refl), omega arith)
       go false x y = (refl, keep-one (y refl), omega arith)

@@ -2,7 +2,7 @@
 use mathlib.Core.Path.{_≡_}
 use mathlib.Core.Bool.{Bool, true, false}
 use mathlib.Core.List.{List}
-use mathlib.Core.Option.{none}
+use mathlib.Core.Option.{Option, none, some}
 use Prim.Native.Nat.{ℕ, _+_, _*_, _≤_, _<_}
 use lib.ListN.{length, take, drop}
 use Rattle.text.specs.Append.{Appended}
@@ -10,7 +10,7 @@ use Rattle.text.specs.Bytes.{bytes}
 use Rattle.text.specs.Readers.{Reader, Reads, word as literal}
 use Rattle.text.specs.declared.Place.{Place}
 use Rattle.text.specs.declared.Place.the-variants as place
-use Rattle.session_file.specs.Session.{Kind, reading, swapping, stepping, repeating, numbers, values, opening, keyword, arity, head, Form, Forms, counts, lines}
+use Rattle.session_file.specs.Session.{FormKind, reading, swapping, stepping, repeating, numbers, values, opening, keyword, arity, head, Form, Forms, counts, lines}
 use Rattle.session_reading.specs.Tables.{tableOf, done, doneOf, names, namesOf, over, zeros}
 use Rattle.session_reading.specs.declared.Listed.{Listed}
 use Rattle.session_reading.specs.declared.Listed.the-variants as listed
@@ -46,21 +46,21 @@ abbrev pub OpenedIs : List ℕ → List ℕ → Opened → Type 0
 OpenedIs s out opened.Wrong = opening s ≡ none
 OpenedIs s out (opened.Read t c b n next) = Reads opening s 0 0 (record { tasks = t; cells = c; blocks = b; values = take n out }) next
 
-abbrev pub kindNumber : Kind → ℕ
-kindNumber reading = 1
-kindNumber swapping = 2
-kindNumber stepping = 3
-kindNumber repeating = 4
+abbrev pub formNumber : FormKind → ℕ
+formNumber reading = 1
+formNumber swapping = 2
+formNumber stepping = 3
+formNumber repeating = 4
 
 abbrev pub KeywordIs : List ℕ → ℕ → Word → Type 0
 KeywordIs s at word.Unknown = keyword (drop at s) ≡ none
-KeywordIs s at (word.Known n k next) = (kind : Kind) × (n ≡ kindNumber kind) × (k ≡ arity kind) × Reads keyword s at 5 kind next
+KeywordIs s at (word.Known n k next) = (kind : FormKind) × (n ≡ formNumber kind) × (k ≡ arity kind) × Reads keyword s at 5 kind next
 
 -- behind its numbers the buffer is as it was
 abbrev pub HeadIs : List ℕ → ℕ → (old new : List ℕ) → Start → Type 0
 HeadIs s at o p start.Unknown = head (drop at s) ≡ none
 HeadIs s at o p (start.Known n next) =
-    (kind : Kind) × (n ≡ kindNumber kind) × Reads head s at 7 (kind, take (arity kind) p) next × (drop (arity kind) p ≡ drop (arity kind) o)
+    (kind : FormKind) × (n ≡ formNumber kind) × Reads head s at 7 (kind, take (arity kind) p) next × (drop (arity kind) p ≡ drop (arity kind) o)
 
 -- more actions than there is room for, or just these forms and actions appended
 abbrev pub Far : Bool → (F F′ A A′ : List ℕ) → (f n g m : ℕ) → (table words : List ℕ) → Type 0
@@ -75,6 +75,11 @@ pub record Kept : Type 0 where
 
 abbrev pub kept : Bool → (forms actions : ℕ) → Kept
 kept o f n = record { over = o; forms = f; actions = n }
+
+-- what an answer stands for: no form, or the place behind it and what is kept
+abbrev pub gotOf : Got → Option (ℕ × Kept)
+gotOf got.Bad = none
+gotOf (got.At next o f n) = some (next, kept o f n)
 
 -- a table and actions that number its forms, read with f forms and n actions kept before them, and what is kept then of
 -- the buffers F and A; nothing is changed where there is no room

@@ -4,7 +4,7 @@ use Rattle.session_reading.proofs.Standing.{again-none, again-done, again-names
 use Rattle.session_reading.proofs.Walks.{got-at, got-no, kept-got, ready-later, ready-part, Walk, walk-start, walk-end, walk-stop, walk-more}
 use Rattle.session_reading.proofs.Forming.{head-at, head-no, act-table, form-none, form-no, again-no, again-at, act-no, act-at}
 use Rattle.session_file.specs.Session as specs
-use Rattle.session_reading.specs.Answers.{kindNumber, HeadIs, ofForm, ofForms, GotIs}
+use Rattle.session_reading.specs.Answers.{formNumber, HeadIs, ofForm, ofForms, GotIs}
 use Rattle.session_reading.specs.Tables.{names, namesOf}
 use Rattle.session_reading.specs.declared.Start.the-variants as start
 use Rattle.session_reading.specs.declared.Got.the-variants as got
@@ -189,11 +189,11 @@ module _ (t : ℕ) where
       let x = head-read (c .before .before .before .before .before .before .before .before .before .before .before .before .before .before) in
       let y = end-read (c .before .before .before .before .before .before .before .before .before) in
       let k = c .before .before .before .before .keep in
-      let other : kindNumber (x .0) ≡ 4 → ⊥ = λ e. c .before .before .before .before .before .before .before .before .before .before .before .before .if2 .left (x .1 ∙ e) in
+      let other : formNumber (x .0) ≡ 4 → ⊥ = λ e. c .before .before .before .before .before .before .before .before .before .before .before .before .if2 .left (x .1 ∙ e) in
       let out = c .before .before .before .before .before .before .before .before .before .before .before .before .before .before .before .before .before .head .last .1 .1 .0 in
       let kind = c .before .before .before .before .before .before .before .before .before .before .before .before .before .before .start .given .0 .0 in
       let whole = act-at a.s.now a.at a.depth (c .before .before .before .before .before .before .before .before .before .before .before .before .before .before .before .before .before .before .before .if1 .left) _ (x .2) other y in
-      let one = keep-is a.forms.now a.actions.now a.f a.n kind (c .before .before .before .before .before .before .before .before .before .end .given .0 .0) out (omega (arith, x .2 .past, y .past, y .within, p .few, p .table)) (p .room) (k.ensures .0) (k.ensures .1 .0) (k.ensures .1 .1) in
+      let one = keep-is a.forms.now a.actions.now a.f a.n kind (c .before .before .before .before .before .before .before .before .before .end .given .0 .0) out (omega (arith, x .2 .past, y .past, y .within, p .few, p .table)) (p .room) k.result (k.ensures .0) (k.ensures .1 .0) (k.ensures .1 .1) in
       kept-got ofForm (specs.form a.depth) a.s.now a.at 8 a.forms.now (k.last .0) a.actions.now (k.last .1 .1 .0) a.f a.n (a.f + 1) (specs.act _) whole (omega (arith, x .2 .past, y .past, p .few)) k.result (rw (act-table (x .0) kind out (x .1) other (x .3)) one)
 
 abbrev list-Inv-loop : list-lts.InvT-loop
