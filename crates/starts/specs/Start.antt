@@ -32,7 +32,7 @@ abbrev pub startOf : Verdict → Start
 startOf (bad n) = noSession n
 startOf (session o l) = startAfter (o .tasks) (o .cells) l (openedBy o)
 
--- the state and all 640 words of the pool: those in use, and zeros
+-- the state and all 640 words of the pool: those in use, and zeros; a refused open leaves both as they were, blank and zeros
 abbrev pub inPool : After → Pool
 inPool r = (r .state, over (r .pool) (replicate 640 0))
 
