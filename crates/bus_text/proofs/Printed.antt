@@ -12,7 +12,8 @@ use Rattle.cells.specs.Answers.{Acted, acts}
 use Rattle.cells.proofs.Acts.{acts-iff, open-acts}
 use Rattle.history.specs.History.{Action}
 use Rattle.session_file.specs.Session.{Opening, session, verdict}
-use Rattle.session_text.specs.Printed.{blank, poolWords, openedBy}
+use Rattle.cells.specs.Open.{blank}
+use Rattle.session_text.specs.Printed.{poolWords, openedBy}
 use Rattle.session_text.specs.Tools.{leftBy, toolAfterOpen, toolText, toolPrinted}
 use Rattle.bus_text.specs.Bus.{Times, ordered, busQuestions, Timed, busCalls, sumsOf, callsText, busText, busPrinted}
 use Rattle.bus_text.specs.Choices.{tracedCalls, allAccesses, Between, AllBetween, LongestOf}

@@ -1,6 +1,6 @@
 -- What a turn names has what its record's names have (that they are blocks of the pool; that the held one is current): a line keeps the held
 -- and the taken block, or gets one from the cell or from the search. And its cell names the block that it named, unless its call has ended.
-use mathlib.Core.Path.{_≡_, refl, sym, _∙_}
+use mathlib.Core.Path.{_≡_, refl, sym}
 use mathlib.Core.Bool.{Bool, true, false, _&&_, not, cond, false≢true}
 use mathlib.Core.Option.{Option, none, some}
 use mathlib.Core.List.{List}
@@ -11,7 +11,7 @@ use Rattle.lines.specs.declared.Field.the-variants.{D}
 use Rattle.lines.specs.declared.Access.{Access}
 use Rattle.lines.specs.declared.Access.the-variants.{LoadCell, Load, Store, DecideCas, InstallCas, Allocate, Nothing}
 use Rattle.lines.specs.Answers.{Next, Go, Done}
-use Rattle.lines.specs.Record.{noValue, idle, isIdle}
+use Rattle.lines.specs.Record.{noValue, isIdle}
 use Rattle.lines.specs.Lines.{Line, for13, for25, for28, l1, l2, l3, l4, l5, l6, l7, l8, l10, l11, l12, l15, l16, l17, l18, l19, l20, l21, l22, l23, l24, l26, l27, l30, nowhere, lineOf, accessAt, accessOf, nextAt, nextOf, attempt, counted}
 use Rattle.questions.specs.Questions.{holdsBefore, takenBefore, holds, hasTaken, ofKind, lineFit, reads, swaps}
 use Rattle.questions.proofs.Numbers.{number}
@@ -20,10 +20,6 @@ use Rattle.pool.specs.Pool.{word}
 use Rattle.pool.specs.Memory.{Touched, performed}
 use Rattle.history.proofs.Basics.{no-such}
 use Rattle.cells.specs.Turn.{ending, turn}
-
-same-current : (m : Touched) (o : Next) → ending m o .current ≡ m .current
-same-current m (Go q) = refl
-same-current m (Done x) = refl
 
 -- P of the block that a task holds, Q of the one that it has taken
 abbrev pub Names : (P Q : ℕ → Type 0) → Record → Type 0
@@ -125,7 +121,7 @@ module _ (P Q : ℕ → Type 0) (p : List ℕ) (t : ℕ) (r : Record) (c l : ℕ
 
     -- only line 30 makes a cell name another block, and it ends the call
     pub current-stays : isIdle (turn p t r c l f .record) ≡ false → turn p t r c l f .current ≡ c
-    current-stays e = let m = performed p c l f (accessOf t r) in same-current m (nextOf t r (m .value)) ∙ turns .1 e
+    current-stays e = turns .1 e
 
   -- the block that the cell then names
   module _ (cell : Q c) where
@@ -139,9 +135,7 @@ module _ (P Q : ℕ → Type 0) (p : List ℕ) (t : ℕ) (r : Record) (c l : ℕ
     cell-after Nothing h = cell
 
     pub current-kept : Q (turn p t r c l f .current)
-    current-kept =
-        let m = performed p c l f (accessOf t r) in
-        rw (same-current m (nextOf t r (m .value))) (cell-after (accessOf t r) (keeps t r (lineOf r)))
+    current-kept = cell-after (accessOf t r) (keeps t r (lineOf r))
 
 abbrev pub Below : (blocks : ℕ) → Record → Type 0
 Below n = Names (λ b. b < n) (λ b. b < n)

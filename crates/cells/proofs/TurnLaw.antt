@@ -1,5 +1,5 @@
 -- A turn is a step given numbers: from what its line leaves, what it needs, and when it needs no unused block.
-use mathlib.Core.Path.{_≡_, refl, ap, _∙_}
+use mathlib.Core.Path.{_≡_, refl, ap}
 use mathlib.Core.Logic.{inl, inr}
 use mathlib.Core.Bool.{true, _||_, not, and-eq-true-iff}
 use mathlib.Core.Option.{Option}
@@ -11,7 +11,7 @@ use borrow.Author.Tests.{ltb-true, leb-true}
 use Rattle.lines.specs.declared.Record.{Record}
 use Rattle.lines.specs.declared.Access.{Access}
 use Rattle.lines.specs.declared.Access.the-variants.{LoadCell, Load, Store, DecideCas, InstallCas, Allocate, Nothing}
-use Rattle.lines.specs.Answers.{Next, Go, Done}
+use Rattle.lines.specs.Answers.{Next}
 use Rattle.lines.specs.Lines.{lineOf, accessOf, nextOf}
 use Rattle.questions.specs.Questions.{recordFit, holds, hasTaken}
 use Rattle.pool.specs.Memory.{Touched, touched, performed, Reaches}
@@ -23,14 +23,8 @@ use Rattle.questions.proofs.Accesses.{Holds, HasTaken, Keeps, keeps}
 
 -- FROM WHAT ITS LINE LEAVES
 
-same : (m : Touched) (x : Next) → ending (touched (m .pool) (m .current) (m .last) 0) x ≡ ending m x
-same m (Go r) = refl
-same m (Done f) = refl
-
 pub run-turn : (p : List ℕ) (t : ℕ) (r : Record) (c l : ℕ) (f : Option ℕ) {p′ : List ℕ} {c′ l′ : ℕ} {x : Next} → left p′ c′ l′ x ≡ lineRun p t r c l f → ending (touched p′ c′ l′ 0) x ≡ turn p t r c l f
-run-turn p t r c l f e =
-    let m = performed p c l f (accessOf t r) in
-    ap (λ (y : Left). ending (touched (y .pool) (y .current) (y .last) 0) (y .next)) e ∙ same m (nextOf t r (m .value))
+run-turn p t r c l f e = ap (λ (y : Left). ending (touched (y .pool) (y .current) (y .last) 0) (y .next)) e
 
 -- WHAT IT NEEDS, in a fit state
 module _ (r : Record) (v b words : ℕ) (fits : recordFit r v b ≡ true) (busy : r .line ≡ 0 → ⊥) (size : words ≡ 5 * b) where

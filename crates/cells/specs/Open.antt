@@ -33,6 +33,10 @@ abbrev pub filled : List ℕ → List ℕ → ℕ → List ℕ
 filled p [] k = p
 filled p (v ∷ vs) k = filled (fill p k v) vs (k + 1)
 
+-- a state to open
+abbrev pub blank : State
+blank = record { tasks = 0; cells = 0; blocks = 0; last = 0; current = replicate 16 0; records = replicate 32 idle; counts = replicate 128 0 }
+
 -- cell k names block k, so that each of the first V blocks is used once; the last taken is block V - 1; every record is idle
 abbrev pub openState : (tasks cells blocks : ℕ) → State
 openState n v b = record { tasks = n; cells = v; blocks = b; last = v - 1; current = 0 ∷ 1 ∷ 2 ∷ 3 ∷ 4 ∷ 5 ∷ 6 ∷ 7 ∷ 8 ∷ 9 ∷ 10 ∷ 11 ∷ 12 ∷ 13 ∷ 14 ∷ 15 ∷ []; records = replicate 32 idle; counts = replicate v 1 ++ replicate (128 - v) 0 }

@@ -20,9 +20,17 @@ pub record Turned : Type 0 where
 abbrev pub turned : Record → (current last : ℕ) → List ℕ → Said → Turned
 turned r c l p o = record { «record» = r; current = c; last = l; pool = p; outcome = o }
 
+-- what follows a line: a finished call leaves an idle record
+abbrev pub recordAfter : Next → Record
+recordAfter (Go r) = r
+recordAfter (Done f) = idle
+
+abbrev pub outcomeOf : Next → Said
+outcomeOf (Go r) = Acted
+outcomeOf (Done f) = Ended f
+
 abbrev pub ending : Touched → Next → Turned
-ending m (Go r) = turned r (m .current) (m .last) (m .pool) Acted
-ending m (Done f) = turned idle (m .current) (m .last) (m .pool) (Ended f)
+ending m n = turned (recordAfter n) (m .current) (m .last) (m .pool) (outcomeOf n)
 
 abbrev pub turn : (pool : List ℕ) (task : ℕ) (r : Record) (current last : ℕ) (free : Option ℕ) → Turned
 turn p t r c l f = let m = performed p c l f (accessOf t r) in ending m (nextOf t r (m .value))

@@ -12,7 +12,8 @@ use Rattle.cells.specs.Events.{eventOf, tried}
 use Rattle.history.specs.History.{Op, read, swap, Action, begin, step, taskOf, Event, untried}
 use Rattle.history.proofs.Basics.{either, upd-same, upd-off, clash, some-inj}
 use Rattle.figure_cell.specs.Memory.{Cell, accessCell}
-use Rattle.figure.specs.Figure.{World, worldAfter, withTask, unlessRefused, recordAfter, outcomeOf, firstOf, figureRan, figureStepped, figureBegun, triedIn, figure}
+use Rattle.cells.specs.Turn.{recordAfter, outcomeOf}
+use Rattle.figure.specs.Figure.{World, worldAfter, withTask, unlessRefused, firstOf, figureRan, figureStepped, figureBegun, triedIn, figure}
 use Rattle.figure.specs.Exchange.{ifAccepted, touches, Apart}
 use Rattle.figure.proofs.Records.{cell-at, cell-elsewhere}
 

@@ -5,6 +5,7 @@ use Prim.Native.Nat.{ℕ}
 use native.Mathlib.Omega.{arith}
 use lib.Dec.{eqb, T}
 use borrow.Author.Tests.{eqb-false}
+use Rattle.cells.specs.Turn.{recordAfter}
 use Rattle.lines.specs.declared.Record.{Record}
 use Rattle.lines.specs.declared.Field.the-variants.{Y, C, D}
 use Rattle.lines.specs.Answers.{Next}
@@ -13,7 +14,6 @@ use Rattle.lines.specs.Lines.{for13, for25, for28, Line, l1, l2, l3, l4, l5, l6
 use Rattle.history.specs.Basics.{upd}
 use Rattle.history.proofs.Basics.{either, upd-same, upd-off, upd-cases}
 use Rattle.figure_cell.specs.Memory.{Cell, store, install, Accessed, accessed, accessCell}
-use Rattle.figure.specs.Figure.{recordAfter}
 use Rattle.history.proofs.ListTests.{by-test}
 use Rattle.figure_cell.proofs.Classes.{busy, contended, taking, marking}
 use Rattle.figure_cell.proofs.Invariant.{View, Knowledge, Inv, line, held}

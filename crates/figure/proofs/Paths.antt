@@ -12,7 +12,8 @@ use Rattle.lines.specs.Record.{firstSwap}
 use Rattle.history.specs.Basics.{_∈_}
 use Rattle.history.specs.History.{Op, Action, begin, step, untried, No}
 use Rattle.figure_cell.specs.Memory.{accessCell}
-use Rattle.figure.specs.Figure.{World, WorldAfter, outcomeOf, figureRan, opening, figure, triedIn}
+use Rattle.cells.specs.Turn.{outcomeOf}
+use Rattle.figure.specs.Figure.{World, WorldAfter, figureRan, opening, figure, triedIn}
 use Rattle.cells.specs.Events.{eventOf}
 use Rattle.lines.specs.Paths.{table}
 use Rattle.figure_cell.specs.Paths.{paths, by25, counts, countsOf}

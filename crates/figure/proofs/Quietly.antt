@@ -17,7 +17,8 @@ use Rattle.history.specs.Demand3.{Unequal}
 use Rattle.history.proofs.Basics.{either, clash, some-inj, upd-at, upd-same, upd-off}
 use Rattle.linearizing.proofs.Simulation.{Ghost, Tally, QuietStarts, QuietSteps, Free}
 use Rattle.figure_cell.specs.Memory.{Cell, accessCell}
-use Rattle.figure.specs.Figure.{World, withTask, recordAfter, clear, figureAnswers, triedIn, firstOf}
+use Rattle.cells.specs.Turn.{recordAfter}
+use Rattle.figure.specs.Figure.{World, withTask, clear, figureAnswers, triedIn, firstOf}
 use Rattle.figure_cell.proofs.LineLaws.{Leads, goes, done}
 use Rattle.figure.proofs.Records.{Pending, OnPath, AllOnPath, Accepted, led, cell-there, cell-elsewhere}
 use Rattle.figure_cell.proofs.AsBegun.{cell-of}

@@ -19,7 +19,8 @@ use Rattle.history.specs.Basics.{upd, _∈_}
 use Rattle.history.specs.History.{Op, read, swap, cellOf, Action, begin, step, Report, untried, wins, losses, run}
 use Rattle.history.proofs.Basics.{either, upd-at, upd-same, upd-off, upd-cases}
 use Rattle.figure_cell.specs.Memory.{Cell, accessCell}
-use Rattle.figure.specs.Figure.{World, withTask, withBoth, WorldAfter, worldAfter, unlessRefused, recordAfter, outcomeOf, figureRan, figureStepped, figureBegun, opening, figure, triedIn, firstOf}
+use Rattle.cells.specs.Turn.{recordAfter, outcomeOf}
+use Rattle.figure.specs.Figure.{World, withTask, withBoth, WorldAfter, worldAfter, unlessRefused, figureRan, figureStepped, figureBegun, opening, figure, triedIn, firstOf}
 use Rattle.cells.specs.Events.{reportOf, eventOf}
 use Rattle.figure_cell.specs.Paths.{count}
 use Rattle.figure.specs.Traces.{Trace, didLine, enterLine}

@@ -18,7 +18,8 @@ use Rattle.history.specs.Demand3.{most, mostHard}
 use Rattle.history.proofs.Basics.{either, clash, some-inj, upd-at, upd-off}
 use Rattle.linearizing.proofs.Simulation.{Tally, first, Follows}
 use Rattle.figure_cell.specs.Memory.{Cell, accessCell}
-use Rattle.figure.specs.Figure.{World, WorldAfter, withBoth, recordAfter, outcomeOf, figureRan, figure, triedIn, firstOf}
+use Rattle.cells.specs.Turn.{recordAfter, outcomeOf}
+use Rattle.figure.specs.Figure.{World, WorldAfter, withBoth, figureRan, figure, triedIn, firstOf}
 use Rattle.cells.specs.Events.{eventOf}
 use Rattle.figure_cell.specs.Paths.{readPaths, paths, count}
 use Rattle.figure_cell.proofs.AsBegun.{kind-of, cell-of}

@@ -13,7 +13,8 @@ use Rattle.lines.specs.Lines.{Line, lineOf, accessOf, nextOf}
 use Rattle.history.specs.History.{Op, cellOf, read, swap}
 use Rattle.linearizing.proofs.Simulation.{settled, Ghost, Tally}
 use Rattle.figure_cell.specs.Memory.{Cell, accessCell}
-use Rattle.figure.specs.Figure.{World, withBoth, recordAfter, figure, firstOf}
+use Rattle.cells.specs.Turn.{recordAfter}
+use Rattle.figure.specs.Figure.{World, withBoth, figure, firstOf}
 use Rattle.history.proofs.ListTests.{every}
 use Rattle.figure_cell.proofs.LineLaws.{lines}
 use Rattle.figure.proofs.Records.{Pending, AllOnPath, OnPath, Accepted, not-idle}

@@ -5,11 +5,10 @@ use mathlib.Core.List.{List}
 use Prim.Native.Nat.{ℕ}
 use lib.ListN.{getD}
 use Rattle.lines.specs.declared.Record.{Record}
-use Rattle.cells.specs.Answers.{Said, Refused, Acted, Ended, Seen}
+use Rattle.cells.specs.Answers.{Said, Refused, Acted, Seen}
 use Rattle.lines.specs.declared.Field.{Field}
 use Rattle.lines.specs.declared.Field.the-variants.{X, Y, C, D}
 use Rattle.lines.specs.declared.Access.{Access}
-use Rattle.lines.specs.Answers.{Next, Go, Done}
 use Rattle.lines.specs.Record.{idle}
 use Rattle.lines.specs.Lines.{accessOf, nextOf}
 use Rattle.pool.specs.Pool.{fresh}
@@ -17,6 +16,7 @@ use Rattle.questions.specs.Questions.{refusal, beginQuestions, swapQuestions, s
 use Rattle.lines.specs.Record.{firstRead, firstSwap}
 use Rattle.cells.specs.Look.{shownValue, shown}
 use Rattle.cells.specs.Events.{eventOf, tried}
+use Rattle.cells.specs.Turn.{recordAfter, outcomeOf}
 use Rattle.history.specs.Basics.{upd}
 use Rattle.history.specs.History.{Op, read, swap, Action, begin, step, Attempt, untried, Event}
 use Rattle.figure_cell.specs.Memory.{Cell, accessCell}
@@ -44,15 +44,6 @@ worldAfter w o = record { world = w; outcome = o }
 abbrev pub unlessRefused : Option ℕ → World → WorldAfter → WorldAfter
 unlessRefused none w acted = acted
 unlessRefused (some n) w acted = worldAfter w (Refused n)
-
--- a finished call leaves an idle record
-abbrev pub recordAfter : Next → Record
-recordAfter (Go q) = q
-recordAfter (Done f) = idle
-
-abbrev pub outcomeOf : Next → Said
-outcomeOf (Go q) = Acted
-outcomeOf (Done f) = Ended f
 
 -- a busy task's next line: its access on its own cell, and what follows
 unfoldable pub figureRan : World → ℕ → Record → WorldAfter

@@ -21,7 +21,8 @@ use Rattle.history.proofs.Basics.{either, upd-at, upd-same, upd-off, upd-cases}
 use Rattle.linearizing.proofs.Simulation as Sim
 use Rattle.linearizing.proofs.Simulation.{Phase, settled, frozen, late, Ghost, unplaced, Tally, Why, Sided, Named}
 use Rattle.figure_cell.specs.Memory.{Cell, accessCell}
-use Rattle.figure.specs.Figure.{World, withTask, recordAfter, figureAnswers, triedIn, figure}
+use Rattle.cells.specs.Turn.{recordAfter}
+use Rattle.figure.specs.Figure.{World, withTask, figureAnswers, triedIn, figure}
 use Rattle.figure_moments.specs.Moments.{Notes, nothingNoted, noted, Sight, holdsBlock, sees, names, at, effect, lineC6, rules, ruleAt, ruled, stands}
 use Rattle.history.proofs.ListTests.{both, every, by-test}
 use Rattle.figure_cell.proofs.LineLaws.{every-line, lines, same, same-is, extends, Leads, goes, done}

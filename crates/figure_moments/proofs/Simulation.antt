@@ -18,7 +18,8 @@ use Rattle.linearizing.proofs.Moments as Placing
 use Rattle.linearizing.proofs.Moments.{marks-linearize, marks-answers}
 use Rattle.linearizing.proofs.Simulation.{Phase, Ghost, Knowledge, Keeps, Forward, Quietly, QuietSteps}
 use Rattle.linearizing.proofs.Simulation as Sim
-use Rattle.figure.specs.Figure.{World, withBoth, WorldAfter, recordAfter, outcomeOf, figureRan, opening, figure, clear, triedIn, firstOf}
+use Rattle.cells.specs.Turn.{recordAfter, outcomeOf}
+use Rattle.figure.specs.Figure.{World, withBoth, WorldAfter, figureRan, opening, figure, clear, triedIn, firstOf}
 use Rattle.cells.specs.Events.{eventOf}
 use Rattle.figure_moments.specs.Moments.{Notes, noNotes, nothingNoted, noted, noteStep, note, names, sees, moments}
 use Rattle.figure.proofs.Records.{Pending, AllOnPath, Begun, starts, begin-cases, Stepped, runs, step-cases, act-on-path}

@@ -14,7 +14,8 @@ use Rattle.history.specs.Moments.{Mark, pointOf, replyOf}
 use Rattle.refinement.specs.Moments.{poolMoments}
 use Rattle.refinement.proofs.Moments.{cell-moments-linearize, cell-moments-answers}
 use Rattle.session_file.specs.Session.{Opening, session, verdict}
-use Rattle.session_text.specs.Printed.{blank, poolWords, openedBy}
+use Rattle.cells.specs.Open.{blank}
+use Rattle.session_text.specs.Printed.{poolWords, openedBy}
 use Rattle.session_text.specs.Tools.{leftBy, toolAfterOpen, toolText, toolPrinted}
 use Rattle.moments_lines.specs.Lines.{markLines}
 use Rattle.moments_text.specs.Printed.{momentsText, momentsPrinted}

@@ -3,7 +3,7 @@ ghost use mathlib.Core.Path.{_≡_};
 ghost use mathlib.Core.List.{_++_};
 ghost use Prim.Native.Nat.{_-_, _≤_};
 ghost use lib.ListN.{replicate};
-ghost use Rattle.cells.specs.Open.{openState};
+ghost use Rattle.cells.specs.Open.{blank as «blankOf», openState};
 use lines::records::idle;
 use questions::State;
 
@@ -20,6 +20,22 @@ fn open_counts(cells: u32) -> [u8; 128]
         k = k + 1;
     }
     counts
+}
+
+// For whoever opens cells for the first time.
+pub fn blank() -> State
+    ensures { λ s. ⌜ s ≡ «blankOf» ⌝ }
+{
+    let q = idle();
+    State {
+        tasks: 0,
+        cells: 0,
+        blocks: 0,
+        last: 0,
+        current: [0; 16],
+        records: [q; 32],
+        counts: [0; 128],
+    }
 }
 
 pub fn open_state(tasks: u32, cells: u32, blocks: u32) -> State

@@ -10,6 +10,7 @@ use lib.Dec.{eqb, T, T-not}
 use lib.ListN.{set}
 use lib.Seq.{getD-set-other}
 use borrow.Author.Tests.{eqb-true, eq-eqb}
+use Rattle.cells.specs.Turn.{recordAfter}
 use Rattle.lines.specs.declared.Record.{Record}
 use Rattle.questions.specs.declared.State.{State}
 use Rattle.lines.specs.declared.Field.{Field}
@@ -30,7 +31,6 @@ use Rattle.cells.specs.Step.{current}
 use Rattle.cells.specs.Machine.{Pool}
 use Rattle.cells.proofs.Words.{fields, set-else}
 use Rattle.history.proofs.ListTests.{by-test}
-use Rattle.figure.specs.Figure.{recordAfter}
 use Rattle.figure_cell.proofs.LineLaws.{same, same-is}
 use Rattle.figure_cell.proofs.Classes.{lies-in}
 use Rattle.refinement.proofs.Stepped.{set-either, touchedAt, triesAt, following, ranAt, Runs, Stepped, refuses, runs, Began, declines, starts}

@@ -19,7 +19,8 @@ use Rattle.history.specs.History.{read, swap, Action, begin, step, Attempt, unt
 use Rattle.cells.specs.Events.{eventOf}
 use Rattle.cells.specs.Machine.{pool}
 use Rattle.figure_cell.specs.Memory.{accessCell}
-use Rattle.figure.specs.Figure.{World, WorldAfter, unlessRefused, outcomeOf, figureRan, figureStepped, figureBegun, triedIn, opening, figure}
+use Rattle.cells.specs.Turn.{outcomeOf}
+use Rattle.figure.specs.Figure.{World, WorldAfter, unlessRefused, figureRan, figureStepped, figureBegun, triedIn, opening, figure}
 use Rattle.refinement.specs.Terms.{start}
 use Rattle.refinement.proofs.Steps.{found}
 use Rattle.refinement.proofs.Refines.{acts, together}

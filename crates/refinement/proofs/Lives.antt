@@ -27,7 +27,8 @@ use Rattle.cells.proofs.Words.{set-here}
 use Rattle.history.specs.Basics.{_∈_}
 use Rattle.history.specs.History.{Action, begin, step, untried, wins, run}
 use Rattle.history.proofs.ListTests.{has, has-in, by-test}
-use Rattle.figure.specs.Figure.{World, recordAfter, figure, opening}
+use Rattle.cells.specs.Turn.{recordAfter}
+use Rattle.figure.specs.Figure.{World, figure, opening}
 use Rattle.figure_cell.proofs.LineLaws.{same, same-is}
 use Rattle.figure_cell.proofs.Classes.{is, taking, holding, lies-in}
 use Rattle.figure.proofs.Records.{WellRecord}

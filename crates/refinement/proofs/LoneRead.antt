@@ -24,7 +24,8 @@ use Rattle.history.specs.Basics.{upd}
 use Rattle.history.specs.History.{Action, begin, step, read, aRead, Value, Report, Attempt, success, failure, untried, wins, losses, Event, accepted, answered, history, run}
 use Rattle.history.proofs.Basics.{upd-same, upd-off, upd-cases}
 use Rattle.figure_cell.specs.Memory.{Cell, store, accessCell, accessed}
-use Rattle.figure.specs.Figure.{World, withBoth, recordAfter, outcomeOf, figure, figureBegun, figureLooked, figureRan, figureStepped}
+use Rattle.cells.specs.Turn.{recordAfter, outcomeOf}
+use Rattle.figure.specs.Figure.{World, withBoth, figure, figureBegun, figureLooked, figureRan, figureStepped}
 use Rattle.cells.specs.Events.{eventOf, tried}
 use Rattle.cells.specs.Machine.{Pool, pool}
 use Rattle.refinement.specs.Terms.{start, isActive, isUndecided, loneRead, loneAttempt, lastEvent, readReport}

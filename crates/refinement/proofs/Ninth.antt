@@ -22,7 +22,8 @@ use Rattle.history.specs.Basics.{upd, _∈_}
 use Rattle.history.specs.History.{Op, read, swap, Action, begin, step, untried, Response, run}
 use Rattle.history.proofs.Basics.{upd-same, upd-off, upd-cases}
 use Rattle.figure_cell.specs.Memory.{Cell, store, install, accessed, Accessed, accessCell}
-use Rattle.figure.specs.Figure.{World, withBoth, WorldAfter, recordAfter, outcomeOf, figureRan, opening, figure, triedIn, firstOf}
+use Rattle.cells.specs.Turn.{recordAfter, outcomeOf}
+use Rattle.figure.specs.Figure.{World, withBoth, WorldAfter, figureRan, opening, figure, triedIn, firstOf}
 use Rattle.cells.specs.Events.{eventOf}
 use Rattle.figure_cell.specs.Paths.{paths, reached, by25, pathsOf}
 use Rattle.figure.specs.Traces.{Traced, Trace, noTrace, didLine, enterLine, figureTraces}

@@ -21,7 +21,8 @@ use Rattle.cells.specs.Look.{looked, shown, shownValue}
 use Rattle.history.specs.Basics.{_∈_}
 use Rattle.history.specs.History.{Op, Action, begin, step, Attempt, untried, Response, Value, Yes, No, Report, Event, refused, accepted, answered, history, run, Call, Calls, FinishedCall, noCalls, advanced, closed, enter, enterAll, callsOf}
 use Rattle.figure_cell.specs.Memory.{Cell, accessCell}
-use Rattle.figure.specs.Figure.{World, WorldAfter, outcomeOf, triedIn, figureRan, figure, opening, figureLooked}
+use Rattle.cells.specs.Turn.{outcomeOf}
+use Rattle.figure.specs.Figure.{World, WorldAfter, triedIn, figureRan, figure, opening, figureLooked}
 use Rattle.cells.specs.Events.{eventOf}
 use Rattle.history.proofs.ListTests.{by-test}
 use Rattle.figure.proofs.Records.{Begun, starts, begin-cases, Stepped, runs, step-cases, with-first}

@@ -28,7 +28,8 @@ use Rattle.cells.specs.Events.{eventOf}
 use Rattle.cells.specs.Machine.{Pool, pool}
 use Rattle.history.specs.History.{Action, begin, step, success, Attempt, Report, Event, answered, run}
 use Rattle.history.proofs.ListTests.{by-test}
-use Rattle.figure.specs.Figure.{World, outcomeOf}
+use Rattle.cells.specs.Turn.{outcomeOf}
+use Rattle.figure.specs.Figure.{World}
 use Rattle.figure_cell.proofs.LineLaws.{same, same-is}
 use Rattle.figure_cell.proofs.Classes.{is, lies-in}
 use Rattle.figure.proofs.Records.{WellRecord}

@@ -1,5 +1,5 @@
 -- An action on the pool, taken apart: it is refused and leaves all as it was, or it stores a first record, or it runs its task's line.
-use mathlib.Core.Path.{_≡_, refl, ap, subst}
+use mathlib.Core.Path.{_≡_, refl, ap}
 use mathlib.Core.Logic.{_⊎_, inl, inr}
 use mathlib.Core.Bool.{Bool, true, false, not, cond}
 use mathlib.Core.Option.{Option, none, some}
@@ -11,7 +11,7 @@ use borrow.Author.Tests.{ltb-true}
 use Rattle.lines.specs.declared.Record.{Record}
 use Rattle.questions.specs.declared.State.{State}
 use Rattle.cells.specs.Answers.{Refused}
-use Rattle.lines.specs.Answers.{Next, Go, Done}
+use Rattle.lines.specs.Answers.{Next}
 use Rattle.lines.specs.Record.{recordAt, firstRead, firstSwap}
 use Rattle.lines.specs.Lines.{Line, lineOf, accessAt, attempt, counted, nextAt}
 use Rattle.questions.specs.Questions.{refusal, fit, takenBefore, hasTaken, beginQuestions, swapQuestions}
@@ -19,15 +19,13 @@ use Rattle.questions.proofs.Tests.{yes-to}
 use Rattle.questions.proofs.Numbers.{number, at-number}
 use Rattle.blocks.specs.Blocks.{unused}
 use Rattle.cells.specs.Open.{After, leaving, unless}
-use Rattle.cells.specs.Begin.{withRecord, started, readBegun, swapBegun}
+use Rattle.cells.specs.Begin.{started, readBegun, swapBegun}
 use Rattle.pool.specs.Memory.{Touched, performed}
 use Rattle.cells.specs.Turn.{ending}
-use Rattle.cells.specs.Counts.{recounted}
-use Rattle.cells.specs.Step.{current, withBlocks, withCounts, putBack, ran, stepAsks, stepped}
+use Rattle.cells.specs.Step.{current, putBack, ran, stepAsks, stepped}
 use Rattle.cells.proofs.Stepping.{own-acting}
 use Rattle.history.specs.History.{Op, read, swap, Attempt}
 use Rattle.cells.specs.Machine.{begins}
-use Rattle.figure.specs.Figure.{recordAfter, outcomeOf}
 
 -- a changed element is the new one, at its place, or the old one
 pub set-either : {A : Type 0} (l : List A) (n : ℕ) (a d : A) (m : ℕ) → ((m ≡ n) × (getD (set l n a) m d ≡ a)) ⊎ (getD (set l n a) m d ≡ getD l m d)
@@ -56,16 +54,8 @@ module _ (s : State) (p : List ℕ) (t : ℕ) where
   following ℓ = nextAt ℓ t (counted r (triesAt ℓ)) (touchedAt ℓ .value)
 
   -- what is left of it, whether its call goes on or is finished
-  abbrev left : Touched → Next → After
-  left m n =
-      leaving (withCounts (withRecord (withBlocks s (r .cell) (m .current) (m .last)) t (recordAfter n)) (recounted (s .counts) r (recordAfter n) (current s (r .cell)) (m .current))) (m .pool) (outcomeOf n)
-
-  left-is : (m : Touched) (n : Next) → left m n ≡ putBack s t r (ending m n)
-  left-is m (Go q) = refl
-  left-is m (Done f) = refl
-
   abbrev pub ranAt : Line → After
-  ranAt ℓ = left (touchedAt ℓ) (following ℓ)
+  ranAt ℓ = putBack s t r (ending (touchedAt ℓ) (following ℓ))
 
   -- there is such a task, and its record has its line's number
   pub record Runs : Type 0 where
@@ -81,7 +71,7 @@ module _ (s : State) (p : List ℕ) (t : ℕ) where
   step-cases = go (refusal (stepAsks s p t)) refl
     where
       go : (o : Option ℕ) → refusal (stepAsks s p t) ≡ o → Stepped (unless o s p (ran s p t r))
-      go none e = subst Stepped (left-is (touchedAt (lineOf r)) (following (lineOf r))) (runs (record { task = ltb-true t (s .tasks) (yes-to (stepAsks s p t) e 7); line = at-number r (own-acting s p t e .line) }))
+      go none e = runs (record { task = ltb-true t (s .tasks) (yes-to (stepAsks s p t) e 7); line = at-number r (own-acting s p t e .line) })
       go (some n) e = refuses n
 
   -- the record that a begin stores refers to no taken block

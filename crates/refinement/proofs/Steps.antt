@@ -21,14 +21,14 @@ use Rattle.lines.specs.Record.{firstRead, firstSwap}
 use Rattle.cells.specs.Begin.{readBegun, swapBegun, started}
 use Rattle.blocks.specs.Blocks.{Spare, unused, isFound}
 use Rattle.pool.specs.Memory.{Touched, performed}
-use Rattle.cells.specs.Turn.{ending}
+use Rattle.cells.specs.Turn.{ending, recordAfter, outcomeOf}
 use Rattle.cells.specs.Step.{current, withBlocks, putBack, triedAt, ran, stepAsks, stepped}
 use Rattle.questions.proofs.Tests.{nth, all-yes, implied}
 use Rattle.questions.proofs.Numbers.{number, at-number}
 use Rattle.blocks.proofs.Unused.{Found, one-is-unused}
 use Rattle.history.specs.History.{Op, read, swap, begin, step, Attempt, untried, Event}
 use Rattle.figure_cell.specs.Memory.{Cell, accessCell}
-use Rattle.figure.specs.Figure.{World, withBoth, worldAfter, recordAfter, outcomeOf, figure, WorldAfter, figureBegun, figureRan, figureStepped, unlessRefused, withTask, triedIn}
+use Rattle.figure.specs.Figure.{World, withBoth, worldAfter, figure, WorldAfter, figureBegun, figureRan, figureStepped, unlessRefused, withTask, triedIn}
 use Rattle.cells.specs.Events.{eventOf}
 use Rattle.cells.specs.Machine.{Pool, pool}
 use Rattle.refinement.specs.Terms.{named}

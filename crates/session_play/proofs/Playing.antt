@@ -9,7 +9,7 @@ use Rattle.text.specs.Append.{Appended}
 use Rattle.text.proofs.Appending.{nothing, entire}
 use Rattle.questions.specs.declared.State.{State}
 use Rattle.cells.specs.Answers.{Said, Refused, Acted, Ended}
-use Rattle.cells.specs.Open.{After, leaving}
+use Rattle.cells.specs.Open.{After, leaving, blank}
 use Rattle.history.specs.History.{Action, taskOf, Attempt, untried, history, run}
 use Rattle.cells.specs.Events.{eventOf}
 use Rattle.cells.specs.Machine.{does, triedBy, pool}
@@ -18,7 +18,7 @@ use Rattle.session_file.specs.Session.{Verdict, bad, session, verdict}
 use Rattle.starts.specs.Start.{Start, startAfter, startOf}
 use Rattle.session_start.proofs.Starting.{opened-cases}
 use Rattle.session_text.specs.Lines.{eventLine}
-use Rattle.session_text.specs.Printed.{Totals, eventLines, addEvent, addEvents, endText, afterOpen, blank, poolWords, verdictText, printed, printedWithin}
+use Rattle.session_text.specs.Printed.{Totals, eventLines, addEvent, addEvents, endText, afterOpen, poolWords, verdictText, printed, printedWithin}
 use Rattle.session_play.specs.Loop.{startText, playedOn}
 
 -- THE LOOP

@@ -1,8 +1,8 @@
 -- The opening, what follows from it, and what a tool prints of it.
 use mathlib.Core.Path.{_≡_, refl, sym, ap, subst, _∙_}
 use mathlib.Core.Option.{Option, none, some}
-use mathlib.Core.List.{List, [], _∷_, _++_}
-use Prim.Native.Nat.{ℕ, zero, suc, _≤_, _<_}
+use mathlib.Core.List.{List, [], _++_}
+use Prim.Native.Nat.{ℕ, _≤_, _<_}
 use native.Mathlib.Omega.{arith}
 use lib.ListN.{length, take, drop, replicate, length-replicate, length-append}
 use lib.Seq.{length-take-le, take-at}
@@ -14,7 +14,7 @@ use Rattle.text.proofs.Appending.{nothing, entire}
 use Rattle.questions.specs.declared.State.{State}
 use Rattle.questions.specs.Questions.{refusal, openQuestions}
 use Rattle.cells.specs.Answers.{Said, Refused, Acted, acts}
-use Rattle.cells.specs.Open.{After, leaving, unless, openState, openPool, opened}
+use Rattle.cells.specs.Open.{After, leaving, unless, openState, openPool, opened, blank}
 use Rattle.cells.specs.Machine.{Pool}
 use Rattle.cells.proofs.Acts.{acts-iff, open-acts}
 use Rattle.history.specs.History.{Action}
@@ -22,7 +22,7 @@ use Rattle.session_file.specs.Session.{Verdict, bad, session, verdict}
 use Rattle.session_reading.specs.Reading.{judged}
 use Rattle.session_reading.specs.Kept.{Named}
 use Rattle.session_reading.proofs.Verdicts.{right-sizes}
-use Rattle.session_text.specs.Printed.{blank, poolWords}
+use Rattle.session_text.specs.Printed.{poolWords}
 use Rattle.session_text.specs.Tools.{toolAfterOpen, toolText, toolPrinted, toolWithin}
 use Rattle.starts.specs.Start.{Start, startAfter, startOf, inPool, toolStart, New, Opens, Ready}
 use Rattle.starts.specs.declared.Opening.{Opening}

@@ -1,6 +1,5 @@
 // Reads a session file and opens the cells for it, as every tool on a session does first.
-use lines::records::idle;
-use questions::State;
+use opening_state::blank;
 use session_reader::read_session;
 use session_reading::Reading;
 use starts::Opening;
@@ -11,27 +10,12 @@ ghost use mathlib.Core.Path.{_≡_};
 ghost use mathlib.Core.List.{List, map};
 ghost use Prim.Native.Nat.{ℕ};
 ghost use lib.ListN.{length, take, replicate};
-ghost use Rattle.cells.specs.Open.{opened};
+ghost use Rattle.cells.specs.Open.{opened, blank as «blankOf»};
 ghost use Rattle.session_file.specs.Session.{verdict};
 ghost use Rattle.session_reading.specs.Reading.{actAt};
 ghost use Rattle.session_reading.specs.Tables.{buffers, left};
-ghost use Rattle.session_text.specs.Printed.{blank as «blankOf», poolWords};
+ghost use Rattle.session_text.specs.Printed.{poolWords};
 ghost use Rattle.starts.specs.Start.{startAfter, startOf, startAt, inPool, poolOf, Opens, Ready};
-
-fn blank() -> State
-    ensures { λ s. ⌜ s ≡ «blankOf» ⌝ }
-{
-    let r = idle();
-    State {
-        tasks: 0,
-        cells: 0,
-        blocks: 0,
-        last: 0,
-        current: [0; 16],
-        records: [r; 32],
-        counts: [0; 128],
-    }
-}
 
 fn open_pool(
     pool: &mut [u32],

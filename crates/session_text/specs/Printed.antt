@@ -7,7 +7,7 @@ use lib.ListN.{replicate}
 use Rattle.questions.specs.declared.State.{State}
 use Rattle.cells.specs.Answers.{Refused, Acted, Ended, Seen, NotShown, Shown}
 use Rattle.lines.specs.Record.{idle, isIdle, recordAt}
-use Rattle.cells.specs.Open.{After, opened}
+use Rattle.cells.specs.Open.{After, opened, blank}
 use Rattle.cells.specs.Look.{looked}
 use Rattle.cells.specs.Machine.{Pool, pool}
 use Rattle.history.specs.History.{Action, taskOf, Event, refused, accepted, answered, history, run}
@@ -68,10 +68,6 @@ played n v x l =
 -- a refused open ends the session
 unfoldable pub afterOpen : (tasks cells : ℕ) → List Action → After → List ℕ
 afterOpen n v l r = elim (r .outcome) [ Refused n ↦ noLine 0 n | Acted ↦ played n v (r .state, r .pool) l | Ended f ↦ [] ]
-
--- before open
-abbrev pub blank : State
-blank = record { tasks = 0; cells = 0; blocks = 0; last = 0; current = replicate 16 0; records = replicate 32 idle; counts = replicate 128 0 }
 
 -- the pool has five words for each block; more than 128 blocks are refused whatever it has
 abbrev pub poolWords : ℕ → ℕ

@@ -8,11 +8,10 @@ use Rattle.text.specs.Append.{Appended}
 use Rattle.text.proofs.Appending.{then}
 use Rattle.questions.specs.declared.State.{State}
 use Rattle.cells.specs.Answers.{Said}
-use Rattle.cells.specs.Open.{leaving, opened}
+use Rattle.cells.specs.Open.{leaving, opened, blank}
 use Rattle.cells.specs.Machine.{Pool}
 use Rattle.session_file.specs.Session.{act}
 use Rattle.session_file.specs.Written.{openingLine, formLines, fileText}
-use Rattle.session_text.specs.Printed.{blank}
 use Rattle.shaker_text.specs.Actions.{drawnActions, zeroStart, zeroOpening}
 use Rattle.shaker_text.specs.Shaken.{sessionText}
 use Rattle.shaken_actions.proofs.Acting.{moves}

@@ -1,9 +1,8 @@
 // Sessions drawn from a seed.
 
 use buffers::pool_space;
-use lines::records::idle;
+use opening_state::blank;
 use numbered::put_bad;
-use questions::State;
 use shaken_actions::opening::put_opening;
 ghost use mathlib.Core.Path.{_≡_};
 ghost use mathlib.Core.Option.{Option·getD};
@@ -13,7 +12,6 @@ ghost use lib.ListN.{length, drop, replicate};
 ghost use Rattle.io.specs.Counts.{Counts};
 ghost use Rattle.text.specs.Append.{Appended};
 ghost use Rattle.questions.specs.Questions.{refusal as «refusalOf»};
-ghost use Rattle.session_text.specs.Printed.{blank as «blankOf»};
 ghost use Rattle.shaker_text.specs.Shaken.{shakeQuestions, sessionText, shakenWithin};
 
 // As many bytes as a session may have; the longest that is drawn has fewer.
@@ -31,21 +29,6 @@ fn refusal(tasks: u32, cells: u32, blocks: u32, count: u32) -> u32
         0
     } else {
         17
-    }
-}
-
-fn blank() -> State
-    ensures { λ s. ⌜ s ≡ «blankOf» ⌝ }
-{
-    let r = idle();
-    State {
-        tasks: 0,
-        cells: 0,
-        blocks: 0,
-        last: 0,
-        current: [0; 16],
-        records: [r; 32],
-        counts: [0; 128],
     }
 }
 

@@ -12,8 +12,8 @@ use Rattle.lines.specs.Record.{noValue}
 use Rattle.questions.specs.Questions.{refusal, answers, tasksOk, cellsOk, blocksOk, hasNone, openQuestions}
 use Rattle.questions.proofs.Tests.{all-yes, nth}
 use Rattle.cells.specs.Answers.{Acted}
-use Rattle.cells.specs.Open.{opened}
-use Rattle.session_text.specs.Printed.{blank, poolWords}
+use Rattle.cells.specs.Open.{opened, blank}
+use Rattle.session_text.specs.Printed.{poolWords}
 use Rattle.shaker_text.specs.Actions.{zeroStart}
 use Rattle.shaker_text.specs.Shaken.{shakeQuestions}
 use Rattle.shaker_text.proofs.Shaking.{sizes}

@@ -9,10 +9,10 @@ use Rattle.history.specs.Basics.{_∈_}
 use Rattle.history.specs.History.{Action, taskOf, Event, refused, accepted, answered, history, run}
 use Rattle.questions.specs.Questions.{refusal}
 use Rattle.cells.specs.Answers.{Acted}
-use Rattle.cells.specs.Open.{opened}
+use Rattle.cells.specs.Open.{opened, blank}
 use Rattle.cells.specs.Machine.{pool}
 use Rattle.session_text.specs.Lines.{eventLine}
-use Rattle.session_text.specs.Printed.{eventLines, totals, addEvents, endText, played, afterOpen, blank, poolWords, playedFrom, verdictText, printed}
+use Rattle.session_text.specs.Printed.{eventLines, totals, addEvents, endText, played, afterOpen, poolWords, playedFrom, verdictText, printed}
 use Rattle.shaker_text.specs.Actions.{zeroStart, zeroOpening}
 use Rattle.shaker_text.specs.Shaken.{shakeQuestions, shakenActions, shaken}
 use Rattle.shaker_text.specs.Played.{doneText, doneLines}

@@ -6,7 +6,7 @@ use lib.ListN.{length, take, replicate}
 use Rattle.questions.specs.declared.State.{State}
 use Rattle.lines.specs.Record.{idle}
 use Rattle.cells.specs.Answers.{Refused, Acted, Ended}
-use Rattle.cells.specs.Open.{After}
+use Rattle.cells.specs.Open.{After, blank}
 use Rattle.cells.specs.Machine.{Pool}
 use Rattle.refinement.specs.Reached.{Reached}
 use Rattle.history.specs.History.{Action}
@@ -14,7 +14,7 @@ use Rattle.session_file.specs.Session.{Verdict, bad, session}
 use Rattle.session_reading.specs.Reading.{actAt}
 use Rattle.session_reading.specs.Kept.{Named}
 use Rattle.session_reading.specs.Tables.{over}
-use Rattle.session_text.specs.Printed.{blank, openedBy}
+use Rattle.session_text.specs.Printed.{openedBy}
 use Rattle.text.specs.Lines.{badLine}
 use Rattle.starts.specs.declared.Opening.{Opening}
 use Rattle.starts.specs.declared.Opening.the-variants as opening

@@ -1,5 +1,4 @@
 use borrow.Author.Needs.{needs}
-use native.Mathlib.Omega.{arith}
 use lib.ListN.{length}
 use Rattle.text.proofs.Reading.{several-at, several-no}
 use Rattle.argument_numbers.specs.Arguments.{argument}

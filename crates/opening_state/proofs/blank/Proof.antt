@@ -1,6 +1,6 @@
 use borrow.Author.Needs.{needs}
-use Rattle.shaker.proofs.blank.Statement.{statement}
-use Rattle.shaker.proofs.blank.Tie as tie
+use Rattle.opening_state.proofs.blank.Statement.{statement}
+use Rattle.opening_state.proofs.blank.Tie as tie
 
 returns : tie.Need-returns
 returns c = rw (c .idle .ensures)
