@@ -6,7 +6,7 @@ use lib.Dec.{leb}
 use lib.ListN.{replicate}
 use Rattle.questions.specs.declared.State.{State}
 use Rattle.cells.specs.Answers.{Refused, Acted, Ended, Seen, NotShown, Shown}
-use Rattle.lines.specs.Record.{idle, isIdle, recordAt}
+use Rattle.lines.specs.Record.{isIdle, recordAt}
 use Rattle.cells.specs.Open.{After, opened, blank}
 use Rattle.cells.specs.Look.{looked}
 use Rattle.cells.specs.Machine.{Pool, pool}

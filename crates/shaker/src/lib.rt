@@ -1,8 +1,8 @@
 // Sessions drawn from a seed.
 
 use buffers::pool_space;
-use opening_state::blank;
 use numbered::put_bad;
+use opening_state::blank;
 use shaken_actions::opening::put_opening;
 ghost use mathlib.Core.Path.{_≡_};
 ghost use mathlib.Core.Option.{Option·getD};
