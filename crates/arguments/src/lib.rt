@@ -52,7 +52,7 @@ fn refuse(usage: &[u8], what: &[u8]) {
 }
 
 // Stores the numbers of the arguments that were gathered, if all of them were; whether there are as many as places, and all
-// are numbers. Where not, writes (bad 14), and how the program is used on standard error.
+// are numbers. Where not, writes (bad 14), and how the program is used on standard error; of what is written no contract can speak.
 pub fn take(line: &[u8], whole: bool, out: &mut [u32], usage: &[u8], what: &[u8]) -> bool
     ensures { λ r. ⌜ numbersOr r (now (out .exit)) ≡ cond whole (numbersGiven (length (now (out .entry))) (now (line .entry))) none ⌝ }
     ensures { λ r. ⌜ now (out .exit) ≡ cond whole (stored argument (length (now (out .entry))) (now (line .entry)) (now (out .entry))) (now (out .entry)) ⌝ }

@@ -34,13 +34,13 @@ prints :
     (times 5 7 12 13 100 201, ("(open 2 1 5 (5))\n(read 0 0)\n(read 1 0)\n(again 3 (step 1))\n(again 3 (step 0))\n", "(bus 1 0 1 3)\n(bus 0 0 1 3)\n(all 3 5 1 0)\n")) ∷
     -- equal once rounded, the second is the longer: 0.3 and 0.6
     (times 0 1 0 0 0 0, ("(open 2 1 5 (5))\n(read 1 0)\n(again 3 (step 1))\n(swap 0 0 5 7)\n(again 10 (step 0))\n", "(bus 1 0 0 1)\n(bus 0 0 0 1)\n(all 0 1 0 0)\n")) ∷
-    -- P9, by the greatest totals: 0.0 to 10.0 nanoseconds for a hardware swap; the least totals are 2.4, 1.2, 1.2 and 1.8
+    -- P9, by the greatest totals: 0.0 to 10.0 nanoseconds for a hardware CAS; the least totals are 2.4, 1.2, 1.2 and 1.8
     (times 3 3 0 0 0 100, ("(open 2 1 5 (5))\n(swap 0 0 5 7)\n(swap 1 0 5 9)\n(again 2 (step 0))\n(again 7 (step 1))\n(again 2 (step 0))\n(again 5 (step 1))\n(again 3 (step 0))\n(swap 0 0 9 4)\n(again 13 (step 0))\n(swap 0 0 4 6)\n(again 10 (step 0))\n", "(bus 1 0 2 13)\n(bus 0 0 1 12)\n(bus 0 1 1 22)\n(bus 0 2 1 2)\n(all 6 47 0 1)\n")) ∷
     -- a task's calls are numbered; refused actions are none
     (times 5 7 12 13 100 201, ("(open 2 1 5 (5))\n(step 0)\n(read 0 0)\n(read 0 0)\n(again 4 (step 0))\n(read 1 0)\n(again 3 (step 1))\n(swap 0 0 5 7)\n(again 10 (step 0))\n", "(bus 0 0 1 3)\n(bus 1 0 1 3)\n(bus 0 1 7 10)\n(all 10 14 0 1)\n")) ∷
-    -- P10: 10 loads, 8 stores and 3 hardware swaps; 4, 7 and 2
+    -- P10: 10 loads, 8 stores and 3 hardware CAS; 4, 7 and 2
     (times 5 7 12 13 100 201, ("(open 2 1 5 (5))\n(swap 0 0 5 7)\n(swap 1 0 5 9)\n(again 2 (step 0))\n(again 7 (step 1))\n(again 5 (step 0))\n(again 14 (step 1))\n(again 6 (step 0))\n", "(bus 1 0 44 78)\n(bus 0 0 30 53)\n(all 75 130 1 0)\n")) ∷
-    -- 15 steps and 2 hardware swaps: the row of 5 loads and 8 stores
+    -- 15 steps and 2 hardware CAS: the row of 5 loads and 8 stores
     (times 5 7 12 13 100 201, ("(open 2 1 5 (5))\n(swap 0 0 5 7)\n(swap 1 0 5 9)\n(again 3 (step 0))\n(again 2 (step 1))\n(again 12 (step 0))\n", "(bus 0 0 32 55)\n(all 32 55 0 0)\n")) ∷
     -- no finished call
     (times 5 7 12 13 100 201, ("(open 2 1 5 (5))\n(swap 0 0 5 7)\n(again 9 (step 0))\n", "(all 0 0 none)\n")) ∷

@@ -90,5 +90,5 @@ spare-stay s p long g (begin t (read k)) = begin-spare s t long p g (refusal ((6
 spare-stay s p long g (begin t (swap k e n)) = begin-spare s t long p g (refusal ((6, fit s p) ∷ swapQuestions (s .tasks) (s .cells) (recordAt (s .records) t) t k e n)) (firstSwap k e n) (first-swap s t long p g k e n)
 spare-stay s p long g (step t) = step-spare s t long p g
 
-pub open-spare : (n v b : ℕ) → 1 ≤ n → Spare (openState n v b)
-open-spare n v b h = (0, omega arith, refl)
+pub open-spare : (tasks cells blocks : ℕ) → 1 ≤ tasks → Spare (openState tasks cells blocks)
+open-spare tasks cells blocks h = (0, omega arith, refl)

@@ -8,7 +8,7 @@ ghost use lib.ListN.{length};
 ghost use Rattle.session_file.specs.Session.{verdict};
 ghost use Rattle.session_reading.specs.Reading.{verdictOf, judged};
 ghost use Rattle.session_reading.specs.Kept.{Within};
-ghost use Rattle.session_reading.specs.Tables.{zeros, buffers, left, leftIn};
+ghost use Rattle.session_reading.specs.Tables.{wiped, buffers, afterReading, afterReadingInto};
 ghost use Rattle.session_reading.specs.declared.Reading.the-variants.{Bad};
 
 // Words that a file can fill: a value takes at least 2 bytes, and a form of five words at least 8.
@@ -21,7 +21,7 @@ const ACTIONS: usize = 65535;
 // A buffer cleared, and the answer.
 fn refused(words: &mut [u32], n: u32) -> Reading
     ensures { λ r. ⌜ r ≡ Bad n ⌝ }
-    ensures { λ _. ⌜ now (words .exit) ≡ zeros (now (words .entry)) ⌝ }
+    ensures { λ _. ⌜ now (words .exit) ≡ wiped (now (words .entry)) ⌝ }
 {
     clear(words);
     Reading::Bad(n)
@@ -33,7 +33,7 @@ fn read(file: &[u8], values: &mut [u32], kept: &mut [u32], actions: &mut [u32]) 
     requires { ⌜ length (now actions) ≡ 65535 ⌝ }
     ensures { λ r. ⌜ verdictOf r (now (values .exit)) (now (kept .exit)) (now (actions .exit)) ≡ verdict (now (file .entry)) ⌝ }
     ensures { λ r. ⌜ Within r (now (values .exit)) (now (kept .exit)) (now (actions .exit)) ⌝ }
-    ensures { λ _. ⌜ buffers (now (values .exit)) (now (kept .exit)) (now (actions .exit)) ≡ left (now (file .entry)) (buffers (now (values .entry)) (now (kept .entry)) (now (actions .entry))) ⌝ }
+    ensures { λ _. ⌜ buffers (now (values .exit)) (now (kept .exit)) (now (actions .exit)) ≡ afterReading (now (file .entry)) (buffers (now (values .entry)) (now (kept .entry)) (now (actions .entry))) ⌝ }
 {
     if 65536 < file.len() {
         return Reading::Bad(12);
@@ -70,7 +70,7 @@ pub fn read_session(
 ) -> Reading
     ensures { λ r. ⌜ verdictOf r (now (values .exit)) (now (forms .exit)) (now (actions .exit)) ≡ judged (length (now (values .entry))) (length (now (forms .entry))) (length (now (actions .entry))) (now (file .entry)) ⌝ }
     ensures { λ r. ⌜ Within r (now (values .exit)) (now (forms .exit)) (now (actions .exit)) ⌝ }
-    ensures { λ _. ⌜ buffers (now (values .exit)) (now (forms .exit)) (now (actions .exit)) ≡ leftIn (now (file .entry)) (buffers (now (values .entry)) (now (forms .entry)) (now (actions .entry))) ⌝ }
+    ensures { λ _. ⌜ buffers (now (values .exit)) (now (forms .exit)) (now (actions .exit)) ≡ afterReadingInto (now (file .entry)) (buffers (now (values .entry)) (now (forms .entry)) (now (actions .entry))) ⌝ }
 {
     if (values.len() == VALUES) & ((forms.len() == FORMS) & (actions.len() == ACTIONS)) {
         return read(file, values, forms, actions);

@@ -12,7 +12,7 @@ use Rattle.text.specs.Readers.{Reads}
 use Rattle.session_shape.specs.Shape.{shaped}
 use Rattle.session_file.specs.Session.{Opening, Forms, Verdict, bad, session, opening, lines, counts, actionsOf, formed, asked15, asked14, verdict}
 use Rattle.session_reading.specs.Reading.{sized, judged}
-use Rattle.session_reading.specs.Tables.{Buffers, buffers, cleared, over, tableOf, doneOf, namesOf, left15, left14, left, leftIn}
+use Rattle.session_reading.specs.Tables.{Buffers, buffers, cleared, over, tableOf, doneOf, namesOf, afterReading15, afterReading14, afterReading, afterReadingInto}
 use Rattle.session_reading.specs.Answers.{OpenedIs, RestIs}
 use Rattle.session_reading.specs.declared.Rest.{Rest}
 use Rattle.session_reading.specs.declared.Opened.{Opened}
@@ -39,39 +39,39 @@ module _ (s : List ℕ) where
 
   -- what is answered, and what is left in the buffers
   abbrev pub Judged : Buffers → Verdict → Buffers → Type 0
-  Judged b v c = (verdict s ≡ v) × (left s b ≡ c)
+  Judged b v c = (verdict s ≡ v) × (afterReading s b ≡ c)
 
   module _ (b : Buffers) where
     pub is-12 : 65536 < length s → Judged b (bad 12) b
-    unfolding verdict left
+    unfolding verdict afterReading
     is-12 h = let e = lt-leb (length s) 65536 h in (rw e, rw e)
 
     module _ (h : length s ≤ 65536) where
       pub is-13 : shaped s ≡ false → Judged b (bad 13) b
-      unfolding verdict left
+      unfolding verdict afterReading
       is-13 e = let f = le-leb (length s) 65536 h in (rw (f, e), rw (f, e))
 
       module _ (e : shaped s ≡ true) where
-        asked : Judged b (asked14 (formed s)) (left14 (formed s) b)
-        unfolding verdict left
+        asked : Judged b (asked14 (formed s)) (afterReading14 (formed s) b)
+        unfolding verdict afterReading
         asked = let f = le-leb (length s) 65536 h in (rw (f, e), rw (f, e))
 
         pub unopened : opening s ≡ none → Judged b (bad 14) (cleared b)
-        unfolding asked14 formed left14
+        unfolding asked14 formed afterReading14
         unopened f = (rw (asked .0, f), rw (asked .1, f))
 
         module _ {o : Opening} {a : ℕ} (x : Reads opening s 0 0 o a) where
           pub unformed : lines (drop a s) ≡ none → Judged b (bad 14) (cleared b)
-          unfolding asked14 formed left14
+          unfolding asked14 formed afterReading14
           unformed f = (rw (asked .0, x .finds, f), rw (asked .1, x .finds, f))
 
           module _ {l : Forms} {d : ℕ} (y : Reads lines s a 0 l d) where
             pub is-15 : 65535 < counts l → Judged b (bad 15) (cleared b)
-            unfolding asked14 formed asked15 left14 left15
+            unfolding asked14 formed asked15 afterReading14 afterReading15
             is-15 k = let f = lt-leb (counts l) 65535 k in (rw (asked .0, x .finds, y .finds, f), rw (asked .1, x .finds, y .finds, f))
 
             pub is-session : counts l ≤ 65535 → Judged b (session o (actionsOf l)) (buffers (over (o .values) (b .values)) (over (tableOf (doneOf l)) (b .forms)) (over (namesOf 0 l) (b .actions)))
-            unfolding asked14 formed asked15 left14 left15
+            unfolding asked14 formed asked15 afterReading14 afterReading15
             is-session k = let f = le-leb (counts l) 65535 k in (rw (asked .0, x .finds, y .finds, f), rw (asked .1, x .finds, y .finds, f))
 
 -- with buffers of the right sizes the promise is the verdict
@@ -79,8 +79,8 @@ pub right-sizes : (v f a : ℕ) (s : List ℕ) → v ≡ 32768 → f ≡ 40960 �
 unfolding judged
 right-sizes v f a s p q r = rw (p, q, r)
 
-pub right-left : (s : List ℕ) (b : Buffers) → length (b .values) ≡ 32768 → length (b .forms) ≡ 40960 → length (b .actions) ≡ 65535 → leftIn s b ≡ left s b
-unfolding leftIn
+pub right-left : (s : List ℕ) (b : Buffers) → length (b .values) ≡ 32768 → length (b .forms) ≡ 40960 → length (b .actions) ≡ 65535 → afterReadingInto s b ≡ afterReading s b
+unfolding afterReadingInto
 right-left s b p q r = rw (p, q, r)
 
 both : (x y : Bool) → (x && y) ≡ true → (x ≡ true) × (y ≡ true)

@@ -11,7 +11,7 @@ use Rattle.text.specs.Readers.{Reader, Reads, word as literal}
 use Rattle.text.specs.declared.Place.{Place}
 use Rattle.text.specs.declared.Place.the-variants as place
 use Rattle.session_file.specs.Session.{FormKind, reading, swapping, stepping, repeating, numbers, values, opening, keyword, arity, head, Form, Forms, counts, lines}
-use Rattle.session_reading.specs.Tables.{tableOf, done, doneOf, names, namesOf, over, zeros}
+use Rattle.session_reading.specs.Tables.{tableOf, done, doneOf, names, namesOf, over, wiped}
 use Rattle.session_reading.specs.declared.Listed.{Listed}
 use Rattle.session_reading.specs.declared.Listed.the-variants as listed
 use Rattle.session_reading.specs.declared.Opened.{Opened}
@@ -124,8 +124,8 @@ module _ {X : Type 0} (a : Account X) (p : Reader X) where
 
 -- the lines after the first; zeros where they are not kept
 abbrev pub RestIs : List ℕ → (at : ℕ) → (F F′ A A′ : List ℕ) → Rest → Type 0
-RestIs s at F F′ A A′ rest.Wrong = (lines (drop at s) ≡ none) × (F′ ≡ zeros F) × (A′ ≡ zeros A)
+RestIs s at F F′ A A′ rest.Wrong = (lines (drop at s) ≡ none) × (F′ ≡ wiped F) × (A′ ≡ wiped A)
 RestIs s at F F′ A A′ rest.Many =
-    (l : Forms) × (next : ℕ) × Reads lines s at 0 l next × (length A < counts l) × (F′ ≡ zeros F) × (A′ ≡ zeros A)
+    (l : Forms) × (next : ℕ) × Reads lines s at 0 l next × (length A < counts l) × (F′ ≡ wiped F) × (A′ ≡ wiped A)
 RestIs s at F F′ A A′ (rest.Kept n) =
     (l : Forms) × (next : ℕ) × Reads lines s at 0 l next × (n ≡ counts l) × (n ≤ length A) × (F′ ≡ over (tableOf (doneOf l)) F) × (A′ ≡ over (namesOf 0 l) A)

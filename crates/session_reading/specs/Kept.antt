@@ -3,7 +3,7 @@ use mathlib.Core.Path.{_≡_}
 use mathlib.Core.List.{List}
 use Prim.Native.Nat.{ℕ, _+_, _*_, _≤_, _<_}
 use lib.ListN.{length, take, drop, getD}
-use Rattle.session_reading.specs.Tables.{zeros}
+use Rattle.session_reading.specs.Tables.{wiped}
 use Rattle.session_reading.specs.declared.Reading.{Reading}
 use Rattle.session_reading.specs.declared.Reading.the-variants as reading
 use Rattle.session_reading.specs.declared.Listed.{Listed}
@@ -11,13 +11,14 @@ use Rattle.session_reading.specs.declared.Listed.the-variants as listed
 use Rattle.session_reading.specs.declared.Opened.{Opened}
 use Rattle.session_reading.specs.declared.Opened.the-variants as opened
 
--- so many values fit their buffer, and what stands behind them is what stood there; zeros where the first line is wrong
+-- so many values fit their buffer, and what stands behind them is what stood there
 abbrev pub ListedWithin : (old new : List ℕ) → Listed → Type 0
 ListedWithin o p listed.Wrong = Unit {0}
 ListedWithin o p (listed.Read n next) = (n ≤ length p) × (drop n p ≡ drop n o)
 
+-- the same of the first line, and zeros where it is wrong
 abbrev pub OpenedWithin : (old new : List ℕ) → Opened → Type 0
-OpenedWithin o p opened.Wrong = p ≡ zeros o
+OpenedWithin o p opened.Wrong = p ≡ wiped o
 OpenedWithin o p (opened.Read t c b n next) = (n ≤ length p) × (drop n p ≡ drop n o)
 
 -- each of the actions numbers a form of a table of so many words

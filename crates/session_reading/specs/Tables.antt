@@ -46,8 +46,9 @@ unfoldable mutual
 abbrev pub over : List ℕ → List ℕ → List ℕ
 over l b = l ++ drop (length l) b
 
-abbrev pub zeros : List ℕ → List ℕ
-zeros b = replicate (length b) 0
+-- all of it set to 0
+abbrev pub wiped : List ℕ → List ℕ
+wiped b = replicate (length b) 0
 
 pub record Buffers : Type 0 where
   pub values : List ℕ
@@ -58,20 +59,20 @@ abbrev pub buffers : (values forms actions : List ℕ) → Buffers
 buffers v f a = record { values = v; forms = f; actions = a }
 
 abbrev pub cleared : Buffers → Buffers
-cleared b = buffers (zeros (b .values)) (zeros (b .forms)) (zeros (b .actions))
+cleared b = buffers (wiped (b .values)) (wiped (b .forms)) (wiped (b .actions))
 
 -- refused with 14 or 15: zeros; before that nothing is written
-unfoldable pub left15 : Bool → Opening → Forms → Buffers → Buffers
-left15 true o l b = buffers (over (o .values) (b .values)) (over (tableOf (doneOf l)) (b .forms)) (over (namesOf 0 l) (b .actions))
-left15 false o l b = cleared b
+unfoldable pub afterReading15 : Bool → Opening → Forms → Buffers → Buffers
+afterReading15 true o l b = buffers (over (o .values) (b .values)) (over (tableOf (doneOf l)) (b .forms)) (over (namesOf 0 l) (b .actions))
+afterReading15 false o l b = cleared b
 
-unfoldable pub left14 : Option ((Opening × Forms) × List ℕ) → Buffers → Buffers
-left14 none b = cleared b
-left14 (some ((o, l), s)) b = left15 (leb (counts l) 65535) o l b
+unfoldable pub afterReading14 : Option ((Opening × Forms) × List ℕ) → Buffers → Buffers
+afterReading14 none b = cleared b
+afterReading14 (some ((o, l), s)) b = afterReading15 (leb (counts l) 65535) o l b
 
-unfoldable pub left : List ℕ → Buffers → Buffers
-left s b = cond (short s) (cond (shaped s) (left14 (formed s) b) b) b
+unfoldable pub afterReading : List ℕ → Buffers → Buffers
+afterReading s b = cond (short s) (cond (shaped s) (afterReading14 (formed s) b) b) b
 
 -- also buffers of other sizes stay as they were
-unfoldable pub leftIn : List ℕ → Buffers → Buffers
-leftIn s b = cond (sized (length (b .values)) (length (b .forms)) (length (b .actions))) (left s b) b
+unfoldable pub afterReadingInto : List ℕ → Buffers → Buffers
+afterReadingInto s b = cond (sized (length (b .values)) (length (b .forms)) (length (b .actions))) (afterReading s b) b

@@ -13,7 +13,7 @@ ghost use lib.ListN.{length, take, replicate};
 ghost use Rattle.cells.specs.Open.{opened, blank as «blankOf»};
 ghost use Rattle.session_file.specs.Session.{verdict};
 ghost use Rattle.session_reading.specs.Reading.{actAt};
-ghost use Rattle.session_reading.specs.Tables.{buffers, left};
+ghost use Rattle.session_reading.specs.Tables.{buffers, afterReading};
 ghost use Rattle.session_text.specs.Printed.{poolWords};
 ghost use Rattle.starts.specs.Start.{startAfter, startOf, startAt, inPool, poolOf, Opens, Ready};
 
@@ -51,7 +51,7 @@ pub fn open_session(
     requires { ⌜ (length (now values) ≡ 32768) × (length (now forms) ≡ 40960) × (length (now kept) ≡ 65535) × (now pool ≡ replicate 640 0) ⌝ }
     ensures { λ r. ⌜ startAt (r .opening) (r .state) (now (forms .exit)) (now (kept .exit)) (now (pool .exit)) ≡ startOf (verdict (now (file .entry))) ⌝ }
     ensures { λ r. ⌜ Ready (r .opening) (r .state) (now (forms .exit)) (now (kept .exit)) (now (pool .exit)) ⌝ }
-    ensures { λ _. ⌜ buffers (now (values .exit)) (now (forms .exit)) (now (kept .exit)) ≡ left (now (file .entry)) (buffers (now (values .entry)) (now (forms .entry)) (now (kept .entry))) ⌝ }
+    ensures { λ _. ⌜ buffers (now (values .exit)) (now (forms .exit)) (now (kept .exit)) ≡ afterReading (now (file .entry)) (buffers (now (values .entry)) (now (forms .entry)) (now (kept .entry))) ⌝ }
     ensures { λ r. ⌜ (r .state, now (pool .exit)) ≡ poolOf (verdict (now (file .entry))) ⌝ }
 {
     let found = read_session(file, values, forms, kept);
