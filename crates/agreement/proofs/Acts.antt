@@ -22,8 +22,8 @@ use Rattle.consensus.specs.declared.Offer.{Offer}
 use Rattle.consensus.specs.declared.OnceState.{OnceState}
 use Rattle.consensus.specs.Figure.{stageOf, GoesOn, idleOffer, Leaves, withStep, leaves}
 use Rattle.consensus.specs.Questions.{offerAt, freshCell, onceAt, hasOffered, isIdleOffer, isStep, offerTests, offerFit, offersFit, onceFit, offerQuestions, turnQuestions}
-use Rattle.consensus.specs.Entries.{OnceAfter, onceAfter, orRefused, replaced, noted, firstOffer, offerBegun, storedBack, onceStepped}
-use Rattle.consensus.specs.History.{Move, offer, step, MoveEvent, admitted, offerEvent, stepEvent, once, OnceCall, OnceCalls, tallied, tally}
+use Rattle.consensus.specs.Entries.{OnceAfter, onceAfter, orRefused, replaced, offerNoted, firstOffer, offerBegun, storedBack, onceStepped}
+use Rattle.consensus.specs.History.{Move, offer, step, MoveEvent, admitted, offerEvent, stepEvent, onceMachine, OnceCall, OnceCalls, onceTallied, tally}
 use Rattle.consensus.specs.Consensus.{May}
 use Rattle.consensus.proofs.Classes.{busy, lies-in}
 use Rattle.consensus.proofs.Invariant as I
@@ -79,7 +79,7 @@ module _ (s : OnceState) (b : OnceCalls) (S : Stands s b) where
   is-fit = rw (S .tasks-ok, S .cells-ok, all-from (λ t. offerFit (offerAt s t) (s .cells)) 0 (s .tasks) (λ t l h. fits t (b .pending t) refl (S .sound .each-task t))) refl
 
   -- A REFUSED MOVE changes nothing but the next one's number
-  passes : (n v : ℕ) (cells : ℕ → OnceCell) (offers : ℕ → Offer) → Sound n v cells offers b → Sound n v cells offers (tallied b (b .ids) (b .pending) (b .finished))
+  passes : (n v : ℕ) (cells : ℕ → OnceCell) (offers : ℕ → Offer) → Sound n v cells offers b → Sound n v cells offers (onceTallied b (b .ids) (b .pending) (b .finished))
   passes n v cells offers G = record {
     each-cell = G .each-cell;
     each-task = G .each-task;
@@ -88,7 +88,7 @@ module _ (s : OnceState) (b : OnceCalls) (S : Stands s b) where
     one-offer = G .one-offer;
   }
 
-  stays : Stands s (tallied b (b .ids) (b .pending) (b .finished))
+  stays : Stands s (onceTallied b (b .ids) (b .pending) (b .finished))
   stays = record { sound = passes (s .tasks) (s .cells) (onceAt s) (offerAt s) (S .sound); tasks-ok = S .tasks-ok; cells-ok = S .cells-ok; words-16 = S .words-16; offers-32 = S .offers-32 }
 
   few-tasks : s .tasks ≤ 32
@@ -134,14 +134,14 @@ module _ (s : OnceState) (b : OnceCalls) (S : Stands s b) where
     abbrev qs : List Question
     qs = offerQuestions (s .tasks) (s .cells) (offerAt s t) (onceAt s k) t k w
 
-    begun-is : (o : Option ℕ) → refusal qs ≡ o → offerBegun s t k w ≡ orRefused o s (onceAfter (replaced s k (noted (onceAt s k) t) t (firstOffer k w)) GoesOn)
+    begun-is : (o : Option ℕ) → refusal qs ≡ o → offerBegun s t k w ≡ orRefused o s (onceAfter (replaced s k (offerNoted (onceAt s k) t) t (firstOffer k w)) GoesOn)
     unfolding offerBegun
     begun-is o e = rw (is-fit, e) refl
 
-    begins : (o : Option ℕ) → refusal qs ≡ o → Acts (offer t k w) (once s (offer t k w))
+    begins : (o : Option ℕ) → refusal qs ≡ o → Acts (offer t k w) (onceMachine s (offer t k w))
     begins (some n) e = subst (λ (y : OnceAfter). Acts (offer t k w) (y .state, offerEvent (y .gives))) (sym (begun-is (some n) e)) (record { may = tt; stands = stays; same-size = refl })
     begins none e = subst (λ (y : OnceAfter). Acts (offer t k w) (y .state, offerEvent (y .gives))) (sym (begun-is none e))
-        (record { may = (was-idle (s .tasks) (s .cells) (onceAt s) (offerAt s) b (S .sound) t k w lt few-tasks lk is-idle new some-w .0, lk); stands = replaces k (noted (onceAt s k) t) t (firstOffer k w) (tally b (offer t k w) admitted) lk lt (begins-sound (s .tasks) (s .cells) (onceAt s) (offerAt s) b (S .sound) t k w lt few-tasks lk is-idle new some-w); same-size = refl })
+        (record { may = (was-idle (s .tasks) (s .cells) (onceAt s) (offerAt s) b (S .sound) t k w lt few-tasks lk is-idle new some-w .0, lk); stands = replaces k (offerNoted (onceAt s k) t) t (firstOffer k w) (tally b (offer t k w) admitted) lk lt (begins-sound (s .tasks) (s .cells) (onceAt s) (offerAt s) b (S .sound) t k w lt few-tasks lk is-idle new some-w); same-size = refl })
       where
         lt : t < s .tasks
         lt = ltb-true t (s .tasks) (yes-to qs e 7)
@@ -189,7 +189,7 @@ module _ (s : OnceState) (b : OnceCalls) (S : Stands s b) where
         go none d = refl
         go (some c) d = absurd (clash (goes-through c d) e)
 
-    steps : (o : Option ℕ) → refusal ts ≡ o → Acts (step t) (once s (step t))
+    steps : (o : Option ℕ) → refusal ts ≡ o → Acts (step t) (onceMachine s (step t))
     steps (some n) e = subst (λ (y : OnceAfter). Acts (step t) (y .state, stepEvent (stageOf r) (y .gives))) (sym (stepped-is (some n) e)) (record { may = no-call n e; stands = stays; same-size = refl })
     steps none e = subst (λ (y : OnceAfter). Acts (step t) (y .state, stepEvent (stageOf r) (y .gives))) (sym (stepped-is none e))
         (let p = busy-offer (s .tasks) (s .cells) (b .ids) t (b .pending t) r (S .sound .each-task t) (not-true (isIdleOffer r) (yes-to ts e 11)) in
@@ -206,6 +206,6 @@ module _ (s : OnceState) (b : OnceCalls) (S : Stands s b) where
           same-size = refl;
         }
 
-  pub acts : (a : Move) → Acts a (once s a)
+  pub acts : (a : Move) → Acts a (onceMachine s a)
   acts (offer t k w) = begins t k w (refusal (qs t k w)) refl
   acts (step t) = steps t (refusal (ts t)) refl

@@ -19,8 +19,8 @@ use Rattle.consensus.specs.declared.OnceState.{OnceState}
 use Rattle.consensus.specs.Figure.{stageOf, idleOffer}
 use Rattle.consensus.specs.Questions.{offerAt, onceAt, openOnce}
 use Rattle.consensus.specs.Entries.{onceOpened, onceStart}
-use Rattle.consensus.specs.History.{Move, step, MoveEvent, refused, admitted, did, ended, once, OnceCall, OnceFinished, OnceCalls, noOffers, steps, hard, goneOn, wentOn, finishing, tally, tallyAll, offersOf, IsCall, finished, pending}
-use Rattle.consensus.specs.Consensus.{cellOf, Lone, Consensus, May, AllMay, RightOnce, OnceEnds}
+use Rattle.consensus.specs.History.{Move, step, MoveEvent, refused, admitted, did, ended, onceMachine, OnceCall, OnceFinished, OnceCalls, noOffers, stepsDone, hard, goneOn, wentOn, finishing, tally, tallyAll, offersOf, IsCall, finished, pending}
+use Rattle.consensus.specs.Consensus.{offeredCell, Lone, Consensus, May, AllMay, RightOnce, OnceEnds}
 use Rattle.consensus.proofs.Classes.{tries}
 use Rattle.consensus.proofs.Lone.{Company, nobody, first, settled, crowded, Company-is}
 use Rattle.consensus.proofs.Ways.{path-short, path-few, way-short, way-few, way-quiet}
@@ -36,10 +36,10 @@ module _ (s : OnceState) (b : OnceCalls) (S : Sound (s .tasks) (s .cells) (onceA
 
   module _ (f : OnceFinished) (is-in : f ∈ b .finished) (lone : Lone b f) where
     abbrev k : ℕ
-    k = cellOf (f .call)
+    k = offeredCell (f .call)
 
     -- where a call ended alone, nobody has tried, and nobody will
-    no-attempt : (c : OnceCall) → IsCall b c → cellOf c ≡ k → (d : Company) → Company-is d (onceAt s k) (on (offerAt s) k) → CallsOn d k (b .ids) (b .finished) → hard c ≡ 0
+    no-attempt : (c : OnceCall) → IsCall b c → offeredCell c ≡ k → (d : Company) → Company-is d (onceAt s k) (on (offerAt s) k) → CallsOn d k (b .ids) (b .finished) → hard c ≡ 0
     no-attempt c i on-k nobody is h = absurd (h .1 f is-in refl)
     no-attempt c i on-k (first p) is h = absurd (h .1 f is-in refl)
     no-attempt c (finished g x) on-k settled is h = h g x on-k
@@ -55,25 +55,25 @@ module _ (s : OnceState) (b : OnceCalls) (S : Sound (s .tasks) (s .cells) (onceA
 
   calls-agree : Consensus b
   calls-agree = record {
-    agreement = λ f g x y e. S .each-cell (cellOf (g .call)) .agreed f x e .0 ∙ sym (S .each-cell (cellOf (g .call)) .agreed g y refl .0);
+    agreement = λ f g x y e. S .each-cell (offeredCell (g .call)) .agreed f x e .0 ∙ sym (S .each-cell (offeredCell (g .call)) .agreed g y refl .0);
     validity = λ f x. let z = S .each-end f x .valid in record { by = z .0; is-begun = z .1; there = z .2; offers = z .3; in-time = z .4 };
     reported = λ f x. S .each-end f x .reported;
     few = λ f x. let p = S .each-end f x .reported .path in (path-short (f .call .done) p, path-few (f .call .done) p);
     few-pending = λ t c h. let P = its t c h in (way-short (stageOf (offerAt s t)) (c .done) (P .way), way-few (stageOf (offerAt s t)) (c .done) (P .way));
-    no-hardware = λ f x lone c i on-k. let C = S .each-cell (cellOf (f .call)) in no-attempt f x lone c i on-k (C .company) (C .company-is) (C .calls-on);
+    no-hardware = λ f x lone c i on-k. let C = S .each-cell (offeredCell (f .call)) in no-attempt f x lone c i on-k (C .company) (C .company-is) (C .calls-on);
     one-offer = S .one-offer;
   }
 
 -- EVERY LIST OF MOVES
 
-stands-after : (l : List Move) (s : OnceState) (b : OnceCalls) → Stands s b → Stands (run once s l) (tallyAll b (history once s l))
+stands-after : (l : List Move) (s : OnceState) (b : OnceCalls) → Stands s b → Stands (run onceMachine s l) (tallyAll b (history onceMachine s l))
 stands-after [] s b S = S
-stands-after (a ∷ l) s b S = stands-after l (once s a .0) (tally b a (once s a .1)) (acts s b S a .stands)
+stands-after (a ∷ l) s b S = stands-after l (onceMachine s a .0) (tally b a (onceMachine s a .1)) (acts s b S a .stands)
 
-all-may : (l : List Move) (s : OnceState) (b : OnceCalls) (size : ℕ) → s .cells ≡ size → Stands s b → AllMay size b (history once s l)
+all-may : (l : List Move) (s : OnceState) (b : OnceCalls) (size : ℕ) → s .cells ≡ size → Stands s b → AllMay size b (history onceMachine s l)
 all-may [] s b size e S = tt
 all-may (a ∷ l) s b size e S = let A = acts s b S a in
-    (subst (λ n. May n b a (once s a .1)) e (A .may), all-may l (once s a .0) (tally b a (once s a .1)) size (A .same-size ∙ e) (A .stands))
+    (subst (λ n. May n b a (onceMachine s a .1)) e (A .may), all-may l (onceMachine s a .0) (tally b a (onceMachine s a .1)) size (A .same-size ∙ e) (A .stands))
 
 -- FROM ANYWHERE A CALL ENDS
 
@@ -85,18 +85,18 @@ record Within (s : OnceState) (b : OnceCalls) (t : ℕ) (c : OnceCall) (few : �
   more : ℕ
   at-most : more ≤ few
   end : OnceFinished
-  is-finished : end ∈ tallyAll b (history once s (replicate more (step t))) .finished
+  is-finished : end ∈ tallyAll b (history onceMachine s (replicate more (step t))) .finished
   is : end .call .start ≡ c .start
 
 -- each further step is accepted, and the bound leaves room for no more than k that do not end the call
-ends-from : (k : ℕ) (s : OnceState) (b : OnceCalls) → Stands s b → (t : ℕ) (c : OnceCall) → b .pending t ≡ some c → 10 ≤ steps c + k → Within s b t c k
+ends-from : (k : ℕ) (s : OnceState) (b : OnceCalls) → Stands s b → (t : ℕ) (c : OnceCall) → b .pending t ≡ some c → 10 ≤ stepsDone c + k → Within s b t c k
 ends-from zero s b S t c h m = absurd (omega (arith, calls-agree s b (S .sound) .few-pending t c h .0))
-ends-from (suc k) s b S t c h m = go (once s (step t) .1) refl (acts s b S (step t) .may) (ends-from k (once s (step t) .0) (tally b (step t) (once s (step t) .1)) (acts s b S (step t) .stands) t)
+ends-from (suc k) s b S t c h m = go (onceMachine s (step t) .1) refl (acts s b S (step t) .may) (ends-from k (onceMachine s (step t) .0) (tally b (step t) (onceMachine s (step t) .1)) (acts s b S (step t) .stands) t)
   where
     b′ : OnceCalls
-    b′ = tally b (step t) (once s (step t) .1)
+    b′ = tally b (step t) (onceMachine s (step t) .1)
 
-    go : (e : MoveEvent) → once s (step t) .1 ≡ e → May (s .cells) b (step t) e → ((d : OnceCall) → b′ .pending t ≡ some d → 10 ≤ steps d + k → Within (once s (step t) .0) b′ t d k) → Within s b t c (suc k)
+    go : (e : MoveEvent) → onceMachine s (step t) .1 ≡ e → May (s .cells) b (step t) e → ((d : OnceCall) → b′ .pending t ≡ some d → 10 ≤ stepsDone d + k → Within (onceMachine s (step t) .0) b′ t d k) → Within s b t c (suc k)
     go (refused n) e y rec = absurd (clash y h)
     go admitted e y rec = absurd y
     go (did ℓ) e y rec =
@@ -127,22 +127,22 @@ module _ (old : OnceState) (tasks cells : ℕ) (allowed : refusal (openOnce task
   -- same value; it was offered on that cell by a call begun before the answer; a call takes at most 10 steps and 1 hardware CAS, on one of the
   -- eleven paths; a pending call's step is never refused; if one call on a cell ends before any other on that cell begins, no call of the
   -- whole list attempts a hardware CAS on it.
-  pub once-cells-agree : (moves : List Move) → RightOnce cells (history once (onceOpened old tasks cells .state) moves)
+  pub once-cells-agree : (moves : List Move) → RightOnce cells (history onceMachine (onceOpened old tasks cells .state) moves)
   once-cells-agree l = record {
     well-formed = all-may l (onceOpened old tasks cells .state) noOffers cells (ap (λ (s : OnceState). s .cells) opened-is) opening;
-    calls = calls-agree (run once (onceOpened old tasks cells .state) l) (offersOf (history once (onceOpened old tasks cells .state) l)) (stands-after l (onceOpened old tasks cells .state) noOffers opening .sound);
+    calls = calls-agree (run onceMachine (onceOpened old tasks cells .state) l) (offersOf (history onceMachine (onceOpened old tasks cells .state) l)) (stands-after l (onceOpened old tasks cells .state) noOffers opening .sound);
   }
 
   -- From anywhere in any list, at most 10 further steps of its task finish a call.
-  pub every-offer-ends : (moves : List Move) (task : ℕ) (call : OnceCall) → offersOf (history once (onceOpened old tasks cells .state) moves) .pending task ≡ some call
-      → OnceEnds once (onceOpened old tasks cells .state) moves task call 10
+  pub every-offer-ends : (moves : List Move) (task : ℕ) (call : OnceCall) → offersOf (history onceMachine (onceOpened old tasks cells .state) moves) .pending task ≡ some call
+      → OnceEnds onceMachine (onceOpened old tasks cells .state) moves task call 10
   every-offer-ends l t c h =
       let s = onceOpened old tasks cells .state in
-      let w = ends-from 10 (run once s l) (offersOf (history once s l)) (stands-after l s noOffers opening) t c h (omega arith) in
+      let w = ends-from 10 (run onceMachine s l) (offersOf (history onceMachine s l)) (stands-after l s noOffers opening) t c h (omega arith) in
       record {
         more = w .more;
         at-most = w .at-most;
         end = w .end;
-        is-finished = subst (λ b. w .end ∈ b .finished) (sym (ap (tallyAll noOffers) (history-append once s l (replicate (w .more) (step t))) ∙ tally-append noOffers (history once s l) (history once (run once s l) (replicate (w .more) (step t))))) (w .is-finished);
+        is-finished = subst (λ b. w .end ∈ b .finished) (sym (ap (tallyAll noOffers) (history-append onceMachine s l (replicate (w .more) (step t))) ∙ tally-append noOffers (history onceMachine s l) (history onceMachine (run onceMachine s l) (replicate (w .more) (step t))))) (w .is-finished);
         is = w .is;
       }

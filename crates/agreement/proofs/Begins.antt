@@ -16,7 +16,7 @@ use Rattle.consensus.specs.declared.OnceCell.{OnceCell}
 use Rattle.consensus.specs.declared.Offer.{Offer}
 use Rattle.consensus.specs.Figure.{writeX, idleOffer}
 use Rattle.consensus.specs.Questions.{isIdleOffer, hasOffered}
-use Rattle.consensus.specs.Entries.{firstOffer, noted}
+use Rattle.consensus.specs.Entries.{firstOffer, offerNoted}
 use Rattle.consensus.specs.History.{offer, admitted, OnceId, OnceCall, OnceCalls, idOf, tally}
 use Rattle.consensus.proofs.Invariant as I
 use Rattle.consensus.proofs.Invariant.{Inv, finish}
@@ -58,11 +58,11 @@ module _ (n v : ℕ) (cells : ℕ → OnceCell) (offers : ℕ → Offer) (b : On
   abbrev O : ℕ → Type 0
   O = OfferedOn (i₀ ∷ B) k
 
-  begins-inv : Inv O (noted m t) (upd task t (firstOffer k w)) (C .winner) (C .fast)
+  begins-inv : Inv O (offerNoted m t) (upd task t (firstOffer k w)) (C .winner) (C .fast)
   begins-inv =
       let i = grow (OfferedOn B k) O (λ w o. (o .0, inr (o .1), o .2, o .3)) m task (C .winner) (C .fast) (C .inv) in
       let o : O w = (i₀, inl refl, refl, refl) in
-      finish O (noted m t) task (C .winner) (C .fast) t writeX (firstOffer k w) refl (i .words)
+      finish O (offerNoted m t) task (C .winner) (C .fast) t writeX (firstOffer k w) refl (i .words)
       (λ u ne. let j = i .tasks u in record { splits = j .splits; values = j .values; decides = j .decides })
       (search (no-eq, no-T, no-winner))
 
@@ -81,21 +81,21 @@ module _ (n v : ℕ) (cells : ℕ → OnceCell) (offers : ℕ → Offer) (b : On
   calls settled h = h
   calls crowded h = record { one = h .one; two = h .two; one-in = inr (h .one-in); two-in = inr (h .two-in); one-on = h .one-on; two-on = h .two-on; differ = h .differ; before-ends = h .before-ends }
 
-  marked : (u : ℕ) → u ≡ t → hasOffered (noted m t) u ≡ true
+  marked : (u : ℕ) → u ≡ t → hasOffered (offerNoted m t) u ≡ true
   marked u e = rw e (getD-set-same (m .offered) t true false (omega (arith, C .room)))
 
-  still-marked : (u : ℕ) → hasOffered m u ≡ true → hasOffered (noted m t) u ≡ true
+  still-marked : (u : ℕ) → hasOffered m u ≡ true → hasOffered (offerNoted m t) u ≡ true
   still-marked u h = go (either u t)
     where
-      go : (u ≡ t) ⊎ (u ≢ t) → hasOffered (noted m t) u ≡ true
+      go : (u ≡ t) ⊎ (u ≢ t) → hasOffered (offerNoted m t) u ≡ true
       go (inl e) = marked u e
       go (inr ne) = getD-set-other (m .offered) t u true false ne ∙ h
 
-  marks-all : (i : OnceId) → i ∈ (i₀ ∷ B) → i .cell ≡ k → hasOffered (noted m t) (i .task) ≡ true
+  marks-all : (i : OnceId) → i ∈ (i₀ ∷ B) → i .cell ≡ k → hasOffered (offerNoted m t) (i .task) ≡ true
   marks-all i (inl e) on-k = marked (i .task) (ap (λ (i : OnceId). i .task) e)
   marks-all i (inr x) on-k = still-marked (i .task) (C .noted-all i x on-k)
 
-  here : CellSound k (noted m t) (upd task t (firstOffer k w)) (i₀ ∷ B) (b .finished)
+  here : CellSound k (offerNoted m t) (upd task t (firstOffer k w)) (i₀ ∷ B) (b .finished)
   here = record {
     winner = C .winner;
     fast = C .fast;
@@ -111,15 +111,15 @@ module _ (n v : ℕ) (cells : ℕ → OnceCell) (offers : ℕ → Offer) (b : On
   -- ALL OF IT
 
   abbrev cells′ : ℕ → OnceCell
-  cells′ = upd cells k (noted m t)
+  cells′ = upd cells k (offerNoted m t)
 
   abbrev offers′ : ℕ → Offer
   offers′ = upd offers t (firstOffer k w)
 
   cell : (j : ℕ) → (j ≡ k) ⊎ (j ≢ k) → CellSound j (cells′ j) (on offers′ j) (i₀ ∷ B) (b .finished)
-  cell j (inl e) = rw (upd-at cells k (noted m t) j e, e, on-changed (λ (r : Offer). r .cell) idleOffer offers t (firstOffer k w) k (inl refl)) here
+  cell j (inl e) = rw (upd-at cells k (offerNoted m t) j e, e, on-changed (λ (r : Offer). r .cell) idleOffer offers t (firstOffer k w) k (inl refl)) here
   cell j (inr ne) =
-      rw (upd-off cells k (noted m t) j ne, on-elsewhere (λ (r : Offer). r .cell) idleOffer offers t (firstOffer k w) j (inr (was-idle .1)) (inl (λ e. ne (sym e))))
+      rw (upd-off cells k (offerNoted m t) j ne, on-elsewhere (λ (r : Offer). r .cell) idleOffer offers t (firstOffer k w) j (inr (was-idle .1)) (inl (λ e. ne (sym e))))
       (begins-elsewhere j (cells j) (on offers j) B (b .finished) (S .each-cell j) i₀ (λ e. ne (sym e)))
 
   more : (u : ℕ) (o : Option OnceCall) (r : Offer) → Doing n v B u o r → Doing n v (i₀ ∷ B) u o r

@@ -14,11 +14,11 @@ use Rattle.history.proofs.OnCell.{on-in, on-changed, on-others}
 use Rattle.consensus.specs.declared.Agreement.{Agreement}
 use Rattle.consensus.specs.declared.OnceCell.{OnceCell}
 use Rattle.consensus.specs.declared.Offer.{Offer}
-use Rattle.consensus.specs.Figure.{Stage, stageAt, stageOf, GoesOn, Ends, idleOffer, Leaves, goOn, agree, does, withStep, leaves}
+use Rattle.consensus.specs.Figure.{Stage, stageAt, stageOf, GoesOn, Ends, idleOffer, Leaves, goOn, agree, stageDoes, withStep, leaves}
 use Rattle.consensus.specs.Questions.{hasOffered}
 use Rattle.consensus.specs.History.{step, stepEvent, OnceId, OnceCall, OnceFinished, OnceCalls, goneOn, hard, tally}
 use Rattle.consensus.specs.Paths.{oncePaths}
-use Rattle.consensus.specs.Consensus.{cellOf}
+use Rattle.consensus.specs.Consensus.{offeredCell}
 use Rattle.consensus.proofs.Classes.{busy, tries}
 use Rattle.consensus.proofs.Invariant as I
 use Rattle.consensus.proofs.Keeping.{Kept, keeps}
@@ -58,14 +58,14 @@ module _ (n v : ℕ) (cells : ℕ → OnceCell) (offers : ℕ → Offer) (b : On
   abbrev Holds : Leaves → Type 0
   Holds x = Kept (OfferedOn B k) m task t x × Company-is (companyAfter (C .company) (x .gives)) (x .cell) (upd task t (x .offer))
 
-  held : Holds (does ℓ t (withStep (task t)) m)
+  held : Holds (stageDoes ℓ t (withStep (task t)) m)
   held =
       let e : stageOf (task t) ≡ ℓ = ap stageOf mine in
       let K = keeps (OfferedOn B k) m task (C .winner) (C .fast) (C .inv) t ℓ e is-busy in
       (K, company-step m task t (C .company) ℓ e is-busy (C .inv .tasks t .values .some-value (rw e is-busy)) (K .same-d) (C .company-is))
 
   holds : Holds (leaves t r m)
-  holds = subst (λ q. Holds (does ℓ t (withStep q) m)) mine held
+  holds = subst (λ q. Holds (stageDoes ℓ t (withStep q) m)) mine held
 
   same-company : (d : Company) → companyAfter d GoesOn ≡ d
   same-company nobody = refl
@@ -77,7 +77,7 @@ module _ (n v : ℕ) (cells : ℕ → OnceCell) (offers : ℕ → Offer) (b : On
 
   module _ (x : Leaves) (H : Holds x) (same-offered : x .cell .offered ≡ m .offered) where
     -- who had ended still has the decision
-    kept-agreed : (f : OnceFinished) → f ∈ b .finished → cellOf (f .call) ≡ k → (f .agreed .value ≡ x .cell .d) × (x .cell .d ≢ I.none)
+    kept-agreed : (f : OnceFinished) → f ∈ b .finished → offeredCell (f .call) ≡ k → (f .agreed .value ≡ x .cell .d) × (x .cell .d ≢ I.none)
     kept-agreed f i e = let a = C .agreed f i e in let d = H .0 .same-d (a .1) in (a .0 ∙ sym d, subst (λ n. n ≢ I.none) (sym d) (a .1))
 
     kept-notes : (i : OnceId) → i ∈ B → i .cell ≡ k → hasOffered (x .cell) (i .task) ≡ true
@@ -101,7 +101,7 @@ module _ (n v : ℕ) (cells : ℕ → OnceCell) (offers : ℕ → Offer) (b : On
     f₀ = record { call = goneOn b ℓ c; agreed = a }
 
     -- what holds of the call that ends and of those that had
-    all-ended : (Q : OnceFinished → Type 0) → Q f₀ → ((f : OnceFinished) → f ∈ b .finished → cellOf (f .call) ≡ k → Q f) → (f : OnceFinished) → f ∈ (f₀ ∷ b .finished) → cellOf (f .call) ≡ k → Q f
+    all-ended : (Q : OnceFinished → Type 0) → Q f₀ → ((f : OnceFinished) → f ∈ b .finished → offeredCell (f .call) ≡ k → Q f) → (f : OnceFinished) → f ∈ (f₀ ∷ b .finished) → offeredCell (f .call) ≡ k → Q f
     all-ended Q new old f (inl e) on-k = rw e new
     all-ended Q new old f (inr i) on-k = old f i on-k
 

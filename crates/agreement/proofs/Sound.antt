@@ -12,8 +12,8 @@ use Rattle.consensus.specs.declared.OnceCell.{OnceCell}
 use Rattle.consensus.specs.declared.Offer.{Offer}
 use Rattle.consensus.specs.Figure.{stageOf, idleOffer}
 use Rattle.consensus.specs.Questions.{hasOffered}
-use Rattle.consensus.specs.History.{OnceId, OnceCall, OnceFinished, OnceCalls, hard, attempts}
-use Rattle.consensus.specs.Consensus.{cellOf, Reported}
+use Rattle.consensus.specs.History.{OnceId, OnceCall, OnceFinished, OnceCalls, hard, attemptsIn}
+use Rattle.consensus.specs.Consensus.{offeredCell, Reported}
 use Rattle.consensus.proofs.Invariant as I
 use Rattle.consensus.proofs.Invariant.{Inv}
 use Rattle.consensus.proofs.Lone.{Company, nobody, first, settled, crowded, Company-is}
@@ -29,7 +29,7 @@ abbrev pub OfferedOn : List OnceId → (cell value : ℕ) → Type 0
 OfferedOn B k w = (i : OnceId) × (i ∈ B) × (i .cell ≡ k) × (i .value ≡ w)
 
 abbrev pub NoneEnded : List OnceFinished → ℕ → Type 0
-NoneEnded F k = (f : OnceFinished) → f ∈ F → cellOf (f .call) ≢ k
+NoneEnded F k = (f : OnceFinished) → f ∈ F → offeredCell (f .call) ≢ k
 
 -- two calls, both begun before any that has ended did
 pub record Two (k : ℕ) (B : List OnceId) (F : List OnceFinished) : Type 0 where
@@ -40,12 +40,12 @@ pub record Two (k : ℕ) (B : List OnceId) (F : List OnceFinished) : Type 0 wher
   pub one-on : one .cell ≡ k
   pub two-on : two .cell ≡ k
   pub differ : one .at ≢ two .at
-  pub before-ends : (f : OnceFinished) → f ∈ F → cellOf (f .call) ≡ k → (one .at ≤ f .call .last) × (two .at ≤ f .call .last)
+  pub before-ends : (f : OnceFinished) → f ∈ F → offeredCell (f .call) ≡ k → (one .at ≤ f .call .last) × (two .at ≤ f .call .last)
 
 abbrev pub CallsOn : Company → ℕ → List OnceId → List OnceFinished → Type 0
 CallsOn nobody k B F = ((i : OnceId) → i ∈ B → i .cell ≢ k) × NoneEnded F k
 CallsOn (first p) k B F = ((i : OnceId) × (i ∈ B) × (i .cell ≡ k)) × NoneEnded F k
-CallsOn settled k B F = (f : OnceFinished) → f ∈ F → cellOf (f .call) ≡ k → hard (f .call) ≡ 0
+CallsOn settled k B F = (f : OnceFinished) → f ∈ F → offeredCell (f .call) ≡ k → hard (f .call) ≡ 0
 CallsOn crowded k B F = Two k B F
 
 pub record CellSound (k : ℕ) (m : OnceCell) (task : ℕ → Offer) (B : List OnceId) (F : List OnceFinished) : Type 0 where
@@ -56,7 +56,7 @@ pub record CellSound (k : ℕ) (m : OnceCell) (task : ℕ → Offer) (B : List O
   pub company-is : Company-is company m task
   pub calls-on : CallsOn company k B F
   -- whoever has ended has the decision
-  pub agreed : (f : OnceFinished) → f ∈ F → cellOf (f .call) ≡ k → (f .agreed .value ≡ m .d) × (m .d ≢ I.none)
+  pub agreed : (f : OnceFinished) → f ∈ F → offeredCell (f .call) ≡ k → (f .agreed .value ≡ m .d) × (m .d ≢ I.none)
   pub noted-all : (i : OnceId) → i ∈ B → i .cell ≡ k → hasOffered m (i .task) ≡ true
   pub room : length (m .offered) ≡ 32
 
@@ -65,10 +65,10 @@ pub record CellSound (k : ℕ) (m : OnceCell) (task : ℕ → Offer) (B : List O
 pub record Pends (n v : ℕ) (B : List OnceId) (t : ℕ) (c : OnceCall) (r : Offer) : Type 0 where
   pub low-task : t < n
   pub low-cell : r .cell < v
-  pub on-cell : r .cell ≡ cellOf c
+  pub on-cell : r .cell ≡ offeredCell c
   pub way : c .done ∈ ways (stageOf r)
   pub all-steps : r .steps ≡ length (c .done)
-  pub all-hard : cond (r .tried) 1 0 ≡ attempts (c .done)
+  pub all-hard : cond (r .tried) 1 0 ≡ attemptsIn (c .done)
   pub is-begun : c .start ∈ B
 
 abbrev pub Doing : (n v : ℕ) → List OnceId → ℕ → Option OnceCall → Offer → Type 0
@@ -82,7 +82,7 @@ pub record Ended (now : ℕ) (B : List OnceId) (f : OnceFinished) : Type 0 where
   pub is-begun : f .call .start ∈ B
   pub over : f .call .last < now
   -- its value was offered before
-  pub valid : (i : OnceId) × (i ∈ B) × (i .cell ≡ cellOf (f .call)) × (i .value ≡ f .agreed .value) × (i .at < f .call .last)
+  pub valid : (i : OnceId) × (i ∈ B) × (i .cell ≡ offeredCell (f .call)) × (i .value ≡ f .agreed .value) × (i .at < f .call .last)
 
 -- ALL OF IT
 
@@ -108,7 +108,7 @@ grow O P g m task winner fast i = record {
 
 module _ (k : ℕ) (m : OnceCell) (task : ℕ → Offer) (B : List OnceId) (F : List OnceFinished) (S : CellSound k m task B F) where
   -- a call ends on another cell
-  pub ends-elsewhere : (f : OnceFinished) → cellOf (f .call) ≢ k → CellSound k m task B (f ∷ F)
+  pub ends-elsewhere : (f : OnceFinished) → offeredCell (f .call) ≢ k → CellSound k m task B (f ∷ F)
   ends-elsewhere f ne = record {
     winner = S .winner;
     fast = S .fast;
@@ -121,7 +121,7 @@ module _ (k : ℕ) (m : OnceCell) (task : ℕ → Offer) (B : List OnceId) (F : 
     agreed = old (λ g. (g .agreed .value ≡ m .d) × (m .d ≢ I.none)) (S .agreed);
   }
     where
-      old : (Q : OnceFinished → Type 0) → ((g : OnceFinished) → g ∈ F → cellOf (g .call) ≡ k → Q g) → (g : OnceFinished) → g ∈ (f ∷ F) → cellOf (g .call) ≡ k → Q g
+      old : (Q : OnceFinished → Type 0) → ((g : OnceFinished) → g ∈ F → offeredCell (g .call) ≡ k → Q g) → (g : OnceFinished) → g ∈ (f ∷ F) → offeredCell (g .call) ≡ k → Q g
       old Q h g (inl e) on-k = absurd (ne (rw (← e) on-k))
       old Q h g (inr i) on-k = h g i on-k
 

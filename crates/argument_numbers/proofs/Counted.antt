@@ -9,7 +9,7 @@ use borrow.Author.Tests.{eqb-true, eqb-false}
 use lib.Dec.{eqb}
 use lib.ListN.{length, take, drop, drop-of-length-le}
 use lib.Seq.{take-all}
-use Rattle.text.specs.Readers.{Reads, word, number, several}
+use Rattle.text.specs.Readers.{Reads, literal, number, several}
 use Rattle.text.proofs.Reading.{drop-byte}
 use Rattle.argument_numbers.specs.Arguments.{ended, argument, whole, numbersGiven, numbersOr}
 
@@ -18,10 +18,10 @@ module _ (s : List ℕ) (at end : ℕ) where
   no-number e = rw e
 
   module _ {v a : ℕ} (x : Reads number s at 1 v a) where
-    pub no-end : word (end ∷ []) (drop a s) ≡ none → ended end (drop at s) ≡ none
+    pub no-end : literal (end ∷ []) (drop a s) ≡ none → ended end (drop at s) ≡ none
     no-end e = rw (x .finds, e)
 
-    pub is-ended : {next : ℕ} → Reads (word (end ∷ [])) s a 1 tt next → Reads (ended end) s at 2 v next
+    pub is-ended : {next : ℕ} → Reads (literal (end ∷ [])) s a 1 tt next → Reads (ended end) s at 2 v next
     is-ended y = record { finds = rw (x .finds, y .finds); past = omega (arith, x .past, y .past); within = y .within }
 
 -- AT THE END

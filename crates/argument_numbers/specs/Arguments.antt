@@ -6,13 +6,13 @@ use mathlib.Core.List.{List, [], _∷_, _++_}
 use mathlib.Core.Option.{Option, none, some}
 use Prim.Native.Nat.{ℕ}
 use Rattle.text.specs.Bytes.{bytes}
-use Rattle.text.specs.Readers.{Reader, pure, _>>=_, _>>_, word, digitsAfter, number, several, overwritten, stored}
+use Rattle.text.specs.Readers.{Reader, pure, _>>=_, _>>_, literal, digitsAfter, number, several, overwritten, stored}
 
 -- a number by question 14's rule, and the byte that ends it
 abbrev pub ended : (end : ℕ) → Reader ℕ
 ended end = do
   n ← number
-  word (end ∷ [])
+  literal (end ∷ [])
   pure n
 
 -- an argument
@@ -39,7 +39,7 @@ o : List ℕ
 o = 0 ∷ []
 
 two : numbersGiven 2 (bytes "7" ++ o ++ bytes "4294967295" ++ o) ≡ some (7 ∷ 4294967295 ∷ [])
-unfolding o word digitsAfter number several numbersGiven
+unfolding o literal digitsAfter number several numbersGiven
 two = refl
 
 no-two :
@@ -50,7 +50,7 @@ no-two :
     × (numbersGiven 2 (bytes "7" ++ o ++ o) ≡ none)
     × (numbersGiven 2 (bytes "-7" ++ o ++ bytes "8" ++ o) ≡ none)
     × (numbersGiven 2 (bytes "7 8" ++ o) ≡ none)
-unfolding o word digitsAfter number several numbersGiven
+unfolding o literal digitsAfter number several numbersGiven
 no-two = (refl, refl, refl, refl, refl, refl, refl)
 
 -- what is stored over 1, 2 and 3: all that are asked for, those before what is no number, and none
@@ -60,5 +60,5 @@ some-stored :
     × (stored argument 3 (bytes "7" ++ o ++ bytes "08" ++ o ++ bytes "9" ++ o) (1 ∷ 2 ∷ 3 ∷ []) ≡ 7 ∷ 2 ∷ 3 ∷ [])
     × (stored argument 3 (bytes "7 8") (1 ∷ 2 ∷ 3 ∷ []) ≡ 1 ∷ 2 ∷ 3 ∷ [])
     × (stored (ended 10) 3 (bytes "7\n8\n(read") (1 ∷ 2 ∷ 3 ∷ []) ≡ 7 ∷ 8 ∷ 3 ∷ [])
-unfolding o word digitsAfter number stored
+unfolding o literal digitsAfter number stored
 some-stored = (refl, refl, refl, refl, refl)

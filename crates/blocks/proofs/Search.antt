@@ -8,18 +8,18 @@ use native.Mathlib.Omega.{arith}
 use lib.Dec.{leb, ltb}
 use lib.ListN.{getD}
 use borrow.Author.Tests.{leb-true, ltb-true, eq-eqb, ne-eqb}
-use Rattle.blocks.specs.Blocks.{blockAfter, unusedFrom, found}
+use Rattle.blocks.specs.Blocks.{blockAfter, unusedFrom, firstUnused}
 
 module _ (l : List ℕ) (n last : ℕ) where
   pub starts : leb n 128 && ltb last n ≡ true → (n ≤ 128) × (last < n)
   starts e = let q = and-eq-true-iff (leb n 128) (ltb last n) .0 e in (leb-true n 128 (q .0), ltb-true last n (q .1))
 
-  pub finds : leb n 128 && ltb last n ≡ true → found l n last ≡ unusedFrom l n (blockAfter n last) n
-  unfolding found
+  pub finds : leb n 128 && ltb last n ≡ true → firstUnused l n last ≡ unusedFrom l n (blockAfter n last) n
+  unfolding firstUnused
   finds e = rw e
 
-  pub finds-none : leb n 128 && ltb last n ≡ false → found l n last ≡ none
-  unfolding found
+  pub finds-none : leb n 128 && ltb last n ≡ false → firstUnused l n last ≡ none
+  unfolding firstUnused
   finds-none e = rw e
 
 module _ (l : List ℕ) (n b k : ℕ) {w : Option ℕ} (left : unusedFrom l n b k ≡ w) where

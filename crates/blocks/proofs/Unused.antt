@@ -16,7 +16,7 @@ use Rattle.questions.specs.declared.State.{State}
 use Rattle.lines.specs.Basics.{sumFrom, anyFrom}
 use Rattle.lines.specs.Record.{isIdle, recordAt}
 use Rattle.questions.specs.Questions.{holds, hasTaken, recordUses, namesOf, uses, countsTrue, fit, fitTests}
-use Rattle.blocks.specs.Blocks.{isCurrent, usedByTask, used, usesBlock, Spare, blockAfter, unusedFrom, found, unused, readFrom}
+use Rattle.blocks.specs.Blocks.{isCurrent, usedByTask, used, usesBlock, Spare, blockAfter, unusedFrom, firstUnused, unused, readFrom}
 use Rattle.questions.proofs.Tests.{nth, none-of, blocks-true, blocks-most}
 use Rattle.questions.proofs.Sums.{once}
 use Rattle.questions.proofs.Uses.{count-is}
@@ -107,7 +107,7 @@ module _ (s : State) (e : countsTrue s ≡ true) where
       (flip (eqb (getD (s .counts) b 0) 0) (used s b) (some b) (readFrom s (blockAfter (s .blocks) b) k) (count-of-unused s e b h))
 
 searched : (s : State) → s .blocks ≤ 128 → s .last < s .blocks → unused s ≡ unusedFrom (s .counts) (s .blocks) (blockAfter (s .blocks) (s .last)) (s .blocks)
-unfolding found
+unfolding firstUnused
 searched s m l = rw (le-leb (s .blocks) 128 m, lt-ltb (s .last) (s .blocks) l)
 
 -- In every fit state the search by the counts finds what a search of the table does: the same blocks are taken.
@@ -215,7 +215,7 @@ from-below l n b (suc k) x h e = go (eqb (getD l b 0) 0) refl (from-below l n (b
     go false u more = more (rw u at e)
 
 pub unused-below : (s : State) (x : ℕ) → unused s ≡ some x → x < s .blocks
-unfolding found
+unfolding firstUnused
 unused-below s x e = go (leb (s .blocks) 128) (ltb (s .last) (s .blocks)) refl e
   where
     go : (y z : Bool) → ltb (s .last) (s .blocks) ≡ z → cond (y && z) (unusedFrom (s .counts) (s .blocks) (blockAfter (s .blocks) (s .last)) (s .blocks)) none ≡ some x → x < s .blocks

@@ -48,11 +48,11 @@ unusedFrom l n b zero = none
 unusedFrom l n b (suc k) = cond (eqb (getD l b 0) 0) (some b) (unusedFrom l n (blockAfter n b) k)
 
 -- from the block after the last taken; where there is no block to start from, or more than counts, none is handed out
-unfoldable pub found : (counts : List ℕ) (blocks last : ℕ) → Option ℕ
-found l n last = cond (leb n 128 && ltb last n) (unusedFrom l n (blockAfter n last) n) none
+unfoldable pub firstUnused : (counts : List ℕ) (blocks last : ℕ) → Option ℕ
+firstUnused l n last = cond (leb n 128 && ltb last n) (unusedFrom l n (blockAfter n last) n) none
 
 abbrev pub unused : State → Option ℕ
-unused s = found (s .counts) (s .blocks) (s .last)
+unused s = firstUnused (s .counts) (s .blocks) (s .last)
 
 -- whether it is found
 abbrev pub isFound : Option ℕ → Bool

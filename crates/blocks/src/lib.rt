@@ -1,7 +1,7 @@
 // Which block is handed out: the first whose count is 0.
 ghost use mathlib.Core.Path.{_≡_};
 ghost use Prim.Native.Nat.{_<_};
-ghost use Rattle.blocks.specs.Blocks.{blockAfter, found, foundOf, isFound};
+ghost use Rattle.blocks.specs.Blocks.{blockAfter, firstUnused, foundOf, isFound};
 
 pub enum Found {
     At(u32),
@@ -18,7 +18,7 @@ fn block_after(blocks: u32, b: u32) -> u32
 // Reads the counts alone, from the block after the last taken. Any counts may be searched; where there are more blocks than counts, or
 // no block to start from, none is handed out.
 pub fn unused_block(counts: &[u8; 128], blocks: u32, last: u32) -> Found
-    ensures { λ r. ⌜ foundOf r ≡ found (now (counts .entry)) blocks last ⌝ }
+    ensures { λ r. ⌜ foundOf r ≡ firstUnused (now (counts .entry)) blocks last ⌝ }
 {
     if !((blocks <= 128) & (last < blocks)) {
         return Found::Nowhere;

@@ -15,7 +15,7 @@ use Rattle.questions.proofs.Tests.{or-left, or-right, yes-to}
 use Rattle.questions.specs.Questions.{refusal}
 use Rattle.cells.specs.Machine.{Pool}
 use Rattle.history.specs.History.{Action, Report}
-use Rattle.bus_text.specs.Bus.{PerKind, perKind, Times, ordered, atMost, short, busQuestions, inRow, countsOf, Timed, timed, busCalls, callsText, busText}
+use Rattle.bus_text.specs.Bus.{PerKind, perKind, Times, ordered, atMost, shortTimes, busQuestions, inRow, countsOf, Timed, timed, busCalls, callsText, busText}
 use Rattle.bus_text.proofs.Fits.{row-found, few-accesses, call-fits}
 use Rattle.bus_text.proofs.Printed.{text-accepted}
 
@@ -25,7 +25,7 @@ module _ (w : Times) {x : Bool} (in-order : x ≡ ordered w) where
 
   module _ {a b : Bool} (low : a ≡ atMost 1000000 (w .low)) (high : b ≡ atMost 1000000 (w .high)) (yes-21 : not x ≡ false) where
     asks-22 : (y : Bool) → (a && (b && true)) ≡ y → _≡_ {A = ℕ} (cond y 0 22) (Option·getD (refusal (busQuestions w)) 0)
-    asks-22 y e = let s : short w ≡ y = rw (← low, ← high) e in rw (sym in-order ∙ not-false x yes-21, s) (go y)
+    asks-22 y e = let s : shortTimes w ≡ y = rw (← low, ← high) e in rw (sym in-order ∙ not-false x yes-21, s) (go y)
       where
         go : (y : Bool) → _≡_ {A = ℕ} (cond y 0 22) (Option·getD (cond y none (some 22)) 0)
         go true = refl
@@ -63,7 +63,7 @@ pub few-of : (c : PerKind) (r : Report) → c ≡ countsOf r → c .load + c .st
 few-of c r e = rw e (few-accesses r)
 
 -- a call with short times
-pub call-known : (w : Times) → short w ≡ true → (n : ℕ) (f : ℕ × Report) {c : Timed} → c ≡ timed w n f → (c .least ≤ 21000000) × (c .greatest ≤ 21000000)
+pub call-known : (w : Times) → shortTimes w ≡ true → (n : ℕ) (f : ℕ × Report) {c : Timed} → c ≡ timed w n f → (c .least ≤ 21000000) × (c .greatest ≤ 21000000)
 call-known w h n f e = rw e (call-fits w h n f)
 
 pub text-as : {o n : List ℕ} {at r : ℕ} {t u : List ℕ} → t ≡ u → Appended o n at r t → Appended o n at r u
@@ -73,14 +73,14 @@ text-as {o = o} {n = n} {at = at} {r = r} e h = subst (Appended o n at r) e h
 
 module _ (w : Times) {n : ℕ} (asked : n ≡ Option·getD (refusal (busQuestions w)) 0) where
   none-refused : n ≡ 0 → refusal (busQuestions w) ≡ none
-  none-refused z = go (ordered w) (short w) refl refl
+  none-refused z = go (ordered w) (shortTimes w) refl refl
     where
-      go : (x y : Bool) → ordered w ≡ x → short w ≡ y → refusal (busQuestions w) ≡ none
+      go : (x y : Bool) → ordered w ≡ x → shortTimes w ≡ y → refusal (busQuestions w) ≡ none
       go true true p q = rw (p, q)
       go true false p q = let e : n ≡ 22 = rw (p, q) at asked in absurd (omega (arith, e, z))
       go false y p q = let e : n ≡ 21 = rw p at asked in absurd (omega (arith, e, z))
 
-  pub are-short : n ≡ 0 → short w ≡ true
+  pub are-short : n ≡ 0 → shortTimes w ≡ true
   are-short z = yes-to (busQuestions w) (none-refused z) 22
 
   pub text-of-calls : n ≡ 0 → (tasks : ℕ) (x : Pool) (l : List Action) → callsText (busCalls w x l) ≡ busText w tasks x l

@@ -4,7 +4,7 @@ use mathlib.Core.List.{List, [], _∷_}
 use Prim.Native.Nat.{ℕ}
 use Rattle.text.specs.Bytes.{bytes}
 use Rattle.text.specs.Lines.{line}
-use Rattle.bus_text.specs.Bus.{PerKind, perKind, Times, down, up, Timed, Sums}
+use Rattle.bus_text.specs.Bus.{PerKind, perKind, Times, roundedDown, roundedUp, Timed, Sums}
 use Rattle.bus_calls.specs.declared.times.Kinds.{Kinds}
 use Rattle.bus_calls.specs.declared.times.Ranges.{Ranges}
 use Rattle.bus_calls.specs.declared.calls.CallTime.{CallTime}
@@ -30,4 +30,4 @@ sumsIn z = record { least = z .least; greatest = z .greatest; longest = longestO
 
 -- the line of the sums where there is a call
 abbrev pub sumsLine : (least greatest : ℕ) → Timed → List ℕ
-sumsLine l g c = line (bytes "(all") (down l ∷ up g ∷ c .task ∷ c .earlier ∷ [])
+sumsLine l g c = line (bytes "(all") (roundedDown l ∷ roundedUp g ∷ c .task ∷ c .earlier ∷ [])

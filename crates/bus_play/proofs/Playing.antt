@@ -24,7 +24,7 @@ use Rattle.cells.proofs.Acts.{read-acts, swap-acts, step-acts}
 use Rattle.history.specs.History.{read, swap, Action, begin, step, taskOf, Attempt, Report, Event, history}
 use Rattle.history.proofs.Basics.{either}
 use Rattle.places.proofs.Listed.{action-then, no-action as no-more}
-use Rattle.bus_text.specs.Bus.{Times, short, finishedCalls, finishedBy, timed, timedFrom, Sums, noSums, addCall, addCalls, busCalls, callLine, callLines, allLine, callsText}
+use Rattle.bus_text.specs.Bus.{Times, shortTimes, finishedCalls, finishedCount, timed, timedFrom, Sums, noSums, addCall, addCalls, busCalls, callLine, callLines, allLine, callsText}
 use Rattle.bus_text.proofs.Fits.{Within, sums-after}
 use Rattle.bus_play.specs.Loop.{addedText, addedSums, addedCalls, addedCounts, Ends, Numbered, busOn}
 
@@ -41,11 +41,11 @@ module _ (s : State) (p : List ℕ) where
 
 -- HOW MANY CALLS EACH TASK HAS FINISHED
 
-by-at-most : (t : ℕ) (l : List (ℕ × Report)) → finishedBy t l ≤ length l
+by-at-most : (t : ℕ) (l : List (ℕ × Report)) → finishedCount t l ≤ length l
 by-at-most t [] = omega arith
 by-at-most t (f ∷ l) = go (eqb (f .0) t) (by-at-most t l)
   where
-    go : (b : Bool) → finishedBy t l ≤ length l → cond b 1 0 + finishedBy t l ≤ length (f ∷ l)
+    go : (b : Bool) → finishedCount t l ≤ length l → cond b 1 0 + finishedCount t l ≤ length (f ∷ l)
     go true h = omega (arith, h)
     go false h = omega (arith, h)
 
@@ -58,7 +58,7 @@ module _ (t : ℕ) (l : List ℕ) (before : List (ℕ × Report)) (numbered : Nu
   numbers-more Acted n h = numbered
   numbers-more (Ended f) n h = λ u k. go u k (either u t)
     where
-      go : (u : ℕ) → u < 32 → (u ≡ t) ⊎ (u ≡ t → ⊥) → getD (set l t (getD l t 0 + 1)) u 0 ≡ cond (eqb t u) 1 0 + finishedBy u before
+      go : (u : ℕ) → u < 32 → (u ≡ t) ⊎ (u ≡ t → ⊥) → getD (set l t (getD l t 0 + 1)) u 0 ≡ cond (eqb t u) 1 0 + finishedCount u before
       go u k (inl e) = rw (e, eq-eqb t t refl) (getD-set-same l t (getD l t 0 + 1) 0 (omega (arith, n, h .0)) ∙ omega (arith, numbered t (h .0)))
       go u k (inr d) = rw (ne-eqb t u (λ e. d (sym e))) (getD-set-other l t u (getD l t 0 + 1) 0 d ∙ omega (arith, numbered u k))
 
@@ -68,7 +68,7 @@ module _ (t : ℕ) (l : List ℕ) (before : List (ℕ × Report)) (numbered : Nu
   ends i n (Ended f) below small few h = let b = below refl in (omega (arith, b, small), omega (arith, numbered t (omega (arith, b, small)), by-at-most t before, few, h))
 
   -- the number of a call, as the code has it
-  as-numbered : (w : Times) (z : Sums) (o : Said) → Ends t l o → (addedText w (finishedBy t before) t o ≡ addedText w (getD l t 0) t o) × (addedSums w (finishedBy t before) t z o ≡ addedSums w (getD l t 0) t z o)
+  as-numbered : (w : Times) (z : Sums) (o : Said) → Ends t l o → (addedText w (finishedCount t before) t o ≡ addedText w (getD l t 0) t o) × (addedSums w (finishedCount t before) t z o ≡ addedSums w (getD l t 0) t z o)
   as-numbered w z (Refused q) h = (refl, refl)
   as-numbered w z Acted h = (refl, refl)
   as-numbered w z (Ended f) h =
@@ -91,7 +91,7 @@ counts-length t l (Refused q) = refl
 counts-length t l Acted = refl
 counts-length t l (Ended f) = length-set l t (getD l t 0 + 1)
 
-pub sums-more : (w : Times) → short w ≡ true → (i n t : ℕ) (z : Sums) (o : Said) → Within i z → Within (i + 1) (addedSums w n t z o)
+pub sums-more : (w : Times) → shortTimes w ≡ true → (i n t : ℕ) (z : Sums) (o : Said) → Within i z → Within (i + 1) (addedSums w n t z o)
 sums-more w h i n t z (Refused q) k = (omega (arith, k .0), omega (arith, k .1))
 sums-more w h i n t z Acted k = (omega (arith, k .0), omega (arith, k .1))
 sums-more w h i n t z (Ended f) k = sums-after w h i z n (t, reportOf f) k
@@ -99,7 +99,7 @@ sums-more w h i n t z (Ended f) k = sums-after w h i z n (t, reportOf f) k
 -- THE TEXT
 
 module _ (w : Times) (before : List (ℕ × Report)) (z : Sums) (s : State) (p : List ℕ) where
-  first : (a : Action) (r : List Action) → let x = does s p a in let n = finishedBy (taskOf a) before in
+  first : (a : Action) (r : List Action) → let x = does s p a in let n = finishedCount (taskOf a) before in
       busOn w before z (s, p) (a ∷ r) ≡ addedText w n (taskOf a) (x .outcome) ++ busOn w (addedCalls (taskOf a) before (x .outcome)) (addedSums w n (taskOf a) z (x .outcome)) (x .state, x .pool) r
   unfolding busOn callLines
   first a r = let x = does s p a in go (triedBy s p a) (x .outcome) (history pool (x .state, x .pool) r)
@@ -108,11 +108,11 @@ module _ (w : Times) (before : List (ℕ × Report)) (z : Sums) (s : State) (p :
       text b z l = let y = addCalls z (timedFrom w b l) in callLines (timedFrom w b l) ++ allLine y (y .longest)
 
       go : (x : Attempt) (o : Said) (h : List (Action × Event)) → let t = taskOf a in
-          text before z (finishedCalls ((a, eventOf x o) ∷ h)) ≡ addedText w (finishedBy t before) t o ++ text (addedCalls t before o) (addedSums w (finishedBy t before) t z o) (finishedCalls h)
+          text before z (finishedCalls ((a, eventOf x o) ∷ h)) ≡ addedText w (finishedCount t before) t o ++ text (addedCalls t before o) (addedSums w (finishedCount t before) t z o) (finishedCalls h)
       go x (Refused q) h = refl
       go x Acted h = refl
       go x (Ended f) h =
-          let c = timed w (finishedBy (taskOf a) before) (taskOf a, reportOf f) in
+          let c = timed w (finishedCount (taskOf a) before) (taskOf a, reportOf f) in
           let l = timedFrom w ((taskOf a, reportOf f) ∷ before) (finishedCalls h) in
           let y = addCalls (addCall z c) l in
           append-assoc (callLine c) (callLines l) (allLine y (y .longest))
@@ -123,9 +123,9 @@ module _ (w : Times) (before : List (ℕ × Report)) (z : Sums) (s : State) (p :
   one-action f l numbers i {s′ = s′} {p′ = p′} {o = o} {a = a} h ea ed et numbered e ez =
       let rest = drop (i + 1) (map f l) in
       let same = as-numbered (taskOf a) numbers before numbered w z o (rw (← et) e) in
-      let on : After → List ℕ = λ x. addedText w (finishedBy (taskOf a) before) (taskOf a) (x .outcome) ++ busOn w (addedCalls (taskOf a) before (x .outcome)) (addedSums w (finishedBy (taskOf a) before) (taskOf a) z (x .outcome)) (x .state, x .pool) rest in
+      let on : After → List ℕ = λ x. addedText w (finishedCount (taskOf a) before) (taskOf a) (x .outcome) ++ busOn w (addedCalls (taskOf a) before (x .outcome)) (addedSums w (finishedCount (taskOf a) before) (taskOf a) z (x .outcome)) (x .state, x .pool) rest in
       let calls = addedCalls (taskOf a) before o in
-      let sums = addedSums w (finishedBy (taskOf a) before) (taskOf a) z o in
+      let sums = addedSums w (finishedCount (taskOf a) before) (taskOf a) z o in
       rw (action-then f l i h, ← ea, ez, et)
       (first a rest ∙ ap on (sym ed) ∙
       ap (λ (x : List ℕ). x ++ busOn w calls sums (s′, p′) rest) (same .0) ∙

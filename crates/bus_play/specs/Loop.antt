@@ -7,7 +7,7 @@ use Rattle.cells.specs.Answers.{Said, Refused, Acted, Ended}
 use Rattle.cells.specs.Events.{reportOf}
 use Rattle.cells.specs.Machine.{Pool, pool}
 use Rattle.history.specs.History.{Action, Report, history}
-use Rattle.bus_text.specs.Bus.{Times, finishedCalls, finishedBy, timed, timedFrom, Sums, addCall, addCalls, callLine, callLines, allLine}
+use Rattle.bus_text.specs.Bus.{Times, finishedCalls, finishedCount, timed, timedFrom, Sums, addCall, addCalls, callLine, callLines, allLine}
 
 -- of task t, which finished n calls before
 module _ (w : Times) (n t : ℕ) where
@@ -39,7 +39,7 @@ module _ (t : ℕ) where
   Ends l (Ended f) = (t < 32) × (getD l t 0 < 65535)
 
 abbrev pub Numbered : List ℕ → (before : List (ℕ × Report)) → Type 0
-Numbered l before = (t : ℕ) → t < 32 → getD l t 0 ≡ finishedBy t before
+Numbered l before = (t : ℕ) → t < 32 → getD l t 0 ≡ finishedCount t before
 
 -- what is still to be printed, after the calls before and with their sums
 unfoldable pub busOn : Times → (before : List (ℕ × Report)) → Sums → Pool → List Action → List ℕ

@@ -20,9 +20,9 @@ ghost use Rattle.lines.specs.Answers.{result};
 ghost use Rattle.text.specs.Append.{Appended};
 ghost use Rattle.refinement.specs.Reached.{Reached};
 ghost use Rattle.session_reading.specs.Reading.{actAt};
-ghost use Rattle.session_reading.specs.Kept.{Named};
+ghost use Rattle.session_reading.specs.Kept.{FormNumbers};
 ghost use Rattle.cells.specs.Answers.{said, Ended};
-ghost use Rattle.bus_text.specs.Bus.{short, busCalls, callsText};
+ghost use Rattle.bus_text.specs.Bus.{shortTimes, busCalls, callsText};
 ghost use Rattle.bus_calls.specs.Structs.{timesOf, sumsIn};
 ghost use Rattle.bus_play.specs.Loop.{Ends, addedText, addedSums, addedCounts};
 
@@ -41,7 +41,7 @@ fn end_call(
     task: u32,
     f: Finished,
 ) -> Entered
-    requires { ⌜ (at + 90 ≤ length (now out)) × (length (now finished) ≡ 32) × (short (timesOf w) ≡ true) ⌝ }
+    requires { ⌜ (at + 90 ≤ length (now out)) × (length (now finished) ≡ 32) × (shortTimes (timesOf w) ≡ true) ⌝ }
     requires { ⌜ (z .least ≤ 1376235000000) × (z .greatest ≤ 1376235000000) × Ends task (now finished) (Ended (result f)) ⌝ }
     ensures { λ r. ⌜ Appended (now (out .entry)) (now (out .exit)) at (r .at) (addedText (timesOf w) (getD (now (finished .entry)) task 0) task (Ended (result f))) ⌝ }
     ensures { λ r. ⌜ sumsIn (r .totals) ≡ addedSums (timesOf w) (getD (now (finished .entry)) task 0) task (sumsIn z) (Ended (result f)) ⌝ }
@@ -67,7 +67,7 @@ fn enter(
     task: u32,
     outcome: Outcome,
 ) -> Entered
-    requires { ⌜ (at + 90 ≤ length (now out)) × (length (now finished) ≡ 32) × (short (timesOf w) ≡ true) ⌝ }
+    requires { ⌜ (at + 90 ≤ length (now out)) × (length (now finished) ≡ 32) × (shortTimes (timesOf w) ≡ true) ⌝ }
     requires { ⌜ (z .least ≤ 1376235000000) × (z .greatest ≤ 1376235000000) × Ends task (now finished) (said outcome) ⌝ }
     ensures { λ r. ⌜ Appended (now (out .entry)) (now (out .exit)) at (r .at) (addedText (timesOf w) (getD (now (finished .entry)) task 0) task (said outcome)) ⌝ }
     ensures { λ r. ⌜ sumsIn (r .totals) ≡ addedSums (timesOf w) (getD (now (finished .entry)) task 0) task (sumsIn z) (said outcome) ⌝ }
@@ -100,11 +100,11 @@ pub fn play(
     forms: &[u32],
     kept: &[u32],
 ) -> usize
-    requires { ⌜ short (timesOf w) ≡ true ⌝ }
+    requires { ⌜ shortTimes (timesOf w) ≡ true ⌝ }
     requires { ⌜ Reached tasks cells first (now pool) ⌝ }
     requires { ⌜ (now records ≡ replicate 384 0) × (first .records ≡ replicate 32 idle) ⌝ }
     requires { ⌜ length (now kept) ≤ 65535 ⌝ }
-    requires { ⌜ Named (length (now forms)) (now kept) ⌝ }
+    requires { ⌜ FormNumbers (length (now forms)) (now kept) ⌝ }
     requires { ⌜ 2400000 ≤ length (now out) ⌝ }
     ensures { λ r. ⌜ Appended (now (out .entry)) (now (out .exit)) 0 r (callsText (busCalls (timesOf w) (first, now (pool .entry)) (map (actAt (now (forms .entry))) (now (kept .entry))))) ⌝ }
 {

@@ -3,7 +3,7 @@ ghost use mathlib.Core.Path.{_≡_};
 ghost use Prim.Native.Nat.{_+_, _≤_, _<_};
 ghost use lib.ListN.{length};
 ghost use Rattle.text.specs.Append.{Appended};
-ghost use Rattle.bus_text.specs.Bus.{up as «upOf», callLine, allLine};
+ghost use Rattle.bus_text.specs.Bus.{roundedUp, callLine, allLine};
 ghost use Rattle.bus_calls.specs.Structs.{callOf, longestOf, sumsIn, sumsLine};
 use bus_calls::calls::CallTime;
 use bus_calls::calls::Longest;
@@ -14,7 +14,7 @@ use numbered::wide;
 // Whole nanoseconds, rounded up.
 fn up(n: u64) -> u64
     requires { ⌜ n ≤ 18446744073709551606 ⌝ }
-    ensures { λ r. ⌜ r ≡ «upOf» n ⌝ }
+    ensures { λ r. ⌜ r ≡ roundedUp n ⌝ }
 {
     (n + 9) / 10
 }

@@ -12,7 +12,7 @@ ghost use Rattle.lines.specs.Record.{idle};
 ghost use Rattle.text.specs.Append.{Appended};
 ghost use Rattle.refinement.specs.Reached.{Reached};
 ghost use Rattle.session_reading.specs.Reading.{actAt};
-ghost use Rattle.session_reading.specs.Kept.{Named};
+ghost use Rattle.session_reading.specs.Kept.{FormNumbers};
 ghost use Rattle.bus_text.specs.Bus.{busText};
 ghost use Rattle.bus_calls.specs.Structs.{timesOf};
 
@@ -31,7 +31,7 @@ pub fn start(
     requires { ⌜ Reached tasks cells first (now pool) ⌝ }
     requires { ⌜ (now records ≡ replicate 384 0) × (first .records ≡ replicate 32 idle) ⌝ }
     requires { ⌜ length (now kept) ≤ 65535 ⌝ }
-    requires { ⌜ Named (length (now forms)) (now kept) ⌝ }
+    requires { ⌜ FormNumbers (length (now forms)) (now kept) ⌝ }
     requires { ⌜ 2400000 ≤ length (now out) ⌝ }
     ensures { λ r. ⌜ Appended (now (out .entry)) (now (out .exit)) 0 r (busText (timesOf w) tasks (first, now (pool .entry)) (map (actAt (now (forms .entry))) (now (kept .entry)))) ⌝ }
 {

@@ -6,7 +6,7 @@ ghost use mathlib.Core.Path.{_≡_};
 ghost use mathlib.Core.List.{_++_};
 ghost use lib.ListN.{length, drop};
 ghost use Rattle.io.specs.Counts.{Counts};
-ghost use Rattle.bus_text.specs.Bus.{times as «timesFrom», busWithin};
+ghost use Rattle.bus_text.specs.Bus.{timesFrom, busWithin};
 
 // Prints the bus times of a session file at the start of out, by the low and high times of a load, a store and a hardware CAS, and
 // returns the text's length; nothing where out has fewer than 2,400,000 bytes. The bytes after the text are as they were.
@@ -20,8 +20,8 @@ pub fn run_bus(
     file: &[u8],
     out: &mut [u8],
 ) -> usize
-    ensures { λ r. ⌜ now (out .exit) ≡ busWithin («timesFrom» «load_low» «load_high» «store_low» «store_high» «hardware_low» «hardware_high») (length (now (out .entry))) (now (file .entry)) ++ drop r (now (out .entry)) ⌝ }
-    ensures { λ r. ⌜ r ≡ length (busWithin («timesFrom» «load_low» «load_high» «store_low» «store_high» «hardware_low» «hardware_high») (length (now (out .entry))) (now (file .entry))) ⌝ }
+    ensures { λ r. ⌜ now (out .exit) ≡ busWithin (timesFrom «load_low» «load_high» «store_low» «store_high» «hardware_low» «hardware_high») (length (now (out .entry))) (now (file .entry)) ++ drop r (now (out .entry)) ⌝ }
+    ensures { λ r. ⌜ r ≡ length (busWithin (timesFrom «load_low» «load_high» «store_low» «store_high» «hardware_low» «hardware_high») (length (now (out .entry))) (now (file .entry))) ⌝ }
     ensures { λ r. ⌜ Counts r (now (out .exit)) ⌝ }
 {
     if out.len() < 2400000 {

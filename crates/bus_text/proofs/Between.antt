@@ -20,7 +20,7 @@ use Rattle.refinement.specs.Terms.{start}
 use Rattle.refinement.specs.Traces.{trace}
 use Rattle.refinement.proofs.Demand3.{cells-meet-demand-3}
 use Rattle.refinement.proofs.Counts.{calls-traced, calls-counted, calls-find-rows}
-use Rattle.bus_text.specs.Bus.{PerKind, perKind, Times, ordered, inRow, countsOf, total, finishedCalls, finishedBy, timed, timedFrom, Sums, noSums, addCall, addCalls, busCalls, sumsOf}
+use Rattle.bus_text.specs.Bus.{PerKind, perKind, Times, ordered, inRow, countsOf, total, finishedCalls, finishedCount, timed, timedFrom, Sums, noSums, addCall, addCalls, busCalls, sumsOf}
 use Rattle.bus_text.specs.Choices.{tracedCalls, accesses, did, allAccesses, sum, byKind, Between, AllBetween, taskAndReport}
 use Rattle.bus_text.proofs.Totals.{sum-by-kind, sum-append, ends-between}
 use Rattle.bus_text.proofs.Calls.{finished-calls, reportOf, second, traced-reports}
@@ -65,7 +65,7 @@ module _ (w : Times) where
   sums-are [] (f ∷ fs) before z h = absurd h
   sums-are (x ∷ xs) [] before z h = absurd h
   sums-are (x ∷ xs) (f ∷ fs) before z h =
-      let r = sums-are xs fs (f ∷ before) (addCall z (timed w (finishedBy (f .0) before) f)) (h .1) in
+      let r = sums-are xs fs (f ∷ before) (addCall z (timed w (finishedCount (f .0) before) f)) (h .1) in
       let a = accesses (x .lines) in (
         omega (arith, r .0, time-of (w .low) (x .lines) (f .1) (h .0), sum-append (w .low) a (allAccesses xs)),
         omega (arith, r .1, time-of (w .high) (x .lines) (f .1) (h .0), sum-append (w .high) a (allAccesses xs)),

@@ -13,7 +13,7 @@ use Rattle.lines.specs.Paths.{table, entry, rowBelow, rowOf}
 use Rattle.history.specs.History.{Action, Report, Event, refused, accepted, answered, history}
 use Rattle.history.proofs.Basics.{clash, some-inj}
 use Rattle.cells.specs.Machine.{Pool, pool}
-use Rattle.bus_text.specs.Bus.{PerKind, Times, atMost, short, inRow, countsOf, total, finishedCalls, finishedBy, timed, timedFrom, Sums, noSums, addCall, addCalls, busCalls, sumsOf}
+use Rattle.bus_text.specs.Bus.{PerKind, Times, atMost, shortTimes, inRow, countsOf, total, finishedCalls, finishedCount, timed, timedFrom, Sums, noSums, addCall, addCalls, busCalls, sumsOf}
 use Rattle.bus_text.proofs.Totals.{three-le}
 
 -- FEW ACCESSES
@@ -83,7 +83,7 @@ calls-few x (a ∷ l) = go (pool x a .1) (calls-few (pool x a .0) l)
     go (accepted y) h = omega (arith, h)
     go (answered y r) h = omega (arith, h)
 
-module _ (w : Times) (is-short : short w ≡ true) where
+module _ (w : Times) (is-short : shortTimes w ≡ true) where
   pub call-fits : (n : ℕ) (f : ℕ × Report) → (timed w n f .least ≤ 21000000) × (timed w n f .greatest ≤ 21000000)
   call-fits n (t, r) =
       let both = and-eq-true-iff (atMost 1000000 (w .low)) (atMost 1000000 (w .high) && true) .0 is-short in
@@ -96,7 +96,7 @@ module _ (w : Times) (is-short : short w ≡ true) where
 
   sums-within : (l before : List (ℕ × Report)) (n : ℕ) (z : Sums) → Within n z → Within (n + length l) (addCalls z (timedFrom w before l))
   sums-within [] before n z h = (omega (arith, h .0), omega (arith, h .1))
-  sums-within (f ∷ l) before n z h = let r = sums-within l (f ∷ before) (n + 1) (addCall z (timed w (finishedBy (f .0) before) f)) (sums-after n z (finishedBy (f .0) before) f h) in (omega (arith, r .0), omega (arith, r .1))
+  sums-within (f ∷ l) before n z h = let r = sums-within l (f ∷ before) (n + 1) (addCall z (timed w (finishedCount (f .0) before) f)) (sums-after n z (finishedCount (f .0) before) f h) in (omega (arith, r .0), omega (arith, r .1))
 
   -- of a whole session
   pub sums-fit : (x : Pool) (actions : List Action) → length actions ≤ 65535 → let z = sumsOf (busCalls w x actions) in (z .least ≤ 1376235000000) × (z .greatest ≤ 1376235000000)

@@ -15,8 +15,8 @@ use Rattle.lines.specs.Record.{idle}
 use Rattle.lines.specs.Lines.{Line, accessAt, loads, stores, hardware}
 use Rattle.questions.proofs.Tests.{nth}
 use Rattle.figure_cell.proofs.LineLaws.{loads-alike, stores-alike, hardware-alike}
-use Rattle.bus_text.specs.Bus.{PerKind, perKind, Times, ordered, down, up, total}
-use Rattle.bus_text.specs.Choices.{accesses, did, ofKind, sum, EachWithin, KindsWithin, byKind, Between}
+use Rattle.bus_text.specs.Bus.{PerKind, perKind, Times, ordered, roundedDown, roundedUp, total}
+use Rattle.bus_text.specs.Choices.{accesses, did, numberFor, sum, EachWithin, KindsWithin, byKind, Between}
 
 -- three tests, of each kind one
 pub three-le : (a a' b b' c c' : ℕ) → ands (leb a a' ∷ leb b b' ∷ leb c c' ∷ []) ≡ true → (a ≤ a') × (b ≤ b') × (c ≤ c')
@@ -26,7 +26,7 @@ three-le a a' b b' c c' e =
 
 -- PRODUCTS
 
-one-access : (c : PerKind) (a : Access) → ofKind c a ≡ total c (perKind (loads a) (stores a) (hardware a))
+one-access : (c : PerKind) (a : Access) → numberFor c a ≡ total c (perKind (loads a) (stores a) (hardware a))
 one-access c (LoadCell k) = omega (arith, mul-one (c .load), mul-zero (c .store), mul-zero (c .hardware))
 one-access c (Load b f) = omega (arith, mul-one (c .load), mul-zero (c .store), mul-zero (c .hardware))
 one-access c (Store b f v) = omega (arith, mul-zero (c .load), mul-one (c .store), mul-zero (c .hardware))
@@ -36,7 +36,7 @@ one-access c Allocate = omega (arith, mul-zero (c .load), mul-one (c .store), mu
 one-access c Nothing = omega (arith, mul-zero (c .load), mul-zero (c .store), mul-zero (c .hardware))
 
 -- which kind of access a line is does not depend on task and record
-pub kind-of-line : (c : PerKind) (l : Line) (t : ℕ) (r : Record) → ofKind c (accessAt l t r) ≡ ofKind c (accessAt l 0 idle)
+pub kind-of-line : (c : PerKind) (l : Line) (t : ℕ) (r : Record) → numberFor c (accessAt l t r) ≡ numberFor c (accessAt l 0 idle)
 kind-of-line c l t r = one-access c (accessAt l t r) ∙ (rw (loads-alike l t r, stores-alike l t r, hardware-alike l t r) (sym (one-access c (accessAt l 0 idle))))
 
 added : (c : PerKind) (l l' s s' h h' : ℕ) → total c (perKind (l + l') (s + s') (h + h')) ≡ total c (perKind l s h) + total c (perKind l' s' h')
@@ -61,7 +61,7 @@ module _ (w : Times) where
   kinds-each c k [] = tt
   kinds-each c k (a ∷ l) = (one a, kinds-each c k l)
     where
-      one : (a : Access) → (ofKind (w .low) a ≤ ofKind c a) × (ofKind c a ≤ ofKind (w .high) a)
+      one : (a : Access) → (numberFor (w .low) a ≤ numberFor c a) × (numberFor c a ≤ numberFor (w .high) a)
       one (LoadCell i) = k .load
       one (Load b f) = k .load
       one (Store b f v) = k .store
@@ -100,15 +100,15 @@ module _ (w : Times) where
 -- ROUNDING
 
 -- the least is rounded down to whole nanoseconds, the greatest up: by less than one
-pub rounded-down : (n : ℕ) → (10 * down n ≤ n) × (n < 10 * down n + 10)
+pub rounded-down : (n : ℕ) → (10 * roundedDown n ≤ n) × (n < 10 * roundedDown n + 10)
 rounded-down n = let e = div-add-mod n 10 in let b : n % 10 < 10 = mod-lt n (omega arith) in (omega (arith, e), omega (arith, e, b))
 
-pub rounded-up : (n : ℕ) → (n ≤ 10 * up n) × (10 * up n < n + 10)
+pub rounded-up : (n : ℕ) → (n ≤ 10 * roundedUp n) × (10 * roundedUp n < n + 10)
 rounded-up n = let e = div-add-mod (n + 9) 10 in let b : (n + 9) % 10 < 10 = mod-lt (n + 9) (omega arith) in (omega (arith, e, b), omega (arith, e))
 
 module _ {w : Times} {l : List Access} {least greatest : ℕ} (b : Between w l least greatest) where
   -- So the printed nanoseconds, in tenths, bracket every total.
-  pub printed-brackets : (ts : List ℕ) → EachWithin w l ts → (10 * down least ≤ sum ts) × (sum ts ≤ 10 * up greatest)
+  pub printed-brackets : (ts : List ℕ) → EachWithin w l ts → (10 * roundedDown least ≤ sum ts) × (sum ts ≤ 10 * roundedUp greatest)
   printed-brackets ts h = let t = b .each ts h in (omega (arith, rounded-down least, t .0), omega (arith, rounded-up greatest, t .1))
 
   -- No other two numbers lie so.

@@ -30,8 +30,8 @@ pub record Times : Type 0 where
   pub high : PerKind
 
 -- in the order of the arguments
-abbrev pub times : (ll lh sl sh hl hh : ℕ) → Times
-times ll lh sl sh hl hh = record { low = perKind ll sl hl; high = perKind lh sh hh }
+abbrev pub timesFrom : (ll lh sl sh hl hh : ℕ) → Times
+timesFrom ll lh sl sh hl hh = record { low = perKind ll sl hl; high = perKind lh sh hh }
 
 -- 21. Is no low time above its high one?
 abbrev pub ordered : Times → Bool
@@ -41,19 +41,19 @@ abbrev pub atMost : ℕ → PerKind → Bool
 atMost n c = ands (leb (c .load) n ∷ leb (c .store) n ∷ leb (c .hardware) n ∷ [])
 
 -- 22. Is no time above 1,000,000?
-abbrev pub short : Times → Bool
-short w = ands (atMost 1000000 (w .low) ∷ atMost 1000000 (w .high) ∷ [])
+abbrev pub shortTimes : Times → Bool
+shortTimes w = ands (atMost 1000000 (w .low) ∷ atMost 1000000 (w .high) ∷ [])
 
 -- all three ranges are asked 21 before any is asked 22
 abbrev pub busQuestions : Times → List Question
-busQuestions w = (21, ordered w) ∷ (22, short w) ∷ []
+busQuestions w = (21, ordered w) ∷ (22, shortTimes w) ∷ []
 
 -- whole nanoseconds
-abbrev pub down : ℕ → ℕ
-down n = n / 10
+abbrev pub roundedDown : ℕ → ℕ
+roundedDown n = n / 10
 
-abbrev pub up : ℕ → ℕ
-up n = (n + 9) / 10
+abbrev pub roundedUp : ℕ → ℕ
+roundedUp n = (n + 9) / 10
 
 -- A FINISHED CALL
 
@@ -78,9 +78,9 @@ finishedCalls ((a, accepted x) ∷ h) = finishedCalls h
 finishedCalls ((a, answered x r) ∷ h) = (taskOf a, r) ∷ finishedCalls h
 
 -- how many of the calls are the task's
-abbrev pub finishedBy : (task : ℕ) → List (ℕ × Report) → ℕ
-finishedBy t [] = 0
-finishedBy t (f ∷ l) = cond (eqb (f .0) t) 1 0 + finishedBy t l
+abbrev pub finishedCount : (task : ℕ) → List (ℕ × Report) → ℕ
+finishedCount t [] = 0
+finishedCount t (f ∷ l) = cond (eqb (f .0) t) 1 0 + finishedCount t l
 
 -- its task, how many calls of the task finished before it, and its two totals before rounding
 pub record Timed : Type 0 where
@@ -96,7 +96,7 @@ module _ (w : Times) where
   -- the calls of the list, after those before
   abbrev pub timedFrom : (before : List (ℕ × Report)) → List (ℕ × Report) → List Timed
   timedFrom before [] = []
-  timedFrom before (f ∷ l) = timed (finishedBy (f .0) before) f ∷ timedFrom (f ∷ before) l
+  timedFrom before (f ∷ l) = timed (finishedCount (f .0) before) f ∷ timedFrom (f ∷ before) l
 
 -- ALL FINISHED CALLS
 
@@ -135,7 +135,7 @@ sumsOf = addCalls noSums
 -- WHAT IS PRINTED
 
 abbrev pub callLine : Timed → List ℕ
-callLine c = line (bytes "(bus") (c .task ∷ c .earlier ∷ down (c .least) ∷ up (c .greatest) ∷ [])
+callLine c = line (bytes "(bus") (c .task ∷ c .earlier ∷ roundedDown (c .least) ∷ roundedUp (c .greatest) ∷ [])
 
 unfoldable pub callLines : List Timed → List ℕ
 callLines [] = []
@@ -143,7 +143,7 @@ callLines (c ∷ l) = callLine c ++ callLines l
 
 abbrev pub allLine : Sums → Option Timed → List ℕ
 allLine z none = bytes "(all 0 0 none)\n"
-allLine z (some c) = line (bytes "(all") (down (z .least) ∷ up (z .greatest) ∷ c .task ∷ c .earlier ∷ [])
+allLine z (some c) = line (bytes "(all") (roundedDown (z .least) ∷ roundedUp (z .greatest) ∷ c .task ∷ c .earlier ∷ [])
 
 abbrev pub callsText : List Timed → List ℕ
 callsText l = let z = sumsOf l in callLines l ++ allLine z (z .longest)

@@ -38,14 +38,14 @@ allAccesses (x ∷ l) = accesses (x .lines) ++ allAccesses l
 -- CHOICES OF TIMES
 
 -- the number of an access's kind
-abbrev pub ofKind : PerKind → Access → ℕ
-ofKind c (LoadCell k) = c .load
-ofKind c (Load b f) = c .load
-ofKind c (Store b f v) = c .store
-ofKind c (DecideCas b v) = c .hardware
-ofKind c (InstallCas k b n) = c .hardware
-ofKind c Allocate = c .store
-ofKind c Nothing = 0
+abbrev pub numberFor : PerKind → Access → ℕ
+numberFor c (LoadCell k) = c .load
+numberFor c (Load b f) = c .load
+numberFor c (Store b f v) = c .store
+numberFor c (DecideCas b v) = c .hardware
+numberFor c (InstallCas k b n) = c .hardware
+numberFor c Allocate = c .store
+numberFor c Nothing = 0
 
 abbrev pub sum : List ℕ → ℕ
 sum [] = 0
@@ -56,7 +56,7 @@ abbrev pub EachWithin : Times → List Access → List ℕ → Type 0
 EachWithin w [] [] = Unit {0}
 EachWithin w [] (t ∷ ts) = ⊥
 EachWithin w (a ∷ l) [] = ⊥
-EachWithin w (a ∷ l) (t ∷ ts) = ((ofKind (w .low) a ≤ t) × (t ≤ ofKind (w .high) a)) × EachWithin w l ts
+EachWithin w (a ∷ l) (t ∷ ts) = ((numberFor (w .low) a ≤ t) × (t ≤ numberFor (w .high) a)) × EachWithin w l ts
 
 -- one time for each kind, within its range
 pub record KindsWithin (w : Times) (c : PerKind) : Type 0 where
@@ -67,7 +67,7 @@ pub record KindsWithin (w : Times) (c : PerKind) : Type 0 where
 -- then each access takes the time of its kind
 abbrev pub byKind : PerKind → List Access → List ℕ
 byKind c [] = []
-byKind c (a ∷ l) = ofKind c a ∷ byKind c l
+byKind c (a ∷ l) = numberFor c a ∷ byKind c l
 
 -- THE TWO ENDS
 

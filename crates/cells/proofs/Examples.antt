@@ -7,7 +7,7 @@ use mathlib.Core.List.{List, [], _∷_, _++_}
 use Prim.Native.Nat.{ℕ}
 use lib.ListN.{replicate, set}
 use Rattle.questions.specs.Questions.{hasNone, openQuestions, recordFit, cellsFit, recordsFit, uses, countsTrue, fit}
-use Rattle.blocks.specs.Blocks.{found, unused}
+use Rattle.blocks.specs.Blocks.{firstUnused, unused}
 use Rattle.lines.specs.declared.Record.{Record}
 use Rattle.questions.specs.declared.State.{State}
 use Rattle.lines.specs.Record.{idle, recordAt, firstRead, firstSwap}
@@ -68,7 +68,7 @@ examples :
       report aSwap Yes 15 1 1 ∷ rivals ++ rivals ++ rivals ++ report aRead (Value 9) 3 0 0 ∷ report aSwap No 13 1 1 ∷ [],
     ) ∷ []
     )
-unfolding opened readBegun swapBegun stepped ran fit recordFit cellsFit recordsFit uses countsTrue hasNone openQuestions found recounted
+unfolding opened readBegun swapBegun stepped ran fit recordFit cellsFit recordsFit uses countsTrue hasNone openQuestions firstUnused recounted
 examples = (refl, (refl, (refl, tt)))
 
 -- QUESTION 20
@@ -85,7 +85,7 @@ words = replicate 15 0
 
 -- the state is fit, its counts included; step and lent step are refused, and leave all as it was
 finds-none : (fit full words ≡ true) × (stepped full words 0 ≡ leaving full words (Refused 20)) × (steppedLent full words 0 asking ≡ lent (leaving full words (Refused 20)) asking)
-unfolding stepped steppedLent ran fit recordFit cellsFit recordsFit uses countsTrue found recounted
+unfolding stepped steppedLent ran fit recordFit cellsFit recordsFit uses countsTrue firstUnused recounted
 finds-none = (refl, refl, refl)
 
 -- ONE BLOCK FEWER STILL
@@ -114,5 +114,5 @@ lacking =
     ++ begin 1 (swap 1 9 4) ∷ steps 8 1)
 
 one-fewer-lacks : (recordAt (lacking .0 .records) 0 .line ≡ 4) × (unused (lacking .0) ≡ none) × (countsTrue (lacking .0) ≡ true)
-unfolding ran uses countsTrue found recounted
+unfolding ran uses countsTrue firstUnused recounted
 one-fewer-lacks = (refl, refl, refl)

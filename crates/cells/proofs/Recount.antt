@@ -13,7 +13,7 @@ use Rattle.questions.specs.Questions.{holds, hasTaken, recordUses}
 use Rattle.questions.specs.Counts.{more, claimed, Roomy, Room}
 use Rattle.questions.proofs.Sums.{once}
 use Rattle.questions.proofs.Tables.{length-if, length-claimed, set-at, more-at, two-uses, claimed-at, record-most}
-use Rattle.cells.specs.Counts.{less, released, renamed, recounted, Named, Names, Countable}
+use Rattle.cells.specs.Counts.{less, released, renamed, recounted, Named, MayRename, Countable}
 
 -- LENGTHS
 
@@ -107,7 +107,7 @@ module _ (l : List ℕ) (r q : Record) (c d : ℕ) (h : Countable l r q c d) whe
   pub new-room : Room (released l r) q
   new-room = (λ e. lower (q .held) (h .2 .0 e), λ e. lower (q .taken) (h .2 .1 e))
 
-  pub block-names : Names (claimed (released l r) q) c d
+  pub block-names : MayRename (claimed (released l r) q) c d
   block-names =
       let m = released l r in
       let at : (b : ℕ) → b < 128 → getD (claimed m q) b 0 ≡ getD l b 0 - recordUses r b + recordUses q b = λ b k.

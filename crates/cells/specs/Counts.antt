@@ -34,8 +34,8 @@ abbrev pub Named : List ℕ → Record → Type 0
 Named l r = (length l ≡ 128) × Room l r × ((b : ℕ) → b < 128 → recordUses r b ≤ getD l b 0)
 
 -- c is counted, and there is room for d
-abbrev pub Names : List ℕ → (c d : ℕ) → Type 0
-Names l c d = (c < 128) × (0 < getD l c 0) × (d < 128) × (getD l d 0 < 255)
+abbrev pub MayRename : List ℕ → (c d : ℕ) → Type 0
+MayRename l c d = (c < 128) × (0 < getD l c 0) × (d < 128) × (getD l d 0 < 255)
 
 -- there is room for what is named, and each block's count is at least what the old record and the old block name of it
 abbrev pub Countable : List ℕ → (r q : Record) (c d : ℕ) → Type 0

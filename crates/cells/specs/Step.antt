@@ -33,12 +33,12 @@ putBack s t r x =
     leaving (withCounts (withRecord (withBlocks s k (x .current) (x .last)) t (x .record)) (recounted (s .counts) r (x .record) (current s k) (x .current))) (x .pool) (x .outcome)
 
 -- the value that memory answers to an access of task t's record
-abbrev pub answers : State → List ℕ → Record → Access → ℕ
-answers s p r a = performed p (current s (r .cell)) (s .last) (unused s) a .value
+abbrev pub memoryAnswers : State → List ℕ → Record → Access → ℕ
+memoryAnswers s p r a = performed p (current s (r .cell)) (s .last) (unused s) a .value
 
 -- what becomes of the hardware CAS of that record's next line
 abbrev pub triedAt : State → List ℕ → ℕ → Record → Attempt
-triedAt s p t r = tried t r (answers s p r)
+triedAt s p t r = tried t r (memoryAnswers s p r)
 
 -- a busy task's next line
 unfoldable pub ran : State → List ℕ → ℕ → Record → After

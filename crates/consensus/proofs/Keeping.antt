@@ -14,7 +14,7 @@ use Rattle.history.proofs.ListTests.{by-test}
 use Rattle.history.proofs.Basics.{clash, some-inj}
 use Rattle.consensus.specs.declared.OnceCell.{OnceCell}
 use Rattle.consensus.specs.declared.Offer.{Offer}
-use Rattle.consensus.specs.Figure.{Stage, writeX, readY, writeY, readX, storeV, readC, storeD, setC, testV, loadV, lookD, casD, readD, nowhere, stageAt, stageOf, Given, Refuses, GoesOn, Ends, idleOffer, Leaves, putD, goOn, agree, does, withStep}
+use Rattle.consensus.specs.Figure.{Stage, writeX, readY, writeY, readX, storeV, readC, storeD, setC, testV, loadV, lookD, casD, readD, nowhere, stageAt, stageOf, Given, Refuses, GoesOn, Ends, idleOffer, Leaves, putD, goOn, agree, stageDoes, withStep}
 use Rattle.consensus.proofs.Classes.{is, busy, winning, stored, past, choosing, lies-in}
 use Rattle.consensus.proofs.Invariant.{none, Task, WordsOf, Inv, finish}
 
@@ -97,24 +97,24 @@ module _ (O : ℕ → Type 0) (m : OnceCell) (task : ℕ → Offer) (winner : Op
 
   -- IN THE FIGURE'S ORDER
 
-  from-writeX : stageOf (task p) ≡ writeX → Kept O m task p (does writeX p r m)
+  from-writeX : stageOf (task p) ≡ writeX → Kept O m task p (stageDoes writeX p r m)
   from-writeX e = stores _ winner fast _ _ refl (i .words)
       (λ u ne. let k = i .tasks u in record { splits = record { has-won = k .splits .has-won; is-set = k .splits .is-set; no-race = λ a t z x. ne (sym x) }; values = k .values; decides = k .decides })
       (let k = was writeX e in search off)
 
-  from-readY : stageOf (task p) ≡ readY → Kept O m task p (does readY p r m)
+  from-readY : stageOf (task p) ≡ readY → Kept O m task p (stageDoes readY p r m)
   from-readY e = tests (eqb (m .y) 0) _ _ _
       (λ z. goes-on _ _ (let k = was readY e in let n : (t : ℕ) → winner ≡ some t → m .x ≢ p = λ t w x. i .words .kept t w (eqb-true (m .y) 0 z) in search off))
       (λ z. goes-on _ _ (let k = was readY e in search off))
 
-  from-writeY : stageOf (task p) ≡ writeY → Kept O m task p (does writeY p r m)
+  from-writeY : stageOf (task p) ≡ writeY → Kept O m task p (stageDoes writeY p r m)
   from-writeY e = stores _ winner fast _ _ refl
       (let w = i .words in record { kept = λ t z. one-set; unstored = w .unstored; v-offered = w .v-offered; d-offered = w .d-offered; undecided = w .undecided; fast-stored = w .fast-stored; fast-decided = w .fast-decided })
       (λ u ne. let k = i .tasks u in record { splits = record { has-won = k .splits .has-won; is-set = λ a. one-set; no-race = k .splits .no-race }; values = k .values; decides = k .decides })
       (let k = was writeY e in let s = one-set in search off)
 
   -- who finds its own number in X wins, and nobody has won before
-  from-readX : stageOf (task p) ≡ readX → Kept O m task p (does readX p r m)
+  from-readX : stageOf (task p) ≡ readX → Kept O m task p (stageDoes readX p r m)
   from-readX e = tests (eqb (m .x) p) _ _ _
       (λ z. let x : m .x ≡ p = eqb-true (m .x) p z in stores m (some p) fast _ _ refl
       (let w = i .words in record { kept = λ t a. k .splits .is-set tt; unstored = λ a. cc; v-offered = w .v-offered; d-offered = w .d-offered; undecided = w .undecided; fast-stored = w .fast-stored; fast-decided = w .fast-decided })
@@ -133,7 +133,7 @@ module _ (O : ℕ → Type 0) (m : OnceCell) (task : ℕ → Offer) (winner : Op
       unwon x Maybe.none z = z
 
   -- V is stored once: only the winner stores it
-  from-storeV : stageOf (task p) ≡ storeV → Kept O m task p (does storeV p r m)
+  from-storeV : stageOf (task p) ≡ storeV → Kept O m task p (stageDoes storeV p r m)
   from-storeV e = stores _ winner fast _ _ refl
       (let w = i .words in record { kept = w .kept; unstored = λ a. absurd (clash a is-winner); v-offered = λ a. k .values .was-offered tt; d-offered = w .d-offered; undecided = w .undecided; fast-stored = λ f. k .values .some-value tt; fast-decided = λ f. absurd (slow f) })
       (λ u ne. let j = i .tasks u in record {
@@ -156,7 +156,7 @@ module _ (O : ℕ → Type 0) (m : OnceCell) (task : ℕ → Offer) (winner : Op
       slow f = i .words .fast-stored f (k .values .not-stored tt)
 
   -- C is false: from now on nothing but the winner's value can be decided
-  from-readC : stageOf (task p) ≡ readC → Kept O m task p (does readC p r m)
+  from-readC : stageOf (task p) ≡ readC → Kept O m task p (stageDoes readC p r m)
   from-readC e = tests (eqb (m .c) 0) _ _ _
       (λ z. let c : m .c ≡ 0 = eqb-true (m .c) 0 z in stores m winner true _ _ refl
       (let w = i .words in record {
@@ -180,7 +180,7 @@ module _ (O : ℕ → Type 0) (m : OnceCell) (task : ℕ → Offer) (winner : Op
       stays false a b n = absurd (n (a tt))
 
   -- the winner stores D: if it is decided, it is so
-  from-storeD : stageOf (task p) ≡ storeD → Kept O m task p (does storeD p r m)
+  from-storeD : stageOf (task p) ≡ storeD → Kept O m task p (stageDoes storeD p r m)
   from-storeD e = decides _ _ refl (λ x. sym (i .words .fast-decided is-quick x ∙ v)) (k .values .was-offered tt) (λ f. sym v) (k .values .some-value tt)
     where
       k : Task O m winner fast p storeD (task p .value)
@@ -199,28 +199,28 @@ module _ (O : ℕ → Type 0) (m : OnceCell) (task : ℕ → Offer) (winner : Op
       decides : (n w : ℕ) → w ≡ n → (m .d ≢ none → n ≡ m .d) → O n → (T fast → n ≡ m .v) → n ≢ none → Kept O m task p (agree (putD m n) r w)
       decides n w is same o follows x = record { winner = winner; fast = fast; inv = finish O (putD m n) task winner fast p nowhere idleOffer refl (words-d n o (λ f. absurd (slow fast is-quick f)) follows) (λ u ne. others-d n x u) (search off); same-d = same; answers = (is, x) }
 
-  from-setC : stageOf (task p) ≡ setC → Kept O m task p (does setC p r m)
+  from-setC : stageOf (task p) ≡ setC → Kept O m task p (stageDoes setC p r m)
   from-setC e = stores _ winner fast _ _ refl
       (let w = i .words in record { kept = w .kept; unstored = w .unstored; v-offered = w .v-offered; d-offered = w .d-offered; undecided = λ f x. absurd (one-set x); fast-stored = w .fast-stored; fast-decided = w .fast-decided })
       (λ u ne. let k = i .tasks u in record { splits = k .splits; values = k .values; decides = record { contended = λ a. one-set; decided = k .decides .decided; is-fast = k .decides .is-fast; follows = k .decides .follows } })
       (let k = was setC e in let s = one-set in search off)
 
-  from-testV : stageOf (task p) ≡ testV → Kept O m task p (does testV p r m)
+  from-testV : stageOf (task p) ≡ testV → Kept O m task p (stageDoes testV p r m)
   from-testV e = tests (eqb (m .v) noValue) _ _ _
       (λ z. goes-on _ _ (let k = was testV e in let s : T fast → ⊥ = λ f. i .words .fast-stored f (is-none (m .v) z) in search off))
       (λ z. goes-on _ _ (let k = was testV e in let s = not-none (m .v) z in search off))
 
   -- the winner's value is taken over
-  from-loadV : stageOf (task p) ≡ loadV → Kept O m task p (does loadV p r m)
+  from-loadV : stageOf (task p) ≡ loadV → Kept O m task p (stageDoes loadV p r m)
   from-loadV e = goes-on _ _ (let k = was loadV e in let o = i .words .v-offered (k .values .finds tt) in let s : T fast → m .v ≡ m .v = λ f. refl in search off)
 
-  from-lookD : stageOf (task p) ≡ lookD → Kept O m task p (does lookD p r m)
-  from-lookD e = picks (Kept O m task p) (does lookD p r m) _ _ _ refl
+  from-lookD : stageOf (task p) ≡ lookD → Kept O m task p (stageDoes lookD p r m)
+  from-lookD e = picks (Kept O m task p) (stageDoes lookD p r m) _ _ _ refl
       (λ z. goes-on _ _ (let k = was lookD e in search off))
       (λ z. answers-d _ refl (not-none (m .d) z))
 
-  from-casD : stageOf (task p) ≡ casD → Kept O m task p (does casD p r m)
-  from-casD e = picks (λ n. Kept O m task p (goOn (putD m n) r 13 (r .value))) (does casD p r m .cell .d) _ _ _ refl
+  from-casD : stageOf (task p) ≡ casD → Kept O m task p (stageDoes casD p r m)
+  from-casD e = picks (λ n. Kept O m task p (goOn (putD m n) r 13 (r .value))) (stageDoes casD p r m .cell .d) _ _ _ refl
       (λ z. tries _ (λ x. absurd (x (is-none (m .d) z))) (k .values .was-offered tt) (k .decides .follows tt) (k .values .some-value tt))
       (λ z. let x = not-none (m .d) z in tries _ (λ x. refl) (i .words .d-offered x) (λ f. i .words .fast-decided f x) x)
     where
@@ -230,7 +230,7 @@ module _ (O : ℕ → Type 0) (m : OnceCell) (task : ℕ → Offer) (winner : Op
       tries : (n : ℕ) → (m .d ≢ none → n ≡ m .d) → O n → (T fast → n ≡ m .v) → n ≢ none → Kept O m task p (goOn (putD m n) r 13 (r .value))
       tries n same o follows x = record { winner = winner; fast = fast; inv = finish O (putD m n) task winner fast p readD _ refl (words-d n o (λ f. k .decides .contended tt) follows) (λ u ne. others-d n x u) (let k = was casD e in search off); same-d = same; answers = tt }
 
-  pub keeps : (ℓ : Stage) → stageOf (task p) ≡ ℓ → T (busy ℓ) → Kept O m task p (does ℓ p r m)
+  pub keeps : (ℓ : Stage) → stageOf (task p) ≡ ℓ → T (busy ℓ) → Kept O m task p (stageDoes ℓ p r m)
   keeps writeX e b = from-writeX e
   keeps readY e b = from-readY e
   keeps writeY e b = from-writeY e

@@ -11,8 +11,8 @@ use Rattle.history.specs.Basics.{upd}
 use Rattle.history.proofs.Basics.{either, upd-same, upd-off, upd-cases}
 use Rattle.consensus.specs.declared.OnceCell.{OnceCell}
 use Rattle.consensus.specs.declared.Offer.{Offer}
-use Rattle.consensus.specs.Figure.{Stage, writeX, readY, writeY, readX, storeV, readC, storeD, setC, testV, loadV, lookD, casD, readD, nowhere, stageAt, stageOf, Given, Refuses, GoesOn, Ends, Leaves, putX, putY, putV, goOn, agree, does, withStep}
-use Rattle.consensus.specs.Entries.{firstOffer, noted}
+use Rattle.consensus.specs.Figure.{Stage, writeX, readY, writeY, readX, storeV, readC, storeD, setC, testV, loadV, lookD, casD, readD, nowhere, stageAt, stageOf, Given, Refuses, GoesOn, Ends, Leaves, putX, putY, putV, goOn, agree, stageDoes, withStep}
+use Rattle.consensus.specs.Entries.{firstOffer, offerNoted}
 use Rattle.consensus.proofs.Classes.{number, is, busy, tries, lonely, same-number, lies-in}
 use Rattle.consensus.proofs.Invariant.{none}
 use Rattle.consensus.proofs.Keeping.{is-none}
@@ -63,7 +63,7 @@ module _ (m : OnceCell) (task : ℕ → Offer) (p : ℕ) where
     runs-on m′ ℓ n w e o = (still (goOn m′ r n w .offer), rw (upd-same task p (goOn m′ r n w .offer), e) o)
 
     -- alone it finds Y false, its own number in X, and C false
-    first-step : (ℓ : Stage) → task p .value ≢ none → Runs p (m .x) (m .y) (m .c) ℓ → Afterwards (first p) (does ℓ p r m)
+    first-step : (ℓ : Stage) → task p .value ≢ none → Runs p (m .x) (m .y) (m .c) ℓ → Afterwards (first p) (stageDoes ℓ p r m)
     first-step writeX s o = runs-on (putX m p) readY 2 (r .value) refl (record { alone = tt; own-x = λ a. refl; clear-y = λ a. o .clear-y tt; clear-c = o .clear-c })
     first-step readY s o = rw (eq-eqb (m .y) 0 (o .clear-y tt)) (runs-on m writeY 3 (r .value) refl (record { alone = tt; own-x = λ a. o .own-x tt; clear-y = λ a. o .clear-y tt; clear-c = o .clear-c }))
     first-step writeY s o = runs-on (putY m 1) readX 4 (r .value) refl (record { alone = tt; own-x = λ a. o .own-x tt; clear-y = λ a. absurd a; clear-c = o .clear-c })
@@ -79,7 +79,7 @@ module _ (m : OnceCell) (task : ℕ → Offer) (p : ℕ) where
     first-step readD s o = absurd (o .alone)
     first-step nowhere s o = absurd (o .alone)
 
-  at-look : m .d ≢ none → T (not (tries (stageOf (does lookD p r m .offer))))
+  at-look : m .d ≢ none → T (not (tries (stageOf (stageDoes lookD p r m .offer))))
   at-look s = go (eqb (m .d) noValue) refl
     where
       go : (b : Bool) → eqb (m .d) noValue ≡ b → T (not (tries (stageOf (cond b (goOn m r 12 (r .value)) (agree m r (m .d)) .offer))))
@@ -87,28 +87,28 @@ module _ (m : OnceCell) (task : ℕ → Offer) (p : ℕ) where
       go false z = tt
 
   -- where D is there, nobody comes to the hardware CAS: the look before it ends the call
-  none-tries : m .d ≢ none → (ℓ : Stage) → T (not (tries ℓ)) → Leads ℓ r m (does ℓ p r m) → T (not (tries (stageOf (does ℓ p r m .offer))))
+  none-tries : m .d ≢ none → (ℓ : Stage) → T (not (tries ℓ)) → Leads ℓ r m (stageDoes ℓ p r m) → T (not (tries (stageOf (stageDoes ℓ p r m .offer))))
   none-tries s ℓ n l = go (is 11 ℓ) refl
     where
       by-lead : (x : Leaves) → Leads ℓ r m x → T (not (is 11 ℓ)) → T (not (tries (stageOf (x .offer))))
       by-lead x (goes m′ k w o f) other = never-next ℓ (stageAt k) f n other
       by-lead x (ends m′ w o e) other = tt
 
-      go : (b : Bool) → is 11 ℓ ≡ b → T (not (tries (stageOf (does ℓ p r m .offer))))
-      go true z = subst (λ ℓ. T (not (tries (stageOf (does ℓ p r m .offer))))) (sym (same-number ℓ lookD (eqb-true (number ℓ) 11 z))) (at-look s)
-      go false z = by-lead (does ℓ p r m) l (rw z tt)
+      go : (b : Bool) → is 11 ℓ ≡ b → T (not (tries (stageOf (stageDoes ℓ p r m .offer))))
+      go true z = subst (λ ℓ. T (not (tries (stageOf (stageDoes ℓ p r m .offer))))) (sym (same-number ℓ lookD (eqb-true (number ℓ) 11 z))) (at-look s)
+      go false z = by-lead (stageDoes ℓ p r m) l (rw z tt)
 
-  pub company-step : (c : Company) (ℓ : Stage) → stageOf (task p) ≡ ℓ → T (busy ℓ) → task p .value ≢ none → (m .d ≢ none → does ℓ p r m .cell .d ≡ m .d) → Company-is c m task → Afterwards c (does ℓ p r m)
+  pub company-step : (c : Company) (ℓ : Stage) → stageOf (task p) ≡ ℓ → T (busy ℓ) → task p .value ≢ none → (m .d ≢ none → stageDoes ℓ p r m .cell .d ≡ m .d) → Company-is c m task → Afterwards c (stageDoes ℓ p r m)
   company-step nobody ℓ e b s d h = absurd (subst (λ ℓ. T (busy ℓ)) (sym e ∙ h .0 p) b)
   company-step (first q) ℓ e b s d h = go (either p q)
     where
-      go : (p ≡ q) ⊎ (p ≢ q) → Afterwards (first q) (does ℓ p r m)
-      go (inl z) = subst (λ q. Afterwards (first q) (does ℓ p r m)) z
+      go : (p ≡ q) ⊎ (p ≢ q) → Afterwards (first q) (stageDoes ℓ p r m)
+      go (inl z) = subst (λ q. Afterwards (first q) (stageDoes ℓ p r m)) z
           (first-step (λ u ne. h .0 u (λ x. ne (x ∙ sym z))) ℓ s (subst (λ ℓ. Runs p (m .x) (m .y) (m .c) ℓ) e (subst (λ q. Runs q (m .x) (m .y) (m .c) (stageOf (task q))) (sym z) (h .1))))
       go (inr ne) = absurd (subst (λ ℓ. T (busy ℓ)) (sym e ∙ h .0 p ne) b)
   company-step settled ℓ e b s d h = (
     subst (λ n. n ≢ none) (sym (d (h .0))) (h .0),
-    λ u. upd-cases (λ q. T (not (tries (stageOf q)))) task p (does ℓ p r m .offer) u (λ z. none-tries (h .0) ℓ (subst (λ ℓ. T (not (tries ℓ))) e (h .1 p)) (leads ℓ p r m b)) (λ ne. h .1 u),
+    λ u. upd-cases (λ q. T (not (tries (stageOf q)))) task p (stageDoes ℓ p r m .offer) u (λ z. none-tries (h .0) ℓ (subst (λ ℓ. T (not (tries ℓ))) e (h .1 p)) (leads ℓ p r m b)) (λ ne. h .1 u),
   )
   company-step crowded ℓ e b s d h = tt
 
@@ -128,7 +128,7 @@ joined (first p) t = crowded
 joined settled t = settled
 joined crowded t = crowded
 
-pub company-begin : (c : Company) (m : OnceCell) (task : ℕ → Offer) (t k w : ℕ) → Company-is c m task → Company-is (joined c t) (noted m t) (upd task t (firstOffer k w))
+pub company-begin : (c : Company) (m : OnceCell) (task : ℕ → Offer) (t k w : ℕ) → Company-is c m task → Company-is (joined c t) (offerNoted m t) (upd task t (firstOffer k w))
 company-begin nobody m task t k w h = (
   λ u ne. rw (upd-off task t (firstOffer k w) u ne) (h .0 u),
   rw (upd-same task t (firstOffer k w)) (record { alone = tt; own-x = λ a. absurd a; clear-y = λ a. h .1; clear-c = h .2 }),

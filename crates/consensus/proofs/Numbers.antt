@@ -9,7 +9,7 @@ use lib.Dec.{eqb, leb}
 use borrow.Author.Tests.{le-leb, lt-leb, ne-eqb}
 use Rattle.lines.specs.Basics.{within}
 use Rattle.questions.proofs.Tests.{within-true, all-at}
-use Rattle.consensus.specs.Figure.{Stage, nowhere, numbers, stageIn, stageAt, isCas}
+use Rattle.consensus.specs.Figure.{Stage, nowhere, stageNumbers, stageIn, stageAt, isCas}
 use Rattle.consensus.specs.Questions.{isStep}
 
 -- every number of the list is one of 1 to 13
@@ -27,7 +27,7 @@ module _ (n : ℕ) where
       rw (ne-eqb n m other) (unlisted out l (q .1))
 
   pub outside : (1 ≤ n → n ≤ 13 → ⊥) → stageAt n ≡ nowhere
-  outside out = unlisted out numbers refl
+  outside out = unlisted out stageNumbers refl
 
   pub inside : 1 ≤ n → n ≤ 13 → isStep (stageAt n) ≡ true
   inside l h = all-at (λ n. isStep (stageAt n)) 1 13 refl n l (omega arith)

@@ -11,8 +11,8 @@ use Rattle.history.specs.Basics.{_∈_}
 use Rattle.history.proofs.ListTests.{every, every-in, has, has-in, both, implies}
 use Rattle.consensus.specs.declared.OnceCell.{OnceCell}
 use Rattle.consensus.specs.declared.Offer.{Offer}
-use Rattle.consensus.specs.Figure.{Stage, writeX, readY, writeY, readX, storeV, readC, storeD, setC, testV, loadV, lookD, casD, readD, nowhere, isCas, stageAt, Leaves, goOn, agree, does}
-use Rattle.consensus.specs.History.{attempts}
+use Rattle.consensus.specs.Figure.{Stage, writeX, readY, writeY, readX, storeV, readC, storeD, setC, testV, loadV, lookD, casD, readD, nowhere, isCas, stageAt, Leaves, goOn, agree, stageDoes}
+use Rattle.consensus.specs.History.{attemptsIn}
 use Rattle.consensus.specs.Paths.{oncePaths, onceTable}
 use Rattle.consensus.proofs.Classes.{number, is, busy, tries, stages, same-number, every-stage}
 
@@ -46,7 +46,7 @@ either-way : (ℓ : Stage) (r : Offer) (m : OnceCell) (b : Bool) (n n′ w : ℕ
 either-way ℓ r m true n n′ w a c = goes m n w refl a
 either-way ℓ r m false n n′ w a c = goes m n′ w refl c
 
-pub leads : (ℓ : Stage) (p : ℕ) (r : Offer) (m : OnceCell) → T (busy ℓ) → Leads ℓ r m (does ℓ p r m)
+pub leads : (ℓ : Stage) (p : ℕ) (r : Offer) (m : OnceCell) → T (busy ℓ) → Leads ℓ r m (stageDoes ℓ p r m)
 leads writeX p r m b = goes _ _ _ refl (inl refl)
 leads readY p r m b = either-way readY r m (eqb (m .y) 0) _ _ _ (inl refl) (inr (inl refl))
 leads writeY p r m b = goes _ _ _ refl (inl refl)
@@ -137,24 +137,24 @@ way-fact f h ℓ d i = every-in (f ℓ) (ways ℓ) (every-stage (λ ℓ. every (
 pub way-short : (ℓ : Stage) (d : List Stage) → d ∈ ways ℓ → length d < 10
 way-short ℓ d i = ltb→lt _ _ (way-fact (λ ℓ d. ltb (length d) 10) tt ℓ d i)
 
-pub way-few : (ℓ : Stage) (d : List Stage) → d ∈ ways ℓ → attempts d ≤ 1
-way-few ℓ d i = leb→le _ _ (way-fact (λ ℓ d. leb (attempts d) 1) tt ℓ d i)
+pub way-few : (ℓ : Stage) (d : List Stage) → d ∈ ways ℓ → attemptsIn d ≤ 1
+way-few ℓ d i = leb→le _ _ (way-fact (λ ℓ d. leb (attemptsIn d) 1) tt ℓ d i)
 
 -- who does not try has not tried
-pub way-quiet : (ℓ : Stage) (d : List Stage) → d ∈ ways ℓ → T (not (tries ℓ)) → attempts d ≡ 0
-way-quiet ℓ d i n = eqb→eq _ _ (implies (not (tries ℓ)) _ (way-fact (λ ℓ d. not (not (tries ℓ)) || eqb (attempts d) 0) tt ℓ d i) n)
+pub way-quiet : (ℓ : Stage) (d : List Stage) → d ∈ ways ℓ → T (not (tries ℓ)) → attemptsIn d ≡ 0
+way-quiet ℓ d i n = eqb→eq _ _ (implies (not (tries ℓ)) _ (way-fact (λ ℓ d. not (not (tries ℓ)) || eqb (attemptsIn d) 0) tt ℓ d i) n)
 
 pub way-busy : (ℓ : Stage) (d : List Stage) → d ∈ ways ℓ → T (busy ℓ)
 way-busy = way-fact (λ ℓ d. busy ℓ) tt
 
 -- who neither tries nor has tried ends without
-pub way-calm : (ℓ : Stage) (d : List Stage) → d ∈ ways ℓ → T (not (tries ℓ)) → attempts (d ++ (ℓ ∷ [])) ≡ 0
-way-calm ℓ d i n = eqb→eq _ _ (implies (not (tries ℓ)) _ (way-fact (λ ℓ d. not (not (tries ℓ)) || eqb (attempts (d ++ (ℓ ∷ []))) 0) tt ℓ d i) n)
+pub way-calm : (ℓ : Stage) (d : List Stage) → d ∈ ways ℓ → T (not (tries ℓ)) → attemptsIn (d ++ (ℓ ∷ [])) ≡ 0
+way-calm ℓ d i n = eqb→eq _ _ (implies (not (tries ℓ)) _ (way-fact (λ ℓ d. not (not (tries ℓ)) || eqb (attemptsIn (d ++ (ℓ ∷ []))) 0) tt ℓ d i) n)
 
 -- the flag is the count, since the hardware CAS comes once on a way
-pub flag-counts : (a : Bool) (ℓ : Stage) (d : List Stage) → d ∈ ways ℓ → cond a 1 0 ≡ attempts d → cond (a || isCas ℓ) 1 0 ≡ attempts (d ++ (ℓ ∷ []))
-flag-counts true ℓ d i e = sym (eqb→eq _ _ (implies (eqb (attempts d) 1) _ (way-fact (λ ℓ d. not (eqb (attempts d) 1) || eqb (attempts (d ++ (ℓ ∷ []))) 1) tt ℓ d i) (rw (← e) tt)))
-flag-counts false ℓ d i e = sym (eqb→eq _ _ (implies (eqb (attempts d) 0) _ (way-fact (λ ℓ d. not (eqb (attempts d) 0) || eqb (attempts (d ++ (ℓ ∷ []))) (cond (isCas ℓ) 1 0)) tt ℓ d i) (rw (← e) tt)))
+pub flag-counts : (a : Bool) (ℓ : Stage) (d : List Stage) → d ∈ ways ℓ → cond a 1 0 ≡ attemptsIn d → cond (a || isCas ℓ) 1 0 ≡ attemptsIn (d ++ (ℓ ∷ []))
+flag-counts true ℓ d i e = sym (eqb→eq _ _ (implies (eqb (attemptsIn d) 1) _ (way-fact (λ ℓ d. not (eqb (attemptsIn d) 1) || eqb (attemptsIn (d ++ (ℓ ∷ []))) 1) tt ℓ d i) (rw (← e) tt)))
+flag-counts false ℓ d i e = sym (eqb→eq _ _ (implies (eqb (attemptsIn d) 0) _ (way-fact (λ ℓ d. not (eqb (attemptsIn d) 0) || eqb (attemptsIn (d ++ (ℓ ∷ []))) (cond (isCas ℓ) 1 0)) tt ℓ d i) (rw (← e) tt)))
 
 path-fact : (f : List Stage → Bool) → T (every f oncePaths) → (d : List Stage) → d ∈ oncePaths → T (f d)
 path-fact f h d i = every-in f oncePaths h d i
@@ -162,8 +162,8 @@ path-fact f h d i = every-in f oncePaths h d i
 pub path-short : (d : List Stage) → d ∈ oncePaths → length d ≤ 10
 path-short d i = leb→le _ _ (path-fact (λ d. leb (length d) 10) tt d i)
 
-pub path-few : (d : List Stage) → d ∈ oncePaths → attempts d ≤ 1
-path-few d i = leb→le _ _ (path-fact (λ d. leb (attempts d) 1) tt d i)
+pub path-few : (d : List Stage) → d ∈ oncePaths → attemptsIn d ≤ 1
+path-few d i = leb→le _ _ (path-fact (λ d. leb (attemptsIn d) 1) tt d i)
 
 abbrev samePair : ℕ × ℕ → ℕ × ℕ → Bool
 samePair x y = eqb (x .0) (y .0) && eqb (x .1) (y .1)
@@ -171,5 +171,5 @@ samePair x y = eqb (x .0) (y .0) && eqb (x .1) (y .1)
 same-pair : (x y : ℕ × ℕ) → T (samePair x y) → x ≡ y
 same-pair (a, b) (c, d) h = let q = both (eqb a c) (eqb b d) h in rw (eqb→eq a c (q .0), eqb→eq b d (q .1)) refl
 
-pub path-row : (d : List Stage) → d ∈ oncePaths → (length d, attempts d) ∈ onceTable
-path-row d i = has-in samePair same-pair onceTable (length d, attempts d) (path-fact (λ d. has samePair onceTable (length d, attempts d)) tt d i)
+pub path-row : (d : List Stage) → d ∈ oncePaths → (length d, attemptsIn d) ∈ onceTable
+path-row d i = has-in samePair same-pair onceTable (length d, attemptsIn d) (path-fact (λ d. has samePair onceTable (length d, attemptsIn d)) tt d i)

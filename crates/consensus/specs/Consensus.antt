@@ -8,40 +8,40 @@ use Prim.Native.Nat.{ℕ, _≤_, _<_}
 use lib.ListN.{replicate}
 use Rattle.history.specs.Basics.{_∈_}
 use Rattle.history.specs.History.{history}
-use Rattle.consensus.specs.History.{Move, offer, step, MoveEvent, refused, admitted, did, ended, OnceId, OnceCall, OnceFinished, OnceCalls, noOffers, steps, hard, tally, offersOf, IsCall}
+use Rattle.consensus.specs.History.{Move, offer, step, MoveEvent, refused, admitted, did, ended, OnceId, OnceCall, OnceFinished, OnceCalls, noOffers, stepsDone, hard, tally, offersOf, IsCall}
 use Rattle.consensus.specs.Paths.{oncePaths, onceTable}
 
-abbrev pub cellOf : OnceCall → ℕ
-cellOf c = c .start .cell
+abbrev pub offeredCell : OnceCall → ℕ
+offeredCell c = c .start .cell
 
 -- a finished call hands back its cell and its own counts, and did one of the eleven paths
 pub record Reported (f : OnceFinished) : Type 0 where
-  pub cell : f .agreed .cell ≡ cellOf (f .call)
-  pub all-steps : f .agreed .steps ≡ steps (f .call)
+  pub cell : f .agreed .cell ≡ offeredCell (f .call)
+  pub all-steps : f .agreed .steps ≡ stepsDone (f .call)
   pub all-hard : f .agreed .hard ≡ hard (f .call)
   pub path : f .call .done ∈ oncePaths
-  pub row : (steps (f .call), hard (f .call)) ∈ onceTable
+  pub row : (stepsDone (f .call), hard (f .call)) ∈ onceTable
 
 -- the value was offered on the call's cell by a call begun before the answer
 pub record Valid (b : OnceCalls) (f : OnceFinished) : Type 0 where
   pub by : OnceId
   pub is-begun : by ∈ b .ids
-  pub there : by .cell ≡ cellOf (f .call)
+  pub there : by .cell ≡ offeredCell (f .call)
   pub offers : by .value ≡ f .agreed .value
   pub in-time : by .at < f .call .last
 
 -- every other call on its cell began after it ended
 abbrev pub Lone : OnceCalls → OnceFinished → Type 0
-Lone b f = (i : OnceId) → i ∈ b .ids → i .cell ≡ cellOf (f .call) → i .at ≢ f .call .start .at → f .call .last < i .at
+Lone b f = (i : OnceId) → i ∈ b .ids → i .cell ≡ offeredCell (f .call) → i .at ≢ f .call .start .at → f .call .last < i .at
 
 pub record Consensus (b : OnceCalls) : Type 0 where
-  pub agreement : (f g : OnceFinished) → f ∈ b .finished → g ∈ b .finished → cellOf (f .call) ≡ cellOf (g .call) → f .agreed .value ≡ g .agreed .value
+  pub agreement : (f g : OnceFinished) → f ∈ b .finished → g ∈ b .finished → offeredCell (f .call) ≡ offeredCell (g .call) → f .agreed .value ≡ g .agreed .value
   pub validity : (f : OnceFinished) → f ∈ b .finished → Valid b f
   pub reported : (f : OnceFinished) → f ∈ b .finished → Reported f
-  pub few : (f : OnceFinished) → f ∈ b .finished → (steps (f .call) ≤ 10) × (hard (f .call) ≤ 1)
-  pub few-pending : (t : ℕ) (c : OnceCall) → b .pending t ≡ some c → (steps c < 10) × (hard c ≤ 1)
+  pub few : (f : OnceFinished) → f ∈ b .finished → (stepsDone (f .call) ≤ 10) × (hard (f .call) ≤ 1)
+  pub few-pending : (t : ℕ) (c : OnceCall) → b .pending t ≡ some c → (stepsDone c < 10) × (hard c ≤ 1)
   -- if one call ends before any other on its cell begins, no call on it attempts a hardware CAS, before or after
-  pub no-hardware : (f : OnceFinished) → f ∈ b .finished → Lone b f → (c : OnceCall) → IsCall b c → cellOf c ≡ cellOf (f .call) → hard c ≡ 0
+  pub no-hardware : (f : OnceFinished) → f ∈ b .finished → Lone b f → (c : OnceCall) → IsCall b c → offeredCell c ≡ offeredCell (f .call) → hard c ≡ 0
   -- a task offers once on a cell
   pub one-offer : (i j : OnceId) → i ∈ b .ids → j ∈ b .ids → i .task ≡ j .task → i .cell ≡ j .cell → i ≡ j
 

@@ -40,13 +40,13 @@ onceOpened s n v = orRefused (refusal (openOnce n v)) s (onceAfter (onceStart n 
 abbrev pub firstOffer : (cell value : ℕ) → Offer
 firstOffer k w = record { line = 1; cell = k; value = w; steps = 0; tried = false }
 
-abbrev pub noted : OnceCell → (task : ℕ) → OnceCell
-noted m t = record { x = m .x; y = m .y; c = m .c; v = m .v; d = m .d; offered = set (m .offered) t true }
+abbrev pub offerNoted : OnceCell → (task : ℕ) → OnceCell
+offerNoted m t = record { x = m .x; y = m .y; c = m .c; v = m .v; d = m .d; offered = set (m .offered) t true }
 
 unfoldable pub offerBegun : OnceState → (task cell value : ℕ) → OnceAfter
 offerBegun s t k w =
     orRefused (refusal ((6, onceFit s) ∷ offerQuestions (s .tasks) (s .cells) (offerAt s t) (onceAt s k) t k w)) s
-    (onceAfter (replaced s k (noted (onceAt s k) t) t (firstOffer k w)) GoesOn)
+    (onceAfter (replaced s k (offerNoted (onceAt s k) t) t (firstOffer k w)) GoesOn)
 
 -- STEP: the task's next step, on its cell
 

@@ -13,7 +13,7 @@ use Rattle.history.proofs.Basics.{clash}
 use Rattle.consensus.specs.Figure.{Stage, writeX, readY, writeY, readX, storeV, readC, storeD, setC, testV, loadV, lookD, casD, readD}
 use Rattle.consensus.specs.Questions.{offerFit, offersFit, onceFit}
 use Rattle.consensus.specs.Entries.{onceStart, offerBegun, onceStepped}
-use Rattle.consensus.specs.History.{Move, offer, step, MoveEvent, refused, admitted, did, ended, once, OnceId, finished}
+use Rattle.consensus.specs.History.{Move, offer, step, MoveEvent, refused, admitted, did, ended, onceMachine, OnceId, finished}
 use Rattle.consensus.specs.Consensus.{RightOnce}
 
 -- CALLS WRITTEN OUT
@@ -39,7 +39,7 @@ moves h = map (λ x. x .0) h
 abbrev pub right : List (Move × MoveEvent)
 right = call 0 0 7 alone storeD 7 7 0 ++ call 1 0 9 losing lookD 7 6 0
 
-pub is-right : history once (onceStart 2 1) (moves right) ≡ right
+pub is-right : history onceMachine (onceStart 2 1) (moves right) ≡ right
 unfolding offerBegun onceStepped onceFit offersFit offerFit
 is-right = refl
 
@@ -114,7 +114,7 @@ record Case : Type 0 where
 
 abbrev gives : List Case → Type 0
 gives [] = Unit {0}
-gives (c ∷ l) = (map (λ x. x .1) (history once (onceStart (c .tasks) (c .cells)) (c .list)) ≡ c .events) × gives l
+gives (c ∷ l) = (map (λ x. x .1) (history onceMachine (onceStart (c .tasks) (c .cells)) (c .list)) ≡ c .events) × gives l
 
 abbrev all : List Stage → List MoveEvent
 all l = map did l

@@ -18,8 +18,8 @@ pub data Stage : Type 0 where
 
 -- each step with the number that an offer's next line takes, and the figure's line (the splitter is figure 2's lines 16 to 19; the two
 -- steps of the variant stand where it puts them, in lines 3 and 7)
-abbrev pub numbers : List (ℕ × Stage × ℕ)
-numbers =
+abbrev pub stageNumbers : List (ℕ × Stage × ℕ)
+stageNumbers =
     (1, writeX, 1) ∷ (2, readY, 1) ∷ (3, writeY, 1) ∷ (4, readX, 1) ∷
     (5, storeV, 2) ∷ (6, readC, 3) ∷ (7, storeD, 3) ∷
     (8, setC, 4) ∷ (9, testV, 5) ∷ (10, loadV, 6) ∷
@@ -30,7 +30,7 @@ stageIn [] n = nowhere
 stageIn ((m, ℓ, f) ∷ l) n = cond (eqb n m) ℓ (stageIn l n)
 
 abbrev pub stageAt : ℕ → Stage
-stageAt = stageIn numbers
+stageAt = stageIn stageNumbers
 
 abbrev pub stageOf : Offer → Stage
 stageOf r = stageAt (r .line)
@@ -97,25 +97,25 @@ abbrev pub putD : OnceCell → ℕ → OnceCell
 putD m n = record { x = m .x; y = m .y; c = m .c; v = m .v; d = n; offered = m .offered }
 
 -- of task p with the offer r, which has counted this step
-abbrev pub does : Stage → ℕ → Offer → OnceCell → Leaves
-does writeX p r m = goOn (putX m p) r 2 (r .value)
-does readY p r m = goOn m r (cond (eqb (m .y) 0) 3 8) (r .value)
-does writeY p r m = goOn (putY m 1) r 4 (r .value)
-does readX p r m = goOn m r (cond (eqb (m .x) p) 5 8) (r .value)
-does storeV p r m = goOn (putV m (r .value)) r 6 (r .value)
-does readC p r m = goOn m r (cond (eqb (m .c) 0) 7 11) (r .value)
-does storeD p r m = agree (putD m (r .value)) r (r .value)
-does setC p r m = goOn (putC m 1) r 9 (r .value)
-does testV p r m = goOn m r (cond (eqb (m .v) noValue) 11 10) (r .value)
-does loadV p r m = goOn m r 11 (m .v)
-does lookD p r m = cond (eqb (m .d) noValue) (goOn m r 12 (r .value)) (agree m r (m .d))
-does casD p r m = goOn (putD m (cond (eqb (m .d) noValue) (r .value) (m .d))) r 13 (r .value)
-does readD p r m = agree m r (m .d)
-does nowhere p r m = goOn m r (r .line) (r .value)
+abbrev pub stageDoes : Stage → ℕ → Offer → OnceCell → Leaves
+stageDoes writeX p r m = goOn (putX m p) r 2 (r .value)
+stageDoes readY p r m = goOn m r (cond (eqb (m .y) 0) 3 8) (r .value)
+stageDoes writeY p r m = goOn (putY m 1) r 4 (r .value)
+stageDoes readX p r m = goOn m r (cond (eqb (m .x) p) 5 8) (r .value)
+stageDoes storeV p r m = goOn (putV m (r .value)) r 6 (r .value)
+stageDoes readC p r m = goOn m r (cond (eqb (m .c) 0) 7 11) (r .value)
+stageDoes storeD p r m = agree (putD m (r .value)) r (r .value)
+stageDoes setC p r m = goOn (putC m 1) r 9 (r .value)
+stageDoes testV p r m = goOn m r (cond (eqb (m .v) noValue) 11 10) (r .value)
+stageDoes loadV p r m = goOn m r 11 (m .v)
+stageDoes lookD p r m = cond (eqb (m .d) noValue) (goOn m r 12 (r .value)) (agree m r (m .d))
+stageDoes casD p r m = goOn (putD m (cond (eqb (m .d) noValue) (r .value) (m .d))) r 13 (r .value)
+stageDoes readD p r m = agree m r (m .d)
+stageDoes nowhere p r m = goOn m r (r .line) (r .value)
 
 -- each step counts, and the hardware CAS where it is one
 abbrev pub withStep : Offer → Offer
 withStep r = record { line = r .line; cell = r .cell; value = r .value; steps = r .steps + 1; tried = r .tried || isCas (stageOf r) }
 
 abbrev pub leaves : ℕ → Offer → OnceCell → Leaves
-leaves p r m = does (stageOf r) p (withStep r) m
+leaves p r m = stageDoes (stageOf r) p (withStep r) m

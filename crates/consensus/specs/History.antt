@@ -39,9 +39,9 @@ stepEvent ℓ (Refuses n) = refused n
 stepEvent ℓ GoesOn = did ℓ
 stepEvent ℓ (Ends a) = ended ℓ a
 
-abbrev pub once : OnceState → Move → OnceState × MoveEvent
-once s (offer t k w) = let a = offerBegun s t k w in (a .state, offerEvent (a .gives))
-once s (step t) = let a = onceStepped s t in (a .state, stepEvent (stageOf (offerAt s t)) (a .gives))
+abbrev pub onceMachine : OnceState → Move → OnceState × MoveEvent
+onceMachine s (offer t k w) = let a = offerBegun s t k w in (a .state, offerEvent (a .gives))
+onceMachine s (step t) = let a = onceStepped s t in (a .state, stepEvent (stageOf (offerAt s t)) (a .gives))
 
 -- CALLS
 
@@ -70,15 +70,15 @@ pub record OnceCalls : Type 0 where
   pub pending : ℕ → Option OnceCall
   pub finished : List OnceFinished
 
-abbrev pub steps : OnceCall → ℕ
-steps c = length (c .done)
+abbrev pub stepsDone : OnceCall → ℕ
+stepsDone c = length (c .done)
 
-abbrev pub attempts : List Stage → ℕ
-attempts [] = 0
-attempts (ℓ ∷ l) = cond (isCas ℓ) 1 0 + attempts l
+abbrev pub attemptsIn : List Stage → ℕ
+attemptsIn [] = 0
+attemptsIn (ℓ ∷ l) = cond (isCas ℓ) 1 0 + attemptsIn l
 
 abbrev pub hard : OnceCall → ℕ
-hard c = attempts (c .done)
+hard c = attemptsIn (c .done)
 
 abbrev pub noOffers : OnceCalls
 noOffers = record { now = 0; ids = []; pending = λ t. none; finished = [] }
@@ -97,17 +97,17 @@ abbrev pub finishing : Option OnceCall → Agreement → List OnceFinished → L
 finishing none a l = l
 finishing (some c) a l = record { call = c; agreed = a } ∷ l
 
-abbrev pub tallied : OnceCalls → List OnceId → (ℕ → Option OnceCall) → List OnceFinished → OnceCalls
-tallied b i p f = record { now = suc (b .now); ids = i; pending = p; finished = f }
+abbrev pub onceTallied : OnceCalls → List OnceId → (ℕ → Option OnceCall) → List OnceFinished → OnceCalls
+onceTallied b i p f = record { now = suc (b .now); ids = i; pending = p; finished = f }
 
 abbrev pub tally : OnceCalls → Move → MoveEvent → OnceCalls
-tally b m (refused n) = tallied b (b .ids) (b .pending) (b .finished)
-tally b (offer t k w) admitted = tallied b (idOf b t k w ∷ b .ids) (upd (b .pending) t (some (record { start = idOf b t k w; last = b .now; done = [] }))) (b .finished)
-tally b (offer t k w) (did ℓ) = tallied b (b .ids) (b .pending) (b .finished)
-tally b (offer t k w) (ended ℓ a) = tallied b (b .ids) (b .pending) (b .finished)
-tally b (step t) admitted = tallied b (b .ids) (b .pending) (b .finished)
-tally b (step t) (did ℓ) = tallied b (b .ids) (upd (b .pending) t (wentOn b ℓ (b .pending t))) (b .finished)
-tally b (step t) (ended ℓ a) = tallied b (b .ids) (upd (b .pending) t none) (finishing (wentOn b ℓ (b .pending t)) a (b .finished))
+tally b m (refused n) = onceTallied b (b .ids) (b .pending) (b .finished)
+tally b (offer t k w) admitted = onceTallied b (idOf b t k w ∷ b .ids) (upd (b .pending) t (some (record { start = idOf b t k w; last = b .now; done = [] }))) (b .finished)
+tally b (offer t k w) (did ℓ) = onceTallied b (b .ids) (b .pending) (b .finished)
+tally b (offer t k w) (ended ℓ a) = onceTallied b (b .ids) (b .pending) (b .finished)
+tally b (step t) admitted = onceTallied b (b .ids) (b .pending) (b .finished)
+tally b (step t) (did ℓ) = onceTallied b (b .ids) (upd (b .pending) t (wentOn b ℓ (b .pending t))) (b .finished)
+tally b (step t) (ended ℓ a) = onceTallied b (b .ids) (upd (b .pending) t none) (finishing (wentOn b ℓ (b .pending t)) a (b .finished))
 
 abbrev pub tallyAll : OnceCalls → List (Move × MoveEvent) → OnceCalls
 tallyAll b [] = b

@@ -4,7 +4,7 @@ use mathlib.Core.List.{List, [], _∷_, _++_, map}
 use Prim.Native.Nat.{ℕ}
 use lib.ListN.{length}
 use Rattle.consensus.specs.Figure.{Stage, writeX, readY, writeY, readX, storeV, readC, storeD, setC, testV, loadV, lookD, casD, readD}
-use Rattle.consensus.specs.History.{attempts}
+use Rattle.consensus.specs.History.{attemptsIn}
 
 -- lost at Y; lost at X; won
 abbrev pub byY : List Stage
@@ -13,25 +13,25 @@ byY = writeX ∷ readY ∷ setC ∷ testV ∷ []
 abbrev pub byX : List Stage
 byX = writeX ∷ readY ∷ writeY ∷ readX ∷ setC ∷ testV ∷ []
 
-abbrev pub won : List Stage
-won = writeX ∷ readY ∷ writeY ∷ readX ∷ storeV ∷ readC ∷ []
+abbrev pub wonSplitter : List Stage
+wonSplitter = writeX ∷ readY ∷ writeY ∷ readX ∷ storeV ∷ readC ∷ []
 
 -- V was there: its value is taken over
-abbrev pub taking : List Stage
-taking = loadV ∷ []
+abbrev pub withV : List Stage
+withV = loadV ∷ []
 
 -- D was found; D was none, and the hardware CAS is tried
-abbrev pub found : List Stage
-found = lookD ∷ []
+abbrev pub withD : List Stage
+withD = lookD ∷ []
 
 abbrev pub trying : List Stage
 trying = lookD ∷ casD ∷ readD ∷ []
 
 abbrev pub oncePaths : List (List Stage)
 oncePaths =
-    (byY ++ found) ∷ (byY ++ (taking ++ found)) ∷ (byY ++ trying) ∷ (byY ++ (taking ++ trying)) ∷
-    (byX ++ found) ∷ (byX ++ (taking ++ found)) ∷ (byX ++ trying) ∷ (byX ++ (taking ++ trying)) ∷
-    (won ++ (storeD ∷ [])) ∷ (won ++ found) ∷ (won ++ trying) ∷ []
+    (byY ++ withD) ∷ (byY ++ (withV ++ withD)) ∷ (byY ++ trying) ∷ (byY ++ (withV ++ trying)) ∷
+    (byX ++ withD) ∷ (byX ++ (withV ++ withD)) ∷ (byX ++ trying) ∷ (byX ++ (withV ++ trying)) ∷
+    (wonSplitter ++ (storeD ∷ [])) ∷ (wonSplitter ++ withD) ∷ (wonSplitter ++ trying) ∷ []
 
 -- steps and hardware CAS attempts of each
 abbrev pub onceTable : List (ℕ × ℕ)
@@ -41,5 +41,5 @@ onceTable =
     (7, 0) ∷ (7, 0) ∷ (9, 1) ∷ []
 
 -- each count is the steps done
-pub table-is : map (λ p. (length p, attempts p)) oncePaths ≡ onceTable
+pub table-is : map (λ p. (length p, attemptsIn p)) oncePaths ≡ onceTable
 table-is = refl

@@ -16,7 +16,7 @@ use Rattle.cells.specs.Turn.{outcomeOf}
 use Rattle.figure.specs.Figure.{World, WorldAfter, figureRan, opening, figure, triedIn}
 use Rattle.cells.specs.Events.{eventOf}
 use Rattle.lines.specs.Paths.{table}
-use Rattle.figure_cell.specs.Paths.{paths, by25, counts, countsOf}
+use Rattle.figure_cell.specs.Paths.{paths, by25, counts, countRows}
 use Rattle.figure.specs.Traces.{Traced, Trace, noTrace, enterLine, figureTraces}
 use Rattle.history.proofs.ListTests.{has}
 use Rattle.figure_cell.proofs.LineLaws.{every-line, same, Leads, goes, done}
@@ -67,13 +67,13 @@ calls-on-paths n v vs l = traces-complete (opening n v vs) noTrace (start-sound 
 
 -- THE TABLE
 
-pub table-is : countsOf paths ≡ table
+pub table-is : countRows paths ≡ table
 table-is = refl
 
 pub row : (p : List Line) → p ∈ paths → counts p ∈ table
 row p i = go paths i
   where
-    go : (ps : List (List Line)) → p ∈ ps → counts p ∈ countsOf ps
+    go : (ps : List (List Line)) → p ∈ ps → counts p ∈ countRows ps
     go [] i = i
     go (x ∷ ps) (inl e) = inl (ap counts e)
     go (x ∷ ps) (inr i) = inr (go ps i)

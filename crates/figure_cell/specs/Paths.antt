@@ -101,6 +101,6 @@ steps (l ∷ ls) = 1 + steps ls
 abbrev pub counts : List Line → List ℕ
 counts p = steps p ∷ count loads p ∷ count stores p ∷ count hardware p ∷ []
 
-abbrev pub countsOf : List (List Line) → List (List ℕ)
-countsOf [] = []
-countsOf (p ∷ ps) = counts p ∷ countsOf ps
+abbrev pub countRows : List (List Line) → List (List ℕ)
+countRows [] = []
+countRows (p ∷ ps) = counts p ∷ countRows ps

@@ -23,7 +23,7 @@ use Rattle.linearizing.proofs.Simulation.{Phase, settled, frozen, late, Ghost, 
 use Rattle.figure_cell.specs.Memory.{Cell, accessCell}
 use Rattle.cells.specs.Turn.{recordAfter}
 use Rattle.figure.specs.Figure.{World, withTask, figureAnswers, triedIn, figure}
-use Rattle.figure_moments.specs.Moments.{Notes, nothingNoted, noted, Sight, holdsBlock, sees, names, at, effect, lineC6, rules, ruleAt, ruled, stands}
+use Rattle.figure_moments.specs.Moments.{Notes, nothingNoted, noted, Sight, holdsBlock, sees, names, spotAt, effect, lineC6, rules, ruleAt, ruled, stands}
 use Rattle.history.proofs.ListTests.{both, every, by-test}
 use Rattle.figure_cell.proofs.LineLaws.{every-line, lines, same, same-is, extends, Leads, goes, done}
 use Rattle.figure_cell.proofs.LineLaws as Laws
@@ -102,7 +102,7 @@ module _ (w : World) (notes : Notes) (g : Ghost) (κ : Sim.Knowledge) (G : Good 
     fit = pending-at w (G .on-path) t b .1 .line
 
     abbrev spot : Bool → Option Spot
-    spot a = cond a (cond (notes .storedActive t) (some (at (notes .stored t) C4)) (cond (see .asNew) (some (at (notes .inactive t) C3)) none)) none
+    spot a = cond a (cond (notes .storedActive t) (some (spotAt (notes .stored t) C4)) (cond (see .asNew) (some (spotAt (notes .inactive t) C3)) none)) none
 
     pub placed-named : T (g .placed t) → Named (stands notes t see) (g .when t)
     placed-named z = go (notes .storedActive t) refl
@@ -114,11 +114,11 @@ module _ (w : World) (notes : Notes) (g : Ghost) (κ : Sim.Knowledge) (G : Good 
         stood = cond-true (within (see .figureLine) 24 26) (spot true) none (subst (λ n. T (within n 24 26)) (sym (figure-line-is q fit)) (lies-in stored (λ ℓ. within (figureLine ℓ) 24 26) tt ℓ st))
 
         go : (a : Bool) → notes .storedActive t ≡ a → Named (stands notes t see) (g .when t)
-        go true i = record { spot = at (notes .stored t) C4; is = stood ∙ rw i refl; moment = sym (D .placed t b z ∙ rw i refl); side = refl }
+        go true i = record { spot = spotAt (notes .stored t) C4; is = stood ∙ rw i refl; moment = sym (D .placed t b z ∙ rw i refl); side = refl }
         go false i =
             let e = f .decided .placed-decided st z (f .store .late-placed st (rw i tt) z) in
             let new : T (see .asNew) = rw e (with (holdsBlock q) (eqb (q .new) (q .new)) (holds-block q fit (lies-in stored holding tt ℓ st)) (equal (q .new) (q .new) refl)) in
-            record { spot = at (notes .inactive t) C3; is = stood ∙ rw i (cond-true (see .asNew) _ _ new); moment = sym (D .placed t b z ∙ rw i refl); side = refl }
+            record { spot = spotAt (notes .inactive t) C3; is = stood ∙ rw i (cond-true (see .asNew) _ _ new); moment = sym (D .placed t b z ∙ rw i refl); side = refl }
 
     pub unplaced-unnamed : T (not (g .placed t)) → stands notes t see ≡ none
     unplaced-unnamed z = go (within (see .figureLine) 24 26) (λ b. lies-in (λ ℓ. within (figureLine ℓ) 24 26) stored tt ℓ (subst (λ n. T (within n 24 26)) (figure-line-is q fit) b))
@@ -192,7 +192,7 @@ module _ (w : World) (notes : Notes) (g : Ghost) (κ : Sim.Knowledge) (G : Good 
     pub sided : (a : Response) → Sided op a (ruled notes t see a)
     sided a = found (Sided op a) (see .figureLine) (rules notes t see a) ((λ z. it a), ((λ z. it a), ((λ z. it a), ((λ z. it a), ((λ z. it a), ((λ z. it a), (last a, it a)))))))
       where
-        it : (a : Response) {n : ℕ} {r : Rule} → Sided op a (at n r)
+        it : (a : Response) {n : ℕ} {r : Rule} → Sided op a (spotAt n r)
         it a = record { never-before = λ z. let y : _≡_ {A = ℕ} 0 1 = cc in omega arith; change-itself = λ z. refl }
 
         no-change : (op : Op) → T (changes op No) → ⊥

@@ -6,7 +6,7 @@ use Prim.Native.Nat.{ℕ}
 use Rattle.history.specs.Basics.{upd}
 use Rattle.history.specs.History.{Op, swap, aSwap, Action, begin, Response, Yes, No, Attempt, success, failure, untried, Event, refused, accepted, answered, history}
 use Rattle.figure.specs.Figure.{opening, figureRan, figureStepped, figureBegun, figure}
-use Rattle.figure_moments.specs.MomentExamples.{steps, meeting}
+use Rattle.figure_moments.specs.MomentExamples.{stepsBy, meeting}
 
 abbrev ends : List (Action × Event) → List Event
 ends [] = []
@@ -22,7 +22,7 @@ abbrev five : List Action → List Event
 five l = ends (history figure (opening 2 1 (5 ∷ [])) l)
 
 abbrev alone : Op → ℕ → List Action
-alone op n = begin 0 op ∷ steps n 0
+alone op n = begin 0 op ∷ stepsBy n 0
 
 pub p5 : five (alone (swap 0 5 5) 3) ≡ swapped untried Yes 3 0 0 ∷ []
 unfolding upd figureRan figureStepped figureBegun
@@ -33,17 +33,17 @@ unfolding upd figureRan figureStepped figureBegun
 p6 = refl
 
 -- the inactive block is replaced by the swap of 9 to 4, and the new one is active: the next swap attempts no hardware CAS
-pub p9 : five (meeting ++ steps 2 0 ++ steps 5 1 ++ steps 3 0 ++ alone (swap 0 9 4) 13 ++ alone (swap 0 4 6) 10) ≡
+pub p9 : five (meeting ++ stepsBy 2 0 ++ stepsBy 5 1 ++ stepsBy 3 0 ++ alone (swap 0 9 4) 13 ++ alone (swap 0 4 6) 10) ≡
     swapped untried Yes 12 1 0 ∷ swapped untried No 7 0 1 ∷ swapped success Yes 13 1 1 ∷ swapped untried Yes 10 0 0 ∷ []
 unfolding upd figureRan figureStepped figureBegun
 p9 = refl
 
 -- task 1 replaces the block; task 0's hardware CAS of it then fails
-pub p10 : five (meeting ++ steps 5 0 ++ steps 14 1 ++ steps 6 0) ≡ swapped success Yes 21 1 2 ∷ swapped failure No 13 1 1 ∷ []
+pub p10 : five (meeting ++ stepsBy 5 0 ++ stepsBy 14 1 ++ stepsBy 6 0) ≡ swapped success Yes 21 1 2 ∷ swapped failure No 13 1 1 ∷ []
 unfolding upd figureRan figureStepped figureBegun
 p10 = refl
 
 -- as P10, but task 1 halts between lines 6 and 7, its new block half filled: task 0 replaces the block, swaps again alone, and finishes
-pub halted-filling : five (meeting ++ steps 5 0 ++ steps 11 1 ++ steps 6 0 ++ alone (swap 0 7 4) 10) ≡ swapped success Yes 13 2 0 ∷ swapped untried Yes 10 0 0 ∷ []
+pub halted-filling : five (meeting ++ stepsBy 5 0 ++ stepsBy 11 1 ++ stepsBy 6 0 ++ alone (swap 0 7 4) 10) ≡ swapped success Yes 13 2 0 ∷ swapped untried Yes 10 0 0 ∷ []
 unfolding upd figureRan figureStepped figureBegun
 halted-filling = refl

@@ -23,19 +23,19 @@ brief m = record { moment = m .spot .moment; side = m .spot .side; task = m .cal
 abbrev entry : ℕ → Side → ℕ → Rule → Brief
 entry n s t r = record { moment = n; side = s; task = t; rule = r }
 
-abbrev pub steps : (count task : ℕ) → List Action
-steps n t = replicate n (step t)
+abbrev pub stepsBy : (count task : ℕ) → List Action
+stepsBy n t = replicate n (step t)
 
 abbrev alone : ℕ → Op → ℕ → List Action
-alone t op n = begin t op ∷ steps n t
+alone t op n = begin t op ∷ stepsBy n t
 
 -- task 0 swaps 5 to 7 and takes two steps, task 1 swaps 5 to 9 and takes seven (actions 0 to 10)
 abbrev pub meeting : List Action
-meeting = begin 0 (swap 0 5 7) ∷ begin 1 (swap 0 5 9) ∷ steps 2 0 ++ steps 7 1
+meeting = begin 0 (swap 0 5 7) ∷ begin 1 (swap 0 5 9) ∷ stepsBy 2 0 ++ stepsBy 7 1
 
 -- then task 0 sets C (action 12), and task 1 stores its new value, late (action 13)
 abbrev lateStore : List Action
-lateStore = meeting ++ steps 2 0 ++ steps 1 1
+lateStore = meeting ++ stepsBy 2 0 ++ stepsBy 1 1
 
 -- three tasks, one cell that holds 5
 abbrev Holds : List (List Action × List Brief) → Type 0
@@ -52,21 +52,21 @@ pub moments-hold :
     (step 0 ∷ alone 0 (swap 0 5 5) 3 ++ alone 0 (swap 0 4 6) 8, entry 3 itself 0 C1 ∷ entry 11 itself 0 C2 ∷ []) ∷
     -- P9: task 1's late store counts, at the action that set C; task 0 answers no at the decision. Then task 0 replaces the block, alone.
     (
-      lateStore ++ steps 4 1 ++ steps 3 0 ++ alone 0 (swap 0 9 4) 13 ++ alone 0 (swap 0 4 6) 10,
+      lateStore ++ stepsBy 4 1 ++ stepsBy 3 0 ++ alone 0 (swap 0 9 4) 13 ++ alone 0 (swap 0 4 6) 10,
       entry 12 itself 1 C3 ∷ entry 16 itself 0 C5 ∷ entry 34 itself 0 C6 ∷ entry 43 itself 0 C4 ∷ [],
     ) ∷
     -- P10: task 1 replaces the block; task 0's hardware CAS fails, and it took effect right after
-    (meeting ++ steps 5 0 ++ steps 14 1 ++ steps 6 0, entry 29 itself 1 C6 ∷ entry 29 after 0 C6 ∷ []) ∷
+    (meeting ++ stepsBy 5 0 ++ stepsBy 14 1 ++ stepsBy 6 0, entry 29 itself 1 C6 ∷ entry 29 after 0 C6 ∷ []) ∷
     -- a swap that stored late and halted is listed as soon as its value is decided, and not before
-    (lateStore ++ steps 1 0, []) ∷
-    (lateStore ++ steps 2 0, entry 12 itself 1 C3 ∷ []) ∷
+    (lateStore ++ stepsBy 1 0, []) ∷
+    (lateStore ++ stepsBy 2 0, entry 12 itself 1 C3 ∷ []) ∷
     -- one that stored in an active block and halted is listed at its store, also if C was set since
-    (begin 0 (swap 0 5 7) ∷ steps 2 0 ++ alone 1 (swap 0 5 9) 8 ++ steps 2 0, entry 11 itself 1 C4 ∷ []) ∷
+    (begin 0 (swap 0 5 7) ∷ stepsBy 2 0 ++ alone 1 (swap 0 5 9) 8 ++ stepsBy 2 0, entry 11 itself 1 C4 ∷ []) ∷
     -- a read that goes by a decision: made after its first load (task 2's, action 15), and before it
-    (lateStore ++ begin 2 (read 0) ∷ steps 1 2 ++ steps 2 0 ++ steps 5 2, entry 12 itself 1 C3 ∷ entry 17 itself 2 R2 ∷ []) ∷
-    (lateStore ++ steps 2 0 ++ alone 2 (read 0) 6, entry 12 itself 1 C3 ∷ entry 17 itself 2 R2 ∷ []) ∷
+    (lateStore ++ begin 2 (read 0) ∷ stepsBy 1 2 ++ stepsBy 2 0 ++ stepsBy 5 2, entry 12 itself 1 C3 ∷ entry 17 itself 2 R2 ∷ []) ∷
+    (lateStore ++ stepsBy 2 0 ++ alone 2 (read 0) 6, entry 12 itself 1 C3 ∷ entry 17 itself 2 R2 ∷ []) ∷
     -- the same as a swap of equal values
-    (lateStore ++ steps 2 0 ++ alone 2 (swap 0 9 9) 6, entry 12 itself 1 C3 ∷ entry 17 itself 2 C1 ∷ []) ∷
+    (lateStore ++ stepsBy 2 0 ++ alone 2 (swap 0 9 9) 6, entry 12 itself 1 C3 ∷ entry 17 itself 2 C1 ∷ []) ∷
     []
     )
 unfolding upd figureRan figureStepped figureBegun

@@ -92,14 +92,14 @@ noted o t x = let at : ℕ → Bool = λ n. eqb (x .line) n in let own : ℕ →
 
 -- THE RULES
 
-abbrev pub at : ℕ → Rule → Spot
-at n r = record { moment = n; side = itself; rule = r }
+abbrev pub spotAt : ℕ → Rule → Spot
+spotAt n r = record { moment = n; side = itself; rule = r }
 
 -- C6: who installs its block takes effect there. Who fails: o.b was replaced; before that, if another value than the expected was decided,
 -- else after it.
 abbrev pub lineC6 : Notes → ℕ → Sight → Response → Spot
-lineC6 o t x (Value v) = at (o .now) C6
-lineC6 o t x Yes = at (o .now) C6
+lineC6 o t x (Value v) = spotAt (o .now) C6
+lineC6 o t x Yes = spotAt (o .now) C6
 lineC6 o t x No = record { moment = o .replaced t; side = cond (x .asExpected) after before; rule = C6 }
 
 -- where C3 is linearized: at o.23 if o.b was active then, else at δC(o.b)
@@ -109,17 +109,17 @@ effect o t = cond (o .storedActive t) (o .stored t) (o .inactive t)
 -- by the line of the figure's list from which the call returns. C1: a swap of equal values is linearized where its read is.
 abbrev pub rules : Notes → ℕ → Sight → Response → List (ℕ × Spot)
 rules o t x a =
-    (12, at (o .loaded t) (cond (x .swaps) C1 R1)) ∷
-    (13, at (o .decided t) (cond (x .swaps) C1 R2)) ∷
-    (22, at (o .loaded t) C2) ∷
-    (25, at (effect o t) C3) ∷
-    (26, at (o .stored t) C4) ∷
-    (28, at (o .decided t) C5) ∷
+    (12, spotAt (o .loaded t) (cond (x .swaps) C1 R1)) ∷
+    (13, spotAt (o .decided t) (cond (x .swaps) C1 R2)) ∷
+    (22, spotAt (o .loaded t) C2) ∷
+    (25, spotAt (effect o t) C3) ∷
+    (26, spotAt (o .stored t) C4) ∷
+    (28, spotAt (o .decided t) C5) ∷
     (30, lineC6 o t x a) ∷ []
 
 -- the first clause stands for every other line: no call returns from one
 abbrev pub ruleAt : ℕ → List (ℕ × Spot) → Spot
-ruleAt n [] = at 0 R1
+ruleAt n [] = spotAt 0 R1
 ruleAt n (p ∷ l) = cond (eqb n (p .0)) (p .1) (ruleAt n l)
 
 abbrev pub ruled : Notes → ℕ → Sight → Response → Spot
@@ -129,7 +129,7 @@ ruled o t x a = ruleAt (x .figureLine) (rules o t x a)
 -- active then; or if not, and its block's decision is its new value.
 abbrev pub stands : Notes → ℕ → Sight → Option Spot
 stands o t x = cond (within (x .figureLine) 24 26)
-    (cond (o .storedActive t) (some (at (o .stored t) C4)) (cond (x .asNew) (some (at (o .inactive t) C3)) none)) none
+    (cond (o .storedActive t) (some (spotAt (o .stored t) C4)) (cond (x .asNew) (some (spotAt (o .inactive t) C3)) none)) none
 
 -- BESIDE A MACHINE, by what its tasks see
 

@@ -5,11 +5,11 @@ ghost use mathlib.Core.Path.{_≡_};
 ghost use mathlib.Core.Bool.{cond};
 ghost use mathlib.Core.Option.{none};
 ghost use lib.Dec.{eqb};
-ghost use Rattle.blocks.specs.Blocks.{found, foundOf};
+ghost use Rattle.blocks.specs.Blocks.{firstUnused, foundOf};
 
 // Only line 4 asks for one.
 pub fn free_block(counts: &[u8; 128], blocks: u32, last: u32, line: u32) -> Found
-    ensures { λ f. ⌜ foundOf f ≡ cond (eqb line 4) (found (now (counts .entry)) blocks last) none ⌝ }
+    ensures { λ f. ⌜ foundOf f ≡ cond (eqb line 4) (firstUnused (now (counts .entry)) blocks last) none ⌝ }
 {
     if line == 4 {
         return unused_block(counts, blocks, last);

@@ -10,7 +10,7 @@ use borrow.Author.Tests.{le-leb, lt-leb, leb-true, leb-false, eqb-true, eqb-fals
 use Rattle.history.specs.History.{cellOf, Kind, aRead, aSwap, kindOf}
 use Rattle.history.specs.Moments.{Side, before, itself, after, Rule, R1, R2, C1, C2, C3, C4, C5, C6, Mark, changing, sideNumber, key, notAfter, insert, sort}
 use Rattle.moments_lines.specs.Lines.{atLine, markLine, markLines}
-use Rattle.moments_notes.specs.Words.{ruleNumber, kindNumber, rank, joined, encode, insertWord, Small, AllSmall, Listed, sideAt, kindBit, ruleAt, wordLine, wordLines}
+use Rattle.moments_notes.specs.Words.{ruleNumber, kindNumber, rank, joined, encode, insertWord, FitsWord, AllSmall, Listed, sideAt, kindBit, ruleNumbered, wordLine, wordLines}
 use Rattle.moments_notes.proofs.Sorting.{insert-sorted}
 
 -- THE PARTS
@@ -47,7 +47,7 @@ kind-back : (k : Kind) → kindBit (kindNumber k) ≡ k
 kind-back aRead = refl
 kind-back aSwap = refl
 
-rule-back : (r : Rule) → ruleAt (ruleNumber r) ≡ r
+rule-back : (r : Rule) → ruleNumbered (ruleNumber r) ≡ r
 rule-back R1 = refl
 rule-back R2 = refl
 rule-back C1 = refl
@@ -115,7 +115,7 @@ module _ (m s c t m′ s′ c′ t′ : ℕ) (hs : s ≤ 2) (hs′ : s′ ≤ 2)
       ∙ ap (λ (z : Bool). cond (eqb m m′) z (leb m m′)) (two-digits s s′ (s * 64) (s′ * 64) 64 (c * 32 + t) (c′ * 32 + t′) (λ h. omega (arith, h)) (λ h. omega (arith, h)) (λ h. omega (arith, h)) (omega arith) (omega arith))
       ∙ two-digits m m′ (m * 256) (m′ * 256) 256 (s * 64 + (c * 32 + t)) (s′ * 64 + (c′ * 32 + t′)) (λ h. omega (arith, h)) (λ h. omega (arith, h)) (λ h. omega (arith, h)) (omega arith) (omega arith)
 
-module _ (x : Mark) (h : Small x) where
+module _ (x : Mark) (h : FitsWord x) where
   abbrev rankOf : ℕ
   rankOf = rank (x .spot .moment) (sideNumber (x .spot .side)) (cond (changing x) 0 1) (x .call .task)
 
@@ -128,9 +128,9 @@ module _ (x : Mark) (h : Small x) where
   encode-line =
       let p = parts-back (x .spot .moment) (sideNumber (x .spot .side)) (cond (changing x) 0 1) (x .call .task) (kindNumber (kindOf (x .call .op))) (cellOf (x .call .op)) (ruleNumber (x .spot .rule))
       (side-small (x .spot .side)) (bit-small (changing x)) (h .task) (kind-small (kindOf (x .call .op))) (h .cell) (rule-small (x .spot .rule)) in
-      sym (λ i. atLine (record { moment = p .0 i; side = (ap sideAt (p .1) ∙ side-back (x .spot .side)) i; rule = (ap ruleAt (p .5) ∙ rule-back (x .spot .rule)) i }) (p .2 i) ((ap kindBit (p .3) ∙ kind-back (kindOf (x .call .op))) i) (p .4 i))
+      sym (λ i. atLine (record { moment = p .0 i; side = (ap sideAt (p .1) ∙ side-back (x .spot .side)) i; rule = (ap ruleNumbered (p .5) ∙ rule-back (x .spot .rule)) i }) (p .2 i) ((ap kindBit (p .3) ∙ kind-back (kindOf (x .call .op))) i) (p .4 i))
 
-encode-order : (x y : Mark) → Small x → Small y → notAfter (key x) (key y) ≡ leb (encode x / 256) (encode y / 256)
+encode-order : (x y : Mark) → FitsWord x → FitsWord y → notAfter (key x) (key y) ≡ leb (encode x / 256) (encode y / 256)
 encode-order x y h k =
     ranked (x .spot .moment) (sideNumber (x .spot .side)) (cond (changing x) 0 1) (x .call .task) (y .spot .moment) (sideNumber (y .spot .side)) (cond (changing y) 0 1) (y .call .task)
     (side-small (x .spot .side)) (side-small (y .spot .side)) (bit-small (changing x)) (bit-small (changing y)) (h .task) (k .task)
@@ -138,7 +138,7 @@ encode-order x y h k =
 
 -- LISTS
 
-all-insert : (m : Mark) (l : List Mark) → Small m → AllSmall l → AllSmall (insert m l)
+all-insert : (m : Mark) (l : List Mark) → FitsWord m → AllSmall l → AllSmall (insert m l)
 all-insert m [] h s = (h, tt)
 all-insert m (y ∷ l) h s = go (notAfter (key m) (key y)) (all-insert m l h (s .1))
   where
@@ -146,7 +146,7 @@ all-insert m (y ∷ l) h s = go (notAfter (key m) (key y)) (all-insert m l h (s 
     go true r = (h, s)
     go false r = (s .0, r)
 
-encode-insert : (m : Mark) (l : List Mark) → Small m → AllSmall l → map encode (insert m l) ≡ insertWord (encode m) (map encode l)
+encode-insert : (m : Mark) (l : List Mark) → FitsWord m → AllSmall l → map encode (insert m l) ≡ insertWord (encode m) (map encode l)
 encode-insert m [] h s = refl
 encode-insert m (y ∷ l) h s = go (notAfter (key m) (key y)) (sym (encode-order m y h (s .0))) (encode-insert m l h (s .1))
   where
@@ -158,7 +158,7 @@ encode-insert m (y ∷ l) h s = go (notAfter (key m) (key y)) (sym (encode-order
 pub none-listed : Listed [] []
 none-listed = record { same = refl; small = tt; sorted = tt }
 
-pub one-listed : {words : List ℕ} {l : List Mark} → Listed words l → (m : Mark) → Small m → Listed (insertWord (encode m) words) (m ∷ l)
+pub one-listed : {words : List ℕ} {l : List Mark} → Listed words l → (m : Mark) → FitsWord m → Listed (insertWord (encode m) words) (m ∷ l)
 one-listed {words} {l} x m h = record {
   same = ap (insertWord (encode m)) (x .same) ∙ sym (encode-insert m (sort l) h (x .small));
   small = all-insert m (sort l) h (x .small);

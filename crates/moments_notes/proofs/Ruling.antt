@@ -13,7 +13,7 @@ use Rattle.cells.specs.Machine.{Pool}
 use Rattle.history.specs.History.{Op, read, swap, aRead, aSwap, kindOf, Response, Value, Yes, No}
 use Rattle.history.specs.Moments as Moments
 use Rattle.history.specs.Moments.{Rule, C1, changes}
-use Rattle.figure_moments.specs.Moments.{at, Notes, stands}
+use Rattle.figure_moments.specs.Moments.{spotAt, Notes, stands}
 use Rattle.figure_cell.proofs.AsBegun.{kind-of, cell-of}
 use Rattle.refinement.specs.Moments.{seesPool}
 use Rattle.moments_notes.specs.declared.Sight.{Sight}
@@ -21,17 +21,17 @@ use Rattle.moments_notes.specs.declared.Own.{Own}
 use Rattle.moments_notes.specs.declared.Spot.{Spot}
 use Rattle.moments_notes.specs.declared.Standing.{Standing}
 use Rattle.moments_notes.specs.declared.Standing.the-variants as standing
-use Rattle.moments_notes.specs.Words.{ruleNumber, kindNumber, rank, joined, wordWith, wordOf, insertWord, SortedWords}
-use Rattle.moments_notes.specs.Notes.{seen, sightOf, notesOf, ownOf, ownNotes, numbered, numberedAt, standingOf}
+use Rattle.moments_notes.specs.Words.{ruleNumber, kindNumber, rank, joined, wordWith, markWord, insertWord, SortedWords}
+use Rattle.moments_notes.specs.Notes.{sightIn, sightOf, notesOf, ownOf, ownNotes, numbered, numberedAt, standingOf}
 use Rattle.moments_notes.specs.Loop.{standWords, StandFits, Sided, MomentFits, standingWords, closing, Closing}
 use Rattle.moments_notes.proofs.Sorting.{insert-sorted}
 use Rattle.moments_notes.proofs.Encoding.{side-small, rule-small}
 
 -- a read, or a swap of equal values
-pub read-spot : (m k : ℕ) (r : Rule) {n : ℕ} → n ≡ cond (eqb k 2) 2 (ruleNumber r) → _≡_ {A = Spot} (record { moment = m; side = 1; rule = n }) (numbered (at m (cond (eqb k 2) C1 r)))
+pub read-spot : (m k : ℕ) (r : Rule) {n : ℕ} → n ≡ cond (eqb k 2) 2 (ruleNumber r) → _≡_ {A = Spot} (record { moment = m; side = 1; rule = n }) (numbered (spotAt m (cond (eqb k 2) C1 r)))
 read-spot m k r e = rw e (go (eqb k 2))
   where
-    go : (b : Bool) → _≡_ {A = Spot} (record { moment = m; side = 1; rule = cond b 2 (ruleNumber r) }) (numbered (at m (cond b C1 r)))
+    go : (b : Bool) → _≡_ {A = Spot} (record { moment = m; side = 1; rule = cond b 2 (ruleNumber r) }) (numbered (spotAt m (cond b C1 r)))
     go true = refl
     go false = refl
 
@@ -74,7 +74,7 @@ module _ (r : Record) where
   word-same m m′ s u t c d a em ec eb ed = λ i. joined (rank (em i) s ((ec ∙ ap (λ (z : Bool). cond z 0 1) eb) i) t) ((ed ∙ kind-number) i) (sym (cell-of r) i) u
 
 module _ (p : Moments.Spot) {q : Spot} (e : q ≡ numbered p) where
-  pub entered : (op : Op) (t : ℕ) (a : Response) (l m : List ℕ) → l ≡ insertWord (wordWith (q .moment) (q .side) (q .rule) op t a) m → l ≡ insertWord (wordOf p op t a) m
+  pub entered : (op : Op) (t : ℕ) (a : Response) (l m : List ℕ) → l ≡ insertWord (wordWith (q .moment) (q .side) (q .rule) op t a) m → l ≡ insertWord (markWord p op t a) m
   entered op t a l m h = h ∙ ap (λ (z : Spot). insertWord (wordWith (z .moment) (z .side) (z .rule) op t a) m) e
 
   pub moment-fits : q .moment ≤ 65535 → p .moment ≤ 65535
@@ -111,7 +111,7 @@ standing-fits (some p) h = h
 
 pub stand-sorted : (o : Option Moments.Spot) (op : Op) (t : ℕ) (l : List ℕ) → SortedWords l → SortedWords (standWords o op t l)
 stand-sorted none op t l s = s
-stand-sorted (some p) op t l s = insert-sorted (wordOf p op t Yes) l s
+stand-sorted (some p) op t l s = insert-sorted (markWord p op t Yes) l s
 
 module _ (x : Pool) (o : Notes) (t : ℕ) where
   pub closing-next : (l : List ℕ) → closing x o (t + 1) l ≡ standWords (stands o t (seesPool x t)) (opOf (recordAt (x .0 .records) t)) t (closing x o t l)
@@ -127,6 +127,6 @@ module _ (s : State) (p : List ℕ) (t : ℕ) (loaded stored active inactive dec
   abbrev own-at : Own
   own-at = ownOf t loaded stored active inactive decided replaced
 
-  pub stands-at : {x : Sight} {o : Own} (q : Standing) → x ≡ seen p (recordAt (s .records) t) 0 → o ≡ own-at → standingOf q ≡ numberedAt (stands (ownNotes 0 o) 0 (sightOf 0 (recordAt (s .records) t) x []))
+  pub stands-at : {x : Sight} {o : Own} (q : Standing) → x ≡ sightIn p (recordAt (s .records) t) 0 → o ≡ own-at → standingOf q ≡ numberedAt (stands (ownNotes 0 o) 0 (sightOf 0 (recordAt (s .records) t) x []))
       → q ≡ standingAt (stands (notesOf 0 loaded stored active inactive decided replaced) t (seesPool (s, p) t))
   stands-at {x} {o} q ex eo eq = standing-is q (stands (ownNotes 0 o) 0 (sightOf 0 (recordAt (s .records) t) x [])) eq ∙ λ i. standingAt (stands (ownNotes 0 (eo i)) 0 (sightOf 0 (recordAt (s .records) t) (ex i) []))

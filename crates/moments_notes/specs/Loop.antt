@@ -16,7 +16,7 @@ use Rattle.moments_notes.specs.declared.Sight.{Sight}
 use Rattle.moments_notes.specs.declared.Own.{Own}
 use Rattle.moments_notes.specs.declared.Standing.{Standing}
 use Rattle.moments_notes.specs.declared.Standing.the-variants as standing
-use Rattle.moments_notes.specs.Words.{wordWith, wordOf, insertWord}
+use Rattle.moments_notes.specs.Words.{wordWith, markWord, insertWord}
 use Rattle.moments_notes.specs.Notes.{sightOf, ownNotes}
 
 -- where the call of a task with that record and those notes takes effect
@@ -27,7 +27,7 @@ endingSpot i o r x a = ruled (ownNotes i o) 0 (sightOf 0 r x []) a
 abbrev pub endedWords : (Response → Spot) → Op → (task : ℕ) → Said → List ℕ → List ℕ
 endedWords f op t (Refused n) l = l
 endedWords f op t Acted l = l
-endedWords f op t (Ended r) l = insertWord (wordOf (f (r .answer)) op t (r .answer)) l
+endedWords f op t (Ended r) l = insertWord (markWord (f (r .answer)) op t (r .answer)) l
 
 abbrev pub endedCount : Said → ℕ → ℕ
 endedCount (Refused q) n = n
@@ -57,7 +57,7 @@ spreads n x = (eqb n 2 && x .undecided) || ((eqb n 27 && x .active) || (eqb n 30
 
 abbrev pub standWords : Option Spot → Op → (task : ℕ) → List ℕ → List ℕ
 standWords none op t l = l
-standWords (some p) op t l = insertWord (wordOf p op t Yes) l
+standWords (some p) op t l = insertWord (markWord p op t Yes) l
 
 abbrev pub StandFits : Option Spot → Type 0
 StandFits none = Unit {0}

@@ -31,8 +31,8 @@ abbrev pub holdsWith : (q r : Record) → Bool
 holdsWith q r = holdsBlock q && (eqb (q .cell) (r .cell) && eqb (q .held) (r .held))
 
 -- of the words of the pool, a record, and the block that its cell names
-abbrev pub seen : List ℕ → Record → (current : ℕ) → Sight
-seen p r c = let h = holdsBlock r in record {
+abbrev pub sightIn : List ℕ → Record → (current : ℕ) → Sight
+sightIn p r c = let h = holdsBlock r in record {
   active = h && eqb (word p (r .held) C) 0;
   undecided = h && eqb (word p (r .held) D) noValue;
   current = h && eqb c (r .held);

@@ -31,11 +31,11 @@ joined q d k r = q * 256 + (d * 128 + (k * 8 + r))
 abbrev pub wordWith : (moment side rule : ℕ) → Op → (task : ℕ) → Response → ℕ
 wordWith m s r op t a = joined (rank m s (cond (changes op a) 0 1) t) (kindNumber (kindOf op)) (cellOf op) r
 
-abbrev pub wordOf : Spot → Op → (task : ℕ) → Response → ℕ
-wordOf p op t a = wordWith (p .moment) (sideNumber (p .side)) (ruleNumber (p .rule)) op t a
+abbrev pub markWord : Spot → Op → (task : ℕ) → Response → ℕ
+markWord p op t a = wordWith (p .moment) (sideNumber (p .side)) (ruleNumber (p .rule)) op t a
 
 abbrev pub encode : Mark → ℕ
-encode m = wordOf (m .spot) (m .call .op) (m .call .task) (m .answer)
+encode m = markWord (m .spot) (m .call .op) (m .call .task) (m .answer)
 
 -- IN THEIR ORDER
 
@@ -53,14 +53,14 @@ SortedWords [] = Unit {0}
 SortedWords (y ∷ l) = From (y / 256) l × SortedWords l
 
 -- a mark that fits a word
-pub record Small (m : Mark) : Type 0 where
+pub record FitsWord (m : Mark) : Type 0 where
   pub moment : m .spot .moment ≤ 65535
   pub task : m .call .task < 32
   pub cell : cellOf (m .call .op) < 16
 
 abbrev pub AllSmall : List Mark → Type 0
 AllSmall [] = Unit {0}
-AllSmall (m ∷ l) = Small m × AllSmall l
+AllSmall (m ∷ l) = FitsWord m × AllSmall l
 
 -- the words are those of the marks, in their order
 pub record Listed (words : List ℕ) (l : List Mark) : Type 0 where
@@ -76,13 +76,13 @@ sideAt n = cond (eqb n 0) before (cond (eqb n 1) itself after)
 abbrev pub kindBit : ℕ → Kind
 kindBit n = cond (eqb n 0) aRead aSwap
 
-abbrev pub ruleAt : ℕ → Rule
-ruleAt n =
+abbrev pub ruleNumbered : ℕ → Rule
+ruleNumbered n =
     cond (ltb n 4) (cond (eqb n 0) R1 (cond (eqb n 1) R2 (cond (eqb n 2) C1 C2)))
     (cond (eqb n 4) C3 (cond (eqb n 5) C4 (cond (eqb n 6) C5 C6)))
 
 abbrev pub wordLine : ℕ → List ℕ
-wordLine w = atLine (record { moment = w / 65536; side = sideAt (w / 16384 % 4); rule = ruleAt (w % 8) }) (w / 256 % 32) (kindBit (w / 128 % 2)) (w / 8 % 16)
+wordLine w = atLine (record { moment = w / 65536; side = sideAt (w / 16384 % 4); rule = ruleNumbered (w % 8) }) (w / 256 % 32) (kindBit (w / 128 % 2)) (w / 8 % 16)
 
 unfoldable pub wordLines : List ℕ → List ℕ
 wordLines [] = []

@@ -17,7 +17,7 @@ ghost use Rattle.cells.specs.Answers.{said, actOf};
 ghost use Rattle.figure_moments.specs.Moments.{noted};
 ghost use Rattle.pool.specs.Words.{recordsOf};
 ghost use Rattle.moments_notes.specs.Loop.{lineIf, notedLine, spreads as «spreadsOf»};
-ghost use Rattle.moments_notes.specs.Notes.{slot as «slotOf», seen, holdsWith, sightOf, notesOf, ownOf, Sized};
+ghost use Rattle.moments_notes.specs.Notes.{slot as «slotOf», sightIn, holdsWith, sightOf, notesOf, ownOf, Sized};
 
 // A word of the pool, 0 beyond it.
 fn word(pool: &[u32], at: usize) -> u32
@@ -30,7 +30,7 @@ fn word(pool: &[u32], at: usize) -> u32
 }
 
 pub fn see(pool: &[u32], r: Record, current: u32) -> Sight
-    ensures { λ x. ⌜ x ≡ seen (now (pool .entry)) r current ⌝ }
+    ensures { λ x. ⌜ x ≡ sightIn (now (pool .entry)) r current ⌝ }
 {
     let h = is_holding(r);
     let at = 5 * r.held as usize;
@@ -55,7 +55,7 @@ pub fn slot(n: u32, m: u32) -> usize
 // What the task with that record sees.
 pub fn see_cell(pool: &[u32], r: Record, current: &[u32; 16], cells: u32) -> Sight
     requires { ⌜ (cells ≤ 16) × (length (now current) ≡ 16) ⌝ }
-    ensures { λ x. ⌜ x ≡ seen (now (pool .entry)) r (getD (now (current .entry)) («slotOf» (r .cell) cells) 0) ⌝ }
+    ensures { λ x. ⌜ x ≡ sightIn (now (pool .entry)) r (getD (now (current .entry)) («slotOf» (r .cell) cells) 0) ⌝ }
 {
     let k = slot(r.cell, cells);
     see(pool, r, current[k])

@@ -23,8 +23,8 @@ use Rattle.figure_cell.proofs.AsBegun.{cell-of}
 use Rattle.refinement.specs.Moments.{seesPool}
 use Rattle.moments_notes.specs.declared.Sight.{Sight}
 use Rattle.moments_notes.specs.declared.Own.{Own}
-use Rattle.moments_notes.specs.Words.{wordOf, insertWord, Listed}
-use Rattle.moments_notes.specs.Notes.{slot, seen, holdsWith, sightOf, notesOf, ownOf}
+use Rattle.moments_notes.specs.Words.{markWord, insertWord, Listed}
+use Rattle.moments_notes.specs.Notes.{slot, sightIn, holdsWith, sightOf, notesOf, ownOf}
 use Rattle.moments_notes.specs.Loop.{endingSpot, endedWords, EndFits, notedLine, spreads, standWords, StandFits, closing, Closing}
 use Rattle.moments_notes.proofs.Encoding.{none-listed, one-listed}
 use Rattle.moments_notes.proofs.Noting.{zeros-at}
@@ -44,10 +44,10 @@ pub record Marking (n : ℕ) (whole : List Mark) (x : Pool) (o : Notes) (words :
 -- a call that took effect there, among the words
 one-more : {words : List ℕ} {l : List Mark} → Listed words l → (p : Spot) (a : Response) (t : ℕ) (r : Record) (c : Call)
     → c .start .op ≡ opOf r → c .start .task ≡ t → p .moment ≤ 65535 → t < 32 → r .cell < 16
-    → Listed (insertWord (wordOf p (opOf r) t a) words) (record { spot = p; call = c .start; answer = a } ∷ l)
+    → Listed (insertWord (markWord p (opOf r) t a) words) (record { spot = p; call = c .start; answer = a } ∷ l)
 one-more {words} {l} x p a t r c eo et h k j =
     let m : Mark = record { spot = p; call = c .start; answer = a } in
-    subst (λ (w : ℕ). Listed (insertWord w words) (m ∷ l)) (λ i. wordOf p (eo i) (et i) a)
+    subst (λ (w : ℕ). Listed (insertWord w words) (m ∷ l)) (λ i. markWord p (eo i) (et i) a)
     (one-listed x m (record { moment = h; task = omega (arith, et, k); cell = omega (arith, ap cellOf eo, cell-of r, j) }))
 
 -- ONE ACTION
@@ -60,7 +60,7 @@ module _ (s : State) (p : List ℕ) (records : length (s .records) ≡ 32) (task
   rec t = recordAt (s .records) t
 
   abbrev sees : ℕ → Sight
-  sees t = seen p (rec t) (current s (slot (rec t .cell) (s .cells)))
+  sees t = sightIn p (rec t) (current s (slot (rec t .cell) (s .cells)))
 
   abbrev spot : ℕ → Response → Spot
   spot t a = endingSpot i (ownOf t loaded stored active inactive decided replaced) (rec t) (sees t) a
@@ -82,7 +82,7 @@ module _ (s : State) (p : List ℕ) (records : length (s .records) ≡ 32) (task
 
   -- with what the code found for these
   pub coded : (t : ℕ) (a : Action) (u : Said) (words words′ : List ℕ) (o′ : Notes) {r : Record} {x : Sight} {own : Own} {line : ℕ} (w : List ℕ) {b : Bool}
-      → r ≡ rec t → x ≡ seen p r (current s (slot (r .cell) (s .cells))) → own ≡ ownOf t loaded stored active inactive decided replaced → line ≡ notedLine a u (r .line) → b ≡ spreads (r .line) x
+      → r ≡ rec t → x ≡ sightIn p r (current s (slot (r .cell) (s .cells))) → own ≡ ownOf t loaded stored active inactive decided replaced → line ≡ notedLine a u (r .line) → b ≡ spreads (r .line) x
       → (b ≡ true → (v : ℕ) → v < 32 → eqb (getD w v 0) 1 ≡ holdsWith (rec v) r) → length w ≡ 32
       → o′ ≡ noted o t (sightOf line idle x w) → words′ ≡ endedWords (endingSpot i own r x) (opOf r) t u words → EndFits (endingSpot i own r x) u
       → Coded t a u words words′ o′
@@ -95,7 +95,7 @@ module _ (s : State) (p : List ℕ) (records : length (s .records) ≡ 32) (task
   }
     where
       sight : x ≡ sees t
-      sight = ex ∙ ap (λ (q : Record). seen p q (current s (slot (q .cell) (s .cells)))) er
+      sight = ex ∙ ap (λ (q : Record). sightIn p q (current s (slot (q .cell) (s .cells)))) er
 
       at : line ≡ notedLine a u (rec t .line)
       at = el ∙ ap (λ (q : Record). notedLine a u (q .line)) er
@@ -114,8 +114,8 @@ module _ (s : State) (p : List ℕ) (records : length (s .records) ≡ 32) (task
 
     pub notes-step : {w : List ℕ} {o′ : Notes} → Who s p t (rec t .line) (sees t) w → o′ ≡ noted o t (sightOf (rec t .line) idle (sees t) w) → o′ ≡ noted o t (seesPool (s, p) t)
     notes-step {w} {o′} h e =
-        e ∙ ap (λ (k : ℕ). noted o t (sightOf (rec t .line) idle (seen p (rec t) (current s k)) w)) in-cells
-        ∙ same-noted s p t records w (subst (λ (k : ℕ). Who s p t (rec t .line) (seen p (rec t) (current s k)) w) in-cells h) o
+        e ∙ ap (λ (k : ℕ). noted o t (sightOf (rec t .line) idle (sightIn p (rec t) (current s k)) w)) in-cells
+        ∙ same-noted s p t records w (subst (λ (k : ℕ). Who s p t (rec t .line) (sightIn p (rec t) (current s k)) w) in-cells h) o
 
   module _ (b : Calls) (l : List Mark) (begun : AllBegun (s .records) (b .pending)) (words words′ : List ℕ) (o′ : Notes) (listed : Listed words l) (x : Attempt) where
     abbrev marked-by : Action → Said → List Mark
@@ -127,7 +127,7 @@ module _ (s : State) (p : List ℕ) (records : length (s .records) ≡ 32) (task
     same-words : words′ ≡ words → Listed words′ l
     same-words e = subst (λ (w : List ℕ). Listed w l) (sym e) listed
 
-    ended : (t : ℕ) → Steps s p t → (a : Response) → words′ ≡ insertWord (wordOf (spot t a) (opOf (rec t)) t a) words → spot t a .moment ≤ 65535
+    ended : (t : ℕ) → Steps s p t → (a : Response) → words′ ≡ insertWord (markWord (spot t a) (opOf (rec t)) t a) words → spot t a .moment ≤ 65535
         → Listed words′ (markOf (noting pool seesPool) (names pool seesPool) (b .pending t) a (ruled o t (seesPool (s, p) t) a) ++ l)
     ended t z a e h = go (begun t (z .busy))
       where
@@ -210,7 +210,7 @@ module _ (s : State) (p : List ℕ) (i : ℕ) (loaded stored active inactive dec
       r : Record
       r = recordAt (s .records) t
 
-      go : (c : Call) × (b .pending t ≡ some c) × (c .start .op ≡ opOf r) × (c .start .task ≡ t) → Listed (insertWord (wordOf q (opOf r) t Yes) words) (markOf (noting pool seesPool) (names pool seesPool) (b .pending t) Yes q ++ l)
+      go : (c : Call) × (b .pending t ≡ some c) × (c .start .op ≡ opOf r) × (c .start .task ≡ t) → Listed (insertWord (markWord q (opOf r) t Yes) words) (markOf (noting pool seesPool) (names pool seesPool) (b .pending t) Yes q ++ l)
       go (c, y, eo, et) = rw y (one-more x q Yes t r c eo et f h k)
 
   pub all-pending : {words : List ℕ} {l : List Mark} (n : ℕ) → n ≤ 32 → ((t : ℕ) → t < n → recordAt (s .records) t .cell < 16) → Listed words l → Closing (s, p) (noted-at 0) n

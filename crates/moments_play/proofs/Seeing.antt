@@ -14,7 +14,7 @@ use Rattle.cells.specs.Step.{current}
 use Rattle.figure_moments.specs.Moments.{holdsBlock, Notes, noted}
 use Rattle.refinement.specs.Moments.{seesPool}
 use Rattle.moments_notes.specs.declared.Sight.{Sight}
-use Rattle.moments_notes.specs.Notes.{seen, holdsWith, sightOf}
+use Rattle.moments_notes.specs.Notes.{sightIn, holdsWith, sightOf}
 use Rattle.moments_notes.specs.Loop.{spreads}
 
 first-true : (a b : Bool) → (a && b) ≡ true → a ≡ true
@@ -46,7 +46,7 @@ module _ (s : State) (p : List ℕ) (t : ℕ) where
     pub size : length w ≡ 32
 
   abbrev x : Sight
-  x = seen p r (current s (r .cell))
+  x = sightIn p r (current s (r .cell))
 
   module _ (records : length (s .records) ≡ 32) (w : List ℕ) (h : Who (r .line) x w) where
     same-who : spreads (r .line) x ≡ true → holdsBlock r ≡ true → (u : ℕ) → eqb (getD w u 0) 1 ≡ (holdsBlock r && holds u)

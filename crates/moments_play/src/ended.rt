@@ -12,14 +12,14 @@ ghost use lib.ListN.{length, take};
 ghost use Rattle.lines.specs.Answers.{answerOf};
 ghost use Rattle.lines.specs.Record.{opOf};
 ghost use Rattle.cells.specs.Answers.{said};
-ghost use Rattle.moments_notes.specs.Words.{wordOf, insertWord, SortedWords};
+ghost use Rattle.moments_notes.specs.Words.{markWord, insertWord, SortedWords};
 ghost use Rattle.moments_notes.specs.Loop.{endingSpot, endedWords, endedCount, EndFits};
 
 // The word of task t's call, which ends with that answer.
 fn end_with(list: &mut [u32], n: usize, a: Answer, r: Record, x: Sight, o: Own, i: u16, t: u32)
     requires { ⌜ (n < length (now list)) × SortedWords (take n (now list)) ⌝ }
     requires { ⌜ (t < 32) × (r .cell < 16) ⌝ }
-    ensures { λ _. ⌜ take (n + 1) (now (list .exit)) ≡ insertWord (wordOf (endingSpot i o r x (answerOf a)) (opOf r) t (answerOf a)) (take n (now (list .entry))) ⌝ }
+    ensures { λ _. ⌜ take (n + 1) (now (list .exit)) ≡ insertWord (markWord (endingSpot i o r x (answerOf a)) (opOf r) t (answerOf a)) (take n (now (list .entry))) ⌝ }
     ensures { λ _. ⌜ endingSpot i o r x (answerOf a) .moment ≤ 65535 ⌝ }
 {
     let q = ending(r, x, a, i, o);

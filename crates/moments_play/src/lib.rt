@@ -27,7 +27,7 @@ ghost use lib.ListN.{length, take, replicate};
 ghost use Rattle.lines.specs.Record.{idle};
 ghost use Rattle.refinement.specs.Reached.{Reached};
 ghost use Rattle.session_reading.specs.Reading.{actAt};
-ghost use Rattle.session_reading.specs.Kept.{Named};
+ghost use Rattle.session_reading.specs.Kept.{FormNumbers};
 ghost use Rattle.text.specs.Append.{Appended};
 ghost use Rattle.moments_text.specs.Printed.{momentsText};
 ghost use Rattle.moments_notes.specs.Words.{Listed};
@@ -56,7 +56,7 @@ fn list_marks(
     requires { ⌜ Reached tasks cells first (now pool) ⌝ }
     requires { ⌜ (now records ≡ replicate 384 0) × (first .records ≡ replicate 32 idle) ⌝ }
     requires { ⌜ length (now kept) ≤ 65535 ⌝ }
-    requires { ⌜ Named (length (now forms)) (now kept) ⌝ }
+    requires { ⌜ FormNumbers (length (now forms)) (now kept) ⌝ }
     requires { ⌜ 65567 ≤ length (now list) ⌝ }
     ensures { λ n. ⌜ n ≤ 65567 ⌝ }
     ensures { λ n. ⌜ Listed (take n (now (list .exit))) (allMarks tasks (first, now (pool .entry)) (map (actAt (now (forms .entry))) (now (kept .entry)))) ⌝ }
@@ -135,7 +135,7 @@ fn play(
 ) -> usize
     requires { ⌜ Reached tasks cells first (now pool) × (first .records ≡ replicate 32 idle) ⌝ }
     requires { ⌜ length (now kept) ≤ 65535 ⌝ }
-    requires { ⌜ Named (length (now forms)) (now kept) ⌝ }
+    requires { ⌜ FormNumbers (length (now forms)) (now kept) ⌝ }
     requires { ⌜ 2400000 ≤ length (now out) ⌝ }
     ensures { λ r. ⌜ Appended (now (out .entry)) (now (out .exit)) 0 r (momentsText tasks (first, now (pool .entry)) (map (actAt (now (forms .entry))) (now (kept .entry)))) ⌝ }
 {

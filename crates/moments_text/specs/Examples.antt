@@ -4,10 +4,10 @@ use mathlib.Core.List.{List, [], _∷_}
 use Prim.Native.String.{String}
 use Rattle.text.specs.Bytes.{bytes, digits}
 use Rattle.text.specs.Lines.{numbers}
-use Rattle.text.specs.Readers.{word, digitsAfter, number, several}
+use Rattle.text.specs.Readers.{literal, digitsAfter, number, several}
 use Rattle.history.specs.Basics.{upd}
 use Rattle.questions.specs.Questions.{fit, recordFit, cellsFit, recordsFit, uses, countsTrue, hasNone, openQuestions}
-use Rattle.blocks.specs.Blocks.{found}
+use Rattle.blocks.specs.Blocks.{firstUnused}
 use Rattle.cells.specs.Open.{opened}
 use Rattle.cells.specs.Counts.{recounted}
 use Rattle.cells.specs.Begin.{readBegun, swapBegun}
@@ -18,12 +18,12 @@ use Rattle.session_text.specs.Tools.{toolAfterOpen, toolPrinted}
 use Rattle.moments_lines.specs.Lines.{atLine, markLines}
 use Rattle.moments_text.specs.Printed.{momentsPrinted}
 
-abbrev pub Prints : List (String × String) → Type 0
-Prints [] = Unit {0}
-Prints ((s, r) ∷ l) = (momentsPrinted (bytes s) ≡ bytes r) × Prints l
+abbrev pub PrintsMoments : List (String × String) → Type 0
+PrintsMoments [] = Unit {0}
+PrintsMoments ((s, r) ∷ l) = (momentsPrinted (bytes s) ≡ bytes r) × PrintsMoments l
 
 prints :
-    Prints (
+    PrintsMoments (
     -- P1: a swap that is alone, and a read after it
     ("(open 2 1 5 (5))\n(swap 0 0 5 7)\n(again 10 (step 0))\n(read 1 0)\n(again 3 (step 1))\n", "(at 8 itself 0 swap 0 C4)\n(at 13 itself 1 read 0 R1)\n") ∷
     -- P9: task 1's late store counts, at the action that set C
@@ -42,5 +42,5 @@ prints :
     ("(open 2 1 5 (5))\n(step 0)\n", "") ∷
     []
     )
-unfolding upd digits word digitsAfter number fit recordFit cellsFit recordsFit hasNone openQuestions uses countsTrue found recounted opened readBegun swapBegun ran stepped fits deeper shapedAfter several reader.manyWithin reader.values reader.opening reader.keyword reader.head reader.body reader.form reader.line reader.count reader.times reader.actions reader.asked14 reader.formed reader.verdict reader.asked15 numbers atLine markLines toolAfterOpen toolPrinted
+unfolding upd digits literal digitsAfter number fit recordFit cellsFit recordsFit hasNone openQuestions uses countsTrue firstUnused recounted opened readBegun swapBegun ran stepped fits deeper shapedAfter several reader.manyWithin reader.values reader.readOpening reader.keyword reader.head reader.body reader.form reader.readLine reader.count reader.times reader.actions reader.asked14 reader.formed reader.verdict reader.asked15 numbers atLine markLines toolAfterOpen toolPrinted
 prints = (refl, (refl, (refl, (refl, (refl, (refl, (refl, (refl, (refl, tt)))))))))

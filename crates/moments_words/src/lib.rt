@@ -10,7 +10,7 @@ ghost use Rattle.text.specs.Append.{Appended};
 ghost use Rattle.text.specs.Bytes.{decimal};
 ghost use Rattle.session_text.specs.Lines.{kindWord};
 ghost use Rattle.moments_lines.specs.Lines.{sideWord, ruleWord};
-ghost use Rattle.moments_notes.specs.Words.{wordWith, insertWord, SortedWords, sideAt, kindBit, ruleAt, wordLine, wordLines};
+ghost use Rattle.moments_notes.specs.Words.{wordWith, insertWord, SortedWords, sideAt, kindBit, ruleNumbered, wordLine, wordLines};
 use lines::Answer;
 use lines::Record;
 use moments_notes::Spot;
@@ -108,7 +108,7 @@ fn put_kind(out: &mut [u8], at: usize, n: u32) -> usize
 fn put_low_rule(out: &mut [u8], at: usize, n: u32) -> usize
     requires { ⌜ at + 5 ≤ length (now out) ⌝ }
     requires { ⌜ n < 4 ⌝ }
-    ensures { λ r. ⌜ Appended (now (out .entry)) (now (out .exit)) at r (ruleWord (ruleAt n)) × (r ≤ at + 5) ⌝ }
+    ensures { λ r. ⌜ Appended (now (out .entry)) (now (out .exit)) at r (ruleWord (ruleNumbered n)) × (r ≤ at + 5) ⌝ }
 {
     match n {
         0 => text::put(out, at, b" R1)\n"),
@@ -121,7 +121,7 @@ fn put_low_rule(out: &mut [u8], at: usize, n: u32) -> usize
 fn put_high_rule(out: &mut [u8], at: usize, n: u32) -> usize
     requires { ⌜ at + 5 ≤ length (now out) ⌝ }
     requires { ⌜ 4 ≤ n ⌝ }
-    ensures { λ r. ⌜ Appended (now (out .entry)) (now (out .exit)) at r (ruleWord (ruleAt n)) × (r ≤ at + 5) ⌝ }
+    ensures { λ r. ⌜ Appended (now (out .entry)) (now (out .exit)) at r (ruleWord (ruleNumbered n)) × (r ≤ at + 5) ⌝ }
 {
     match n {
         4 => text::put(out, at, b" C3)\n"),
@@ -133,7 +133,7 @@ fn put_high_rule(out: &mut [u8], at: usize, n: u32) -> usize
 
 fn put_rule(out: &mut [u8], at: usize, n: u32) -> usize
     requires { ⌜ at + 5 ≤ length (now out) ⌝ }
-    ensures { λ r. ⌜ Appended (now (out .entry)) (now (out .exit)) at r (ruleWord (ruleAt n)) × (r ≤ at + 5) ⌝ }
+    ensures { λ r. ⌜ Appended (now (out .entry)) (now (out .exit)) at r (ruleWord (ruleNumbered n)) × (r ≤ at + 5) ⌝ }
 {
     if n < 4 {
         return put_low_rule(out, at, n);

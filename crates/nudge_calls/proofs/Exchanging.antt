@@ -29,8 +29,8 @@ use Rattle.nudge_text.specs.Nudge.{ofTwoTasks, answersStill, nudges}
 use Rattle.nudge_text.proofs.Moved.{moved-first, moved-second, moved-other, moved-early, moved-back}
 use Rattle.nudge_laws.proofs.Ledger.{answers, entered-now}
 use Rattle.nudge_laws.proofs.Nudge.{apart-no-nudge}
-use Rattle.nudge_calls.specs.Calls.{Summary, summary, calls, answerOfCall, Finishes}
-use Rattle.nudge_calls.specs.Exchange.{Fresh, touchedBy, sameCell, tried}
+use Rattle.nudge_calls.specs.Calls.{Summary, summary, calls, answerOfCall, Summarizes}
+use Rattle.nudge_calls.specs.Exchange.{Fresh, touchedBy, sameCell, nudgesAt}
 use Rattle.nudge_calls.proofs.Following.{TasksOf, Between, between-start, between-on, BegunAt, followed, unanswered-yet}
 
 -- LISTS WITH TWO ENTRIES EXCHANGED
@@ -218,7 +218,7 @@ module _ (old : State) (words : List ℕ) (tasks cells blocks : ℕ) (values : L
 
     -- THE EXCHANGE
     module _ (f : FinishedCall) (finished : f ∈ callsOf (history pool x₀ l) .finished) (yet : i ≤ f .call .last) (k : ℕ) (K : BegunAt (before i) (f .call .start .task) k) where
-      tried-there : tried (there i) l (f .call .start .task) k (f .call .start .at) (f .report .answer) i ≡ nudges x₀ l (f .call .start .at) (f .report .answer) i
+      tried-there : nudgesAt (there i) l (f .call .start .task) k (f .call .start .at) (f .report .answer) i ≡ nudges x₀ l (f .call .start .at) (f .report .answer) i
       tried-there = rw (t .are) (go (eqb (taskOf (t .one)) (taskOf (t .next))) refl (sameCell touch touch′) refl)
         where
           t : Two i l
@@ -246,14 +246,14 @@ module _ (old : State) (words : List ℕ) (tasks cells blocks : ℕ) (values : L
           go false e true z = rw (e, z, ← (exchange-answer f finished yet k K)) (sym (tasks-are false e))
 
 -- Of newly opened cells; x is the state before action i.
-pub tried-is : {s : State} {p : List ℕ} (F : Fresh s p) (l : List Action) (task : ℕ) (c : Summary) → Finishes (history pool (s, p) l) task c
+pub tried-is : {s : State} {p : List ℕ} (F : Fresh s p) (l : List Action) (task : ℕ) (c : Summary) → Summarizes (history pool (s, p) l) task c
     → (i : ℕ) → suc i < length l → i ≤ c .last → (x : Pool) → x ≡ run pool (s, p) (take i l) → (k : ℕ) → BegunAt (enterAll noCalls (history pool (s, p) (take i l))) task k
-    → tried x l task k (c .at) (c .answer) i ≡ nudges (s, p) l (c .at) (c .answer) i
+    → nudgesAt x l task k (c .at) (c .answer) i ≡ nudges (s, p) l (c .at) (c .answer) i
 tried-is {s} {p} F l task c N i two yet x e k K = subst Claim (sym (F .came)) of-start (N .call) (N .finished) (N .its-task) (N .kept) (e) K
   where
     Claim : Pool → Type 0
     Claim y = (f : FinishedCall) → f ∈ callsOf (history pool y l) .finished → f .call .start .task ≡ task → summary f ≡ c → x ≡ run pool y (take i l) → BegunAt (enterAll noCalls (history pool y (take i l))) task k
-        → tried x l task k (c .at) (c .answer) i ≡ nudges y l (c .at) (c .answer) i
+        → nudgesAt x l task k (c .at) (c .answer) i ≡ nudges y l (c .at) (c .answer) i
 
     of-start : Claim (start (F .old) (F .words) (s .tasks) (s .cells) (F .blocks) (F .values))
     of-start f fin t sc e K =

@@ -30,8 +30,8 @@ use Rattle.nudge_text.specs.Nudge.{atPlace, answersStill, nudges, earliest}
 use Rattle.nudge_laws.proofs.Nudge.{alone, later-no-nudge}
 use Rattle.nudge_calls.specs.declared.calls.Noted.{Noted}
 use Rattle.nudge_calls.specs.declared.calls.Noted.the-variants as code
-use Rattle.nudge_calls.specs.Calls.{Summary, Note, noteOf, begunAfter, listing, calls, answerOfCall, noted, Finishes}
-use Rattle.nudge_calls.specs.Exchange.{Fresh, touchedBy, collides, tried}
+use Rattle.nudge_calls.specs.Calls.{Summary, Note, noteOf, begunAfter, listing, calls, answerOfCall, noteIn, Summarizes}
+use Rattle.nudge_calls.specs.Exchange.{Fresh, touchedBy, collides, nudgesAt}
 use Rattle.nudge_calls.proofs.Following.{BegunAt, begun-next}
 use Rattle.nudge_calls.proofs.Exchanging.{exchanged-map, enter-all, now-after}
 
@@ -60,12 +60,12 @@ module _ (t : ℕ) (f : ℕ → Action) (l : List ℕ) (i k : ℕ) (s : State) (
       ap (λ (r : List Action). calls t k i (history pool (s, p) r)) (action-then f l i h ∙ ap (λ (b : Action). b ∷ drop (i + 1) (map f l)) (sym ea))
       ∙ ap (λ (n : Note). listing n k i (there (x .state) (x .pool))) (same-note t k i a (triedBy s p a) (x .outcome)) ∙ ap lists (sym ed)
 
-  module _ {s′ : State} {p′ : List ℕ} {o : Said} {a : Action} {n : Noted} (h : i < length l) (ea : a ≡ f (getD l i 0)) (ed : leaving s′ p′ o ≡ does s p a) (en : noted n ≡ noteOf t k i a (eventOf untried o)) where
+  module _ {s′ : State} {p′ : List ℕ} {o : Said} {a : Action} {n : Noted} (h : i < length l) (ea : a ≡ f (getD l i 0)) (ed : leaving s′ p′ o ≡ does s p a) (en : noteIn n ≡ noteOf t k i a (eventOf untried o)) where
     pub then-pending : {j : ℕ} → n ≡ code.Pending j → here ≡ there s′ p′ j
-    then-pending e = listed h ea ed ∙ ap (λ (m : Note). listing m k i (there s′ p′)) (sym en ∙ ap noted e)
+    then-pending e = listed h ea ed ∙ ap (λ (m : Note). listing m k i (there s′ p′)) (sym en ∙ ap noteIn e)
 
     pub then-ended : {r : Answer} → n ≡ code.Ended r → here ≡ record { at = k; last = i; answer = answerOf r } ∷ there s′ p′ k
-    then-ended e = listed h ea ed ∙ ap (λ (m : Note). listing m k i (there s′ p′)) (sym en ∙ ap noted e)
+    then-ended e = listed h ea ed ∙ ap (λ (m : Note). listing m k i (there s′ p′)) (sym en ∙ ap noteIn e)
 
     -- the call that it ended is the one begun at m, or another
     pub then-it : (m : ℕ) {r : Answer} → n ≡ code.Ended r → k ≡ m → answerOfCall m here ≡ some (answerOf r)
@@ -94,7 +94,7 @@ module _ (n t : ℕ) (records : ℕ → Record) (r : Record) (own : t < n) (er :
 -- ONE EXCHANGE, of the actions a and b
 
 tried-two : (x : Pool) (f : ℕ → Action) (l : List ℕ) (t k m : ℕ) (r : Response) (i : ℕ) {a b : Action} → i + 1 < length l → a ≡ f (getD l i 0) → b ≡ f (getD l (i + 1) 0)
-    → tried x (map f l) t k m r i ≡ (collides (x .0 .tasks) (recordAt (x .0 .records)) a b && not (answersStill r (answerOfCall (movedTo i m) (calls t k i (history pool x (drop i (exchanged i (map f l))))))))
+    → nudgesAt x (map f l) t k m r i ≡ (collides (x .0 .tasks) (recordAt (x .0 .records)) a b && not (answersStill r (answerOfCall (movedTo i m) (calls t k i (history pool x (drop i (exchanged i (map f l))))))))
 tried-two x f l t k m r i {a} {b} h ea eb =
     let two : drop i (map f l) ≡ a ∷ b ∷ drop ((i + 1) + 1) (map f l) =
     action-then f l i (omega (arith, h)) ∙ (ap (λ (c : Action). c ∷ drop (i + 1) (map f l)) (sym ea) ∙ ap (λ (r : List Action). a ∷ r) (action-then f l (i + 1) h ∙ ap (λ (c : Action). c ∷ drop ((i + 1) + 1) (map f l)) (sym eb)))
@@ -104,17 +104,17 @@ module _ (x : Pool) (f : ℕ → Action) (l : List ℕ) (t k m : ℕ) (r : Respo
   abbrev followed : Option Response
   followed = answerOfCall (movedTo i m) (calls t k i (history pool x (drop i (exchanged i (map f l)))))
 
-  two-are : (d : Bool) → not c ≡ d → tried x (map f l) t k m r i ≡ (not d && not (answersStill r followed))
+  two-are : (d : Bool) → not c ≡ d → nudgesAt x (map f l) t k m r i ≡ (not d && not (answersStill r followed))
   two-are d e = tried-two x f l t k m r i h ea eb ∙ ap (λ (z : Bool). z && not (answersStill r followed)) (ec ∙ (sym (twice c) ∙ ap not e))
     where
       twice : (z : Bool) → not (not z) ≡ z
       twice true = refl
       twice false = refl
 
-  pub tried-apart : not c ≡ true → false ≡ tried x (map f l) t k m r i
+  pub tried-apart : not c ≡ true → false ≡ nudgesAt x (map f l) t k m r i
   tried-apart e = sym (two-are true e)
 
-  pub tried-close : not c ≡ false → {d : Bool} → d ≡ answersStill r followed → not d ≡ tried x (map f l) t k m r i
+  pub tried-close : not c ≡ false → {d : Bool} → d ≡ answersStill r followed → not d ≡ nudgesAt x (map f l) t k m r i
   tried-close e q = ap not q ∙ sym (two-are false e)
 
 -- THE STATE BEFORE ACTION i, and the begin of the task's call
@@ -127,7 +127,7 @@ pub before-start : (x₀ : Pool) (l : List Action) (t : ℕ) → Before x₀ l t
 before-start x₀ l t = record { state = refl; begins-at = λ j e. absurd (clash refl e) }
 
 pub before-next : {x₀ : Pool} (f : ℕ → Action) (l : List ℕ) (t i k : ℕ) {k′ : ℕ} {s : State} {p : List ℕ} {s′ : State} {p′ : List ℕ} {o : Said} {a : Action} (n : Noted) → i < length l → a ≡ f (getD l i 0) → leaving s′ p′ o ≡ does s p a
-    → noted n ≡ noteOf t k i a (eventOf untried o) → k′ ≡ begunAfter (noted n) k → Before x₀ (map f l) t i (s, p) k → Before x₀ (map f l) t (i + 1) (s′, p′) k′
+    → noteIn n ≡ noteOf t k i a (eventOf untried o) → k′ ≡ begunAfter (noteIn n) k → Before x₀ (map f l) t i (s, p) k → Before x₀ (map f l) t (i + 1) (s′, p′) k′
 before-next {x₀} f l t i k {k′} {s} {p} {s′} {p′} {o} {a} n h ea ed en ek B = record {
   state = after-it ∙ (ap (λ (x : Pool). pool x a .0) (B .state) ∙ (sym (run-snoc pool x₀ (take i (map f l)) a) ∙ ap (run pool x₀) (sym more)));
   begins-at = subst (λ (b : Calls). BegunAt b t k′) (sym calls-then) (subst (BegunAt (enter b a e) t) (ap (λ (n : Note). begunAfter n k) notes ∙ sym ek) (begun-next b t k a e (B .begins-at)));
@@ -148,7 +148,7 @@ before-next {x₀} f l t i k {k′} {s} {p} {s′} {p′} {o} {a} n h ea ed en e
     now : b .now ≡ i
     now = omega (arith, now-after pool x₀ (take i (map f l)) noCalls, length-take-le i (map f l) (omega (arith, h, length-map l f)))
 
-    notes : noteOf t k (b .now) a e ≡ noted n
+    notes : noteOf t k (b .now) a e ≡ noteIn n
     notes = ap (λ (m : ℕ). noteOf t k m a e) now ∙ (same-note t k i a (triedBy s p a) (does s p a .outcome) ∙ (ap (λ (x : After). noteOf t k i a (eventOf untried (x .outcome))) (sym ed) ∙ sym en))
 
     calls-then : enterAll noCalls (history pool x₀ (take (i + 1) (map f l))) ≡ enter b a e
@@ -197,7 +197,7 @@ module _ (x : Pool) (l : List Action) where
   none-left m r i k h = earliest-never (nudges x l m r) k i (λ j o. ap (λ (c : Bool). c && not (answersStill r (answerAt (movedTo j m) (history pool x (exchanged j l))))) (alone j l (omega (arith, h, o, add-one i))))
 
   -- none nudges the call after its last step
-  pub none-later : (t : ℕ) (c : Summary) → Finishes (history pool x l) t c → (i k : ℕ) → c .last < i → earliest (nudges x l (c .at) (c .answer)) i k ≡ none
+  pub none-later : (t : ℕ) (c : Summary) → Summarizes (history pool x l) t c → (i k : ℕ) → c .last < i → earliest (nudges x l (c .at) (c .answer)) i k ≡ none
   none-later t c N i k h =
       earliest-never (nudges x l (c .at) (c .answer)) k i (λ j o.
       subst (λ (c : Summary). c .last < j → nudges x l (c .at) (c .answer) j ≡ false) (N .kept) (later-no-nudge x l (N .call) (N .finished) j) (omega (arith, h, o)))

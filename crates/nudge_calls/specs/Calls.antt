@@ -60,7 +60,7 @@ answerOfCall m [] = none
 answerOfCall m (c ∷ l) = cond (eqb (c .at) m) (some (c .answer)) (answerOfCall m l)
 
 -- a finished call of the task
-pub record Finishes (h : List (Action × Event)) (task : ℕ) (c : Summary) : Type 0 where
+pub record Summarizes (h : List (Action × Event)) (task : ℕ) (c : Summary) : Type 0 where
   pub call : FinishedCall
   pub finished : call ∈ callsOf h .finished
   pub its-task : call .call .start .task ≡ task
@@ -68,9 +68,9 @@ pub record Finishes (h : List (Action × Event)) (task : ℕ) (c : Summary) : Ty
 
 -- THE CODE'S ANSWERS
 
-abbrev pub noted : Noted → Note
-noted (code.Pending k) = pending k
-noted (code.Ended a) = ended (answerOf a)
+abbrev pub noteIn : Noted → Note
+noteIn (code.Pending k) = pending k
+noteIn (code.Ended a) = ended (answerOf a)
 
 abbrev pub summaryOf : Call → Summary
 summaryOf c = record { at = c .at; last = c .last; answer = answerOf (c .answer) }

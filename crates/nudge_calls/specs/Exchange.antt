@@ -56,15 +56,15 @@ firstTwo f (a ∷ []) = false
 firstTwo f (a ∷ b ∷ l) = f a b
 
 -- exchange i of the actions l, from the state before it, for the task's call begun at m that answers a; the task's call was begun at k, if it has one
-abbrev pub tried : Pool → List Action → (task k m : ℕ) → Response → (i : ℕ) → Bool
-tried x l t k m a i =
+abbrev pub nudgesAt : Pool → List Action → (task k m : ℕ) → Response → (i : ℕ) → Bool
+nudgesAt x l t k m a i =
     firstTwo (collides (x .0 .tasks) (recordAt (x .0 .records))) (drop i l) && not (answersStill a (answerOfCall (movedTo i m) (calls t k i (history pool x (drop i (exchanged i l))))))
 
 -- THE CODE'S ANSWERS
 
-abbrev pub touched : Touch → Option ℕ
-touched touch.Nothing = none
-touched (touch.Cell k) = some k
+abbrev pub touchOf : Touch → Option ℕ
+touchOf touch.Nothing = none
+touchOf (touch.Cell k) = some k
 
 abbrev pub nudgeOf : Nudge → Option ℕ
 nudgeOf nudge.Nowhere = none

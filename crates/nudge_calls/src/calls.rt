@@ -18,9 +18,9 @@ ghost use Rattle.history.specs.History.{untried, history};
 ghost use Rattle.pool.specs.Words.{recordsOf};
 ghost use Rattle.nudge_text.specs.Nudge.{atPlace};
 ghost use Rattle.refinement.specs.Reached.{Reached};
-ghost use Rattle.session_reading.specs.Kept.{Named};
+ghost use Rattle.session_reading.specs.Kept.{FormNumbers};
 ghost use Rattle.session_reading.specs.Reading.{actAt};
-ghost use Rattle.nudge_calls.specs.Calls.{noteOf, begunBy, begunAfter, calls, noted as «notedOf», soughtOf};
+ghost use Rattle.nudge_calls.specs.Calls.{noteOf, begunBy, begunAfter, calls, noteIn, soughtOf};
 ghost use Rattle.nudge_calls.specs.Exchange.{stateWith};
 
 // The state but for the records, which stand as words.
@@ -83,7 +83,7 @@ fn begun_by(a: Action, at: usize, i: usize) -> usize
 }
 
 pub fn note(task: u32, a: Action, outcome: Outcome, at: usize, i: usize) -> Noted
-    ensures { λ r. ⌜ «notedOf» r ≡ noteOf task at i (actOf a) (eventOf untried (said outcome)) ⌝ }
+    ensures { λ r. ⌜ noteIn r ≡ noteOf task at i (actOf a) (eventOf untried (said outcome)) ⌝ }
 {
     if task_of(a) != task {
         return Noted::Pending(at);
@@ -99,7 +99,7 @@ pub fn note(task: u32, a: Action, outcome: Outcome, at: usize, i: usize) -> Note
 }
 
 pub fn begun_after(noted: Noted, at: usize) -> usize
-    ensures { λ r. ⌜ r ≡ begunAfter («notedOf» noted) at ⌝ }
+    ensures { λ r. ⌜ r ≡ begunAfter (noteIn noted) at ⌝ }
 {
     match noted {
         Noted::Pending(k) => k,
@@ -119,7 +119,7 @@ fn seek(
 ) -> Sought
     requires { ⌜ Reached (s .tasks) (s .cells) (stateWith s (now records)) (now pool) ⌝ }
     requires { ⌜ (length (now records) ≡ 384) × (length (now kept) ≤ 2000) ⌝ }
-    requires { ⌜ Named (length (now forms)) (now kept) ⌝ }
+    requires { ⌜ FormNumbers (length (now forms)) (now kept) ⌝ }
     ensures { λ r. ⌜ soughtOf r ≡ atPlace n (calls task 0 0 (history «machine» (stateWith s (now (records .entry)), now (pool .entry)) (map (actAt (now (forms .entry))) (now (kept .entry))))) ⌝ }
 {
     let mut i = 0;
@@ -177,7 +177,7 @@ pub fn find_call(
 ) -> Sought
     requires { ⌜ Reached (s .tasks) (s .cells) (stateWith s (now records)) (now pool) ⌝ }
     requires { ⌜ (length (now records) ≡ 384) × (length (now kept) ≤ 2000) ⌝ }
-    requires { ⌜ Named (length (now forms)) (now kept) ⌝ }
+    requires { ⌜ FormNumbers (length (now forms)) (now kept) ⌝ }
     ensures { λ r. ⌜ soughtOf r ≡ atPlace n (calls task 0 0 (history «machine» (stateWith s (now (records .entry)), now (pool .entry)) (map (actAt (now (forms .entry))) (now (kept .entry))))) ⌝ }
 {
     let words = pool.len();

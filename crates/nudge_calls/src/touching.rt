@@ -9,7 +9,7 @@ ghost use Rattle.history.specs.History.{step};
 ghost use Rattle.lines.specs.Record.{recordAt};
 ghost use Rattle.cells.specs.Answers.{actOf};
 ghost use Rattle.pool.specs.Words.{recordsOf};
-ghost use Rattle.nudge_calls.specs.Exchange.{touchedBy, sameCell, collides as «collidesOf», touched as «touchedOf»};
+ghost use Rattle.nudge_calls.specs.Exchange.{touchedBy, sameCell, collides as «collidesOf», touchOf};
 
 pub enum Touch {
     Nothing,
@@ -18,7 +18,7 @@ pub enum Touch {
 
 fn cell_of_step(records: &[u32], tasks: u32, task: u32) -> Touch
     requires { ⌜ (length (now records) ≡ 384) × (tasks ≤ 32) ⌝ }
-    ensures { λ r. ⌜ «touchedOf» r ≡ touchedBy tasks (recordAt (recordsOf 32 (now (records .entry)))) (step task) ⌝ }
+    ensures { λ r. ⌜ touchOf r ≡ touchedBy tasks (recordAt (recordsOf 32 (now (records .entry)))) (step task) ⌝ }
 {
     if tasks <= task {
         return Touch::Nothing;
@@ -35,7 +35,7 @@ fn cell_of_step(records: &[u32], tasks: u32, task: u32) -> Touch
 // A begin touches no cell, nor does a step that is refused.
 fn cell_of(records: &[u32], tasks: u32, a: Action) -> Touch
     requires { ⌜ (length (now records) ≡ 384) × (tasks ≤ 32) ⌝ }
-    ensures { λ r. ⌜ «touchedOf» r ≡ touchedBy tasks (recordAt (recordsOf 32 (now (records .entry)))) (actOf a) ⌝ }
+    ensures { λ r. ⌜ touchOf r ≡ touchedBy tasks (recordAt (recordsOf 32 (now (records .entry)))) (actOf a) ⌝ }
 {
     match a {
         Action::Read(_, _) => Touch::Nothing,
@@ -45,7 +45,7 @@ fn cell_of(records: &[u32], tasks: u32, a: Action) -> Touch
 }
 
 fn same(x: Touch, y: Touch) -> bool
-    ensures { λ r. ⌜ r ≡ sameCell («touchedOf» x) («touchedOf» y) ⌝ }
+    ensures { λ r. ⌜ r ≡ sameCell (touchOf x) (touchOf y) ⌝ }
 {
     let Touch::Cell(j) = x else {
         return false;

@@ -19,10 +19,10 @@ ghost use Rattle.lines.specs.Answers.{answerOf};
 ghost use Rattle.nudge_text.specs.Exchange.{exchanged, movedTo};
 ghost use Rattle.nudge_text.specs.Nudge.{answersStill};
 ghost use Rattle.refinement.specs.Reached.{Reached};
-ghost use Rattle.session_reading.specs.Kept.{Named};
+ghost use Rattle.session_reading.specs.Kept.{FormNumbers};
 ghost use Rattle.session_reading.specs.Reading.{actAt};
 ghost use Rattle.nudge_calls.specs.Calls.{calls, answerOfCall};
-ghost use Rattle.nudge_calls.specs.Exchange.{stateWith, tried};
+ghost use Rattle.nudge_calls.specs.Exchange.{stateWith, nudgesAt};
 
 // Whether the call, followed to where exchange i has its begin, still answers the same. The actions up to i have been done. Pool and records
 // are copies, used up here.
@@ -39,7 +39,7 @@ fn follow(
 ) -> bool
     requires { ⌜ Reached (s .tasks) (s .cells) (stateWith s (now records)) (now pool) ⌝ }
     requires { ⌜ (length (now records) ≡ 384) × (length (now kept) ≤ 2000) × (i + 1 < length (now kept)) ⌝ }
-    requires { ⌜ Named (length (now forms)) (now kept) ⌝ }
+    requires { ⌜ FormNumbers (length (now forms)) (now kept) ⌝ }
     ensures { λ r. ⌜ r ≡ answersStill (answerOf (call .answer)) (answerOfCall (movedTo i (call .at)) (calls task at i (history «machine» (stateWith s (now (records .entry)), now (pool .entry)) (drop i (exchanged i (map (actAt (now (forms .entry))) (now (kept .entry)))))))) ⌝ }
 {
     let target = moved_to(i, call.at);
@@ -94,8 +94,8 @@ pub fn try_exchange(
 ) -> bool
     requires { ⌜ Reached (s .tasks) (s .cells) (stateWith s (now records)) (now pool) ⌝ }
     requires { ⌜ (length (now records) ≡ 384) × (length (now kept) ≤ 2000) × (i + 1 < length (now kept)) ⌝ }
-    requires { ⌜ Named (length (now forms)) (now kept) ⌝ }
-    ensures { λ r. ⌜ r ≡ tried (stateWith s (now (records .entry)), now (pool .entry)) (map (actAt (now (forms .entry))) (now (kept .entry))) task at (call .at) (answerOf (call .answer)) i ⌝ }
+    requires { ⌜ FormNumbers (length (now forms)) (now kept) ⌝ }
+    ensures { λ r. ⌜ r ≡ nudgesAt (stateWith s (now (records .entry)), now (pool .entry)) (map (actAt (now (forms .entry))) (now (kept .entry))) task at (call .at) (answerOf (call .answer)) i ⌝ }
 {
     let a = action_at(forms, kept[i]);
     let b = action_at(forms, kept[i + 1]);

@@ -16,9 +16,9 @@ ghost use Rattle.cells.specs.Machine.{pool as «machine»};
 ghost use Rattle.history.specs.History.{history};
 ghost use Rattle.lines.specs.Answers.{answerOf};
 ghost use Rattle.nudge_text.specs.Nudge.{nudges, earliest};
-ghost use Rattle.session_reading.specs.Kept.{Named};
+ghost use Rattle.session_reading.specs.Kept.{FormNumbers};
 ghost use Rattle.session_reading.specs.Reading.{actAt};
-ghost use Rattle.nudge_calls.specs.Calls.{Finishes, summaryOf};
+ghost use Rattle.nudge_calls.specs.Calls.{Summarizes, summaryOf};
 ghost use Rattle.nudge_calls.specs.Exchange.{stateWith, Fresh, nudgeOf};
 
 // The earliest exchange that nudges the task's finished call; none after its last step does. Pool and records are copies, used up here.
@@ -33,8 +33,8 @@ fn try_each(
 ) -> Nudge
     requires { ⌜ Fresh (stateWith s (now records)) (now pool) ⌝ }
     requires { ⌜ (length (now records) ≡ 384) × (length (now kept) ≤ 2000) ⌝ }
-    requires { ⌜ Named (length (now forms)) (now kept) ⌝ }
-    requires { ⌜ Finishes (history «machine» (stateWith s (now records), now pool) (map (actAt (now forms)) (now kept))) task (summaryOf call) ⌝ }
+    requires { ⌜ FormNumbers (length (now forms)) (now kept) ⌝ }
+    requires { ⌜ Summarizes (history «machine» (stateWith s (now records), now pool) (map (actAt (now forms)) (now kept))) task (summaryOf call) ⌝ }
     ensures { λ r. ⌜ nudgeOf r ≡ earliest (nudges (stateWith s (now (records .entry)), now (pool .entry)) (map (actAt (now (forms .entry))) (now (kept .entry))) (call .at) (answerOf (call .answer))) 0 (length (now (kept .entry))) ⌝ }
 {
     let mut i = 0;
@@ -89,8 +89,8 @@ pub fn first_nudge(
 ) -> Nudge
     requires { ⌜ Fresh (stateWith s (now records)) (now pool) ⌝ }
     requires { ⌜ (length (now records) ≡ 384) × (length (now kept) ≤ 2000) ⌝ }
-    requires { ⌜ Named (length (now forms)) (now kept) ⌝ }
-    requires { ⌜ Finishes (history «machine» (stateWith s (now records), now pool) (map (actAt (now forms)) (now kept))) task (summaryOf call) ⌝ }
+    requires { ⌜ FormNumbers (length (now forms)) (now kept) ⌝ }
+    requires { ⌜ Summarizes (history «machine» (stateWith s (now records), now pool) (map (actAt (now forms)) (now kept))) task (summaryOf call) ⌝ }
     ensures { λ r. ⌜ nudgeOf r ≡ earliest (nudges (stateWith s (now (records .entry)), now (pool .entry)) (map (actAt (now (forms .entry))) (now (kept .entry))) (call .at) (answerOf (call .answer))) 0 (length (now (kept .entry))) ⌝ }
 {
     let words = pool.len();

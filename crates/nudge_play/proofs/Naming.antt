@@ -13,7 +13,7 @@ use Rattle.pool.specs.Words.{recordsOf}
 use Rattle.text.specs.Lines.{badLine}
 use Rattle.nudge_text.specs.Nudge.{atPlace, namedCall, nudges, earliest, nudge, nudgeLine, asked18}
 use Rattle.nudge_laws.proofs.Nudge.{named-is-finished}
-use Rattle.nudge_calls.specs.Calls.{Summary, summary, calls, Finishes}
+use Rattle.nudge_calls.specs.Calls.{Summary, summary, calls, Summarizes}
 use Rattle.nudge_calls.specs.declared.calls.Frame.{Frame}
 use Rattle.nudge_calls.specs.Exchange.{Fresh, stateWith}
 use Rattle.nudge_calls.proofs.Following.{Between, named-none, named-some}
@@ -36,7 +36,7 @@ module _ {s : State} {p : List ℕ} (F : Fresh s p) (l : List Action) (t n : ℕ
     same : summary f ≡ c
     same = named-some t n (history pool (s, p) l) known c e .1 .1
 
-    pub sought-finishes : Finishes (history pool (s, p) l) t c
+    pub sought-finishes : Summarizes (history pool (s, p) l) t c
     sought-finishes = let d = named-is-finished t n (history pool (s, p) l) f is in record { call = f; finished = d .0; its-task = d .1; kept = same }
 
     pub sought-nudge : nudgeLine (earliest (nudges (s, p) l (c .at) (c .answer)) 0 (length l)) ≡ asked18 (s, p) l (namedCall t n (history pool (s, p) l))

@@ -15,7 +15,7 @@ ghost use Rattle.cells.specs.Machine.{pool as «machine»};
 ghost use Rattle.history.specs.History.{history};
 ghost use Rattle.lines.specs.Record.{idle};
 ghost use Rattle.nudge_text.specs.Nudge.{namedCall, asked18};
-ghost use Rattle.session_reading.specs.Kept.{Named};
+ghost use Rattle.session_reading.specs.Kept.{FormNumbers};
 ghost use Rattle.session_reading.specs.Reading.{actAt};
 ghost use Rattle.text.specs.Append.{Appended};
 ghost use Rattle.nudge_calls.specs.Exchange.{Fresh};
@@ -32,7 +32,7 @@ pub fn answer(
 ) -> usize
     requires { ⌜ Fresh first (now pool) ⌝ }
     requires { ⌜ (first .records ≡ replicate 32 idle) × (length (now kept) ≤ 2000) ⌝ }
-    requires { ⌜ Named (length (now forms)) (now kept) ⌝ }
+    requires { ⌜ FormNumbers (length (now forms)) (now kept) ⌝ }
     requires { ⌜ 67 ≤ length (now out) ⌝ }
     ensures { λ r. ⌜ Appended (now (out .entry)) (now (out .exit)) 0 r (asked18 (first, now (pool .entry)) (map (actAt (now (forms .entry))) (now (kept .entry))) (namedCall task n (history «machine» (first, now (pool .entry)) (map (actAt (now (forms .entry))) (now (kept .entry)))))) ⌝ }
 {

@@ -12,7 +12,7 @@ ghost use Prim.Native.Nat.{_≤_};
 ghost use lib.ListN.{length};
 ghost use Rattle.nudge_text.specs.Nudge.{nudgeText};
 ghost use Rattle.session_file.specs.Session.{verdict};
-ghost use Rattle.starts.specs.Start.{startAt, startOf, toolStart, Ready};
+ghost use Rattle.starts.specs.Start.{startAt, startOf, toolStart, Startable};
 ghost use Rattle.text.specs.Append.{Appended};
 
 // What follows from the opening.
@@ -26,7 +26,7 @@ fn print_started(
     task: u32,
     n: u32,
 ) -> usize
-    requires { ⌜ Ready opening first (now forms) (now kept) (now pool) ⌝ }
+    requires { ⌜ Startable opening first (now forms) (now kept) (now pool) ⌝ }
     requires { ⌜ 67 ≤ length (now out) ⌝ }
     ensures { λ r. ⌜ Appended (now (out .entry)) (now (out .exit)) 0 r (toolStart (nudgeText task n) (startAt opening first (now (forms .entry)) (now (kept .entry)) (now (pool .entry)))) ⌝ }
 {

@@ -6,9 +6,9 @@ use Prim.Native.String.{String}
 use Rattle.history.specs.Basics.{upd}
 use Rattle.text.specs.Bytes.{bytes, digits}
 use Rattle.text.specs.Lines.{numbers}
-use Rattle.text.specs.Readers.{word, digitsAfter, number, several}
+use Rattle.text.specs.Readers.{literal, digitsAfter, number, several}
 use Rattle.questions.specs.Questions.{fit, recordFit, cellsFit, recordsFit, uses, countsTrue, hasNone, openQuestions}
-use Rattle.blocks.specs.Blocks.{found}
+use Rattle.blocks.specs.Blocks.{firstUnused}
 use Rattle.cells.specs.Open.{opened}
 use Rattle.cells.specs.Counts.{recounted}
 use Rattle.cells.specs.Begin.{readBegun, swapBegun}
@@ -19,12 +19,12 @@ use Rattle.session_text.specs.Tools.{toolAfterOpen, toolPrinted}
 use Rattle.nudge_text.specs.Nudge.{earliest, nudge, nudged}
 
 -- of task t's call with n finished before it, in the session s: r is printed
-abbrev pub Prints : List ((ℕ × ℕ) × (String × String)) → Type 0
-Prints [] = Unit {0}
-Prints (((t, n), (s, r)) ∷ l) = (nudged t n (bytes s) ≡ bytes r) × Prints l
+abbrev pub PrintsNudges : List ((ℕ × ℕ) × (String × String)) → Type 0
+PrintsNudges [] = Unit {0}
+PrintsNudges (((t, n), (s, r)) ∷ l) = (nudged t n (bytes s) ≡ bytes r) × PrintsNudges l
 
 prints :
-    Prints (
+    PrintsNudges (
     -- answers otherwise: at action 10 the read loads V, at 11 the swap stores it
     ((1, 0), ("(open 2 1 5 (5))\n(swap 0 0 5 9)\n(again 7 (step 0))\n(read 1 0)\n(again 2 (step 1))\n(step 0)\n(step 1)\n", "(nudge 10)\n")) ∷
     -- the earliest: exchange 16 too has the read answer 7, because the block is then inactive, and decided
@@ -50,5 +50,5 @@ prints :
     ((1, 0), ("(open 2 1 3 (5))", "(bad 13)\n")) ∷
     []
     )
-unfolding digits word digitsAfter number fit recordFit cellsFit recordsFit hasNone openQuestions uses countsTrue found recounted opened readBegun swapBegun ran stepped fits deeper shapedAfter several reader.manyWithin reader.values reader.opening reader.keyword reader.head reader.body reader.form reader.line reader.count reader.times reader.actions reader.asked14 reader.formed reader.verdict numbers upd earliest nudge toolAfterOpen toolPrinted reader.asked15
+unfolding digits literal digitsAfter number fit recordFit cellsFit recordsFit hasNone openQuestions uses countsTrue firstUnused recounted opened readBegun swapBegun ran stepped fits deeper shapedAfter several reader.manyWithin reader.values reader.readOpening reader.keyword reader.head reader.body reader.form reader.readLine reader.count reader.times reader.actions reader.asked14 reader.formed reader.verdict numbers upd earliest nudge toolAfterOpen toolPrinted reader.asked15
 prints = (refl, (refl, (refl, (refl, (refl, (refl, (refl, (refl, (refl, (refl, (refl, (refl, (refl, tt)))))))))))))

@@ -3,5 +3,5 @@ use Rattle.consensus.specs.declared.OnceCell.{OnceCell}
 use Rattle.consensus.specs.declared.Offer.{Offer}
 use Rattle.consensus.specs.Figure.{Given, Leaves}
 
-abbrev pub leftBy : OnceCell → Offer → Given → Leaves
-leftBy m r g = record { cell = m; offer = r; gives = g }
+abbrev pub leavesOf : OnceCell → Offer → Given → Leaves
+leavesOf m r g = record { cell = m; offer = r; gives = g }

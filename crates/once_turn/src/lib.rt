@@ -1,8 +1,8 @@
 // A busy task's next step on its cell, given the offer and the cell only, so that nothing copies the state.
 ghost use mathlib.Core.Path.{_≡_};
 ghost use Prim.Native.Nat.{ℕ, _≤_};
-ghost use Rattle.consensus.specs.Figure.{idleOffer, given, stageOf, goOn, agree, does, withStep, leaves};
-ghost use Rattle.once_turn.specs.Turns.{leftBy};
+ghost use Rattle.consensus.specs.Figure.{idleOffer, given, stageOf, goOn, agree, stageDoes, withStep, leaves};
+ghost use Rattle.once_turn.specs.Turns.{leavesOf};
 use consensus::Agreement;
 use consensus::Offer;
 use consensus::OnceCell;
@@ -23,28 +23,28 @@ pub fn idle() -> Offer
 }
 
 // What a step leaves, and what it answers.
-pub struct Turn {
+pub struct OnceTurn {
     pub cell: OnceCell,
     pub offer: Offer,
     pub progress: Progress,
 }
 
-fn go_on(m: OnceCell, mut r: Offer, line: u32) -> Turn
-    ensures { λ n. ⌜ leftBy (n .cell) (n .offer) (given (n .progress)) ≡ goOn m r line (r .value) ⌝ }
+fn go_on(m: OnceCell, mut r: Offer, line: u32) -> OnceTurn
+    ensures { λ n. ⌜ leavesOf (n .cell) (n .offer) (given (n .progress)) ≡ goOn m r line (r .value) ⌝ }
 {
     r.line = line;
-    Turn {
+    OnceTurn {
         cell: m,
         offer: r,
         progress: Progress::Proceeds,
     }
 }
 
-fn agree(m: OnceCell, r: Offer, value: u32) -> Turn
-    ensures { λ n. ⌜ leftBy (n .cell) (n .offer) (given (n .progress)) ≡ agree m r value ⌝ }
+fn agree(m: OnceCell, r: Offer, value: u32) -> OnceTurn
+    ensures { λ n. ⌜ leavesOf (n .cell) (n .offer) (given (n .progress)) ≡ agree m r value ⌝ }
 {
     let hard = if r.tried { 1 } else { 0 };
-    Turn {
+    OnceTurn {
         cell: m,
         offer: idle(),
         progress: Progress::Agreed(Agreement {
@@ -66,9 +66,9 @@ fn with_step(mut r: Offer) -> Offer
     r
 }
 
-pub fn take_turn(task: u32, r: Offer, m: OnceCell) -> Turn
+pub fn take_turn(task: u32, r: Offer, m: OnceCell) -> OnceTurn
     requires { ⌜ r .steps ≤ 9 ⌝ }
-    ensures { λ n. ⌜ leftBy (n .cell) (n .offer) (given (n .progress)) ≡ leaves task r m ⌝ }
+    ensures { λ n. ⌜ leavesOf (n .cell) (n .offer) (given (n .progress)) ≡ leaves task r m ⌝ }
 {
     let q = with_step(r);
     let line = r.line;
@@ -84,9 +84,9 @@ pub fn take_turn(task: u32, r: Offer, m: OnceCell) -> Turn
 // The offers below have counted the step.
 
 // Whoever finds Y false and then its own number in X wins.
-fn split(task: u32, r: Offer, mut m: OnceCell) -> Turn
+fn split(task: u32, r: Offer, mut m: OnceCell) -> OnceTurn
     requires { ⌜ (1 ≤ r .line) × (r .line ≤ 4) ⌝ }
-    ensures { λ n. ⌜ leftBy (n .cell) (n .offer) (given (n .progress)) ≡ does (stageOf r) task r m ⌝ }
+    ensures { λ n. ⌜ leavesOf (n .cell) (n .offer) (given (n .progress)) ≡ stageDoes (stageOf r) task r m ⌝ }
 {
     let line = r.line;
     match line {
@@ -116,9 +116,9 @@ fn split(task: u32, r: Offer, mut m: OnceCell) -> Turn
 }
 
 // Decides alone, unless it finds contention.
-fn win(r: Offer, mut m: OnceCell) -> Turn
+fn win(r: Offer, mut m: OnceCell) -> OnceTurn
     requires { ⌜ (5 ≤ r .line) × (r .line ≤ 7) ⌝ }
-    ensures { λ n. ⌜ ((p : ℕ) → leftBy (n .cell) (n .offer) (given (n .progress)) ≡ does (stageOf r) p r m) ⌝ }
+    ensures { λ n. ⌜ ((p : ℕ) → leavesOf (n .cell) (n .offer) (given (n .progress)) ≡ stageDoes (stageOf r) p r m) ⌝ }
 {
     let line = r.line;
     match line {
@@ -141,9 +141,9 @@ fn win(r: Offer, mut m: OnceCell) -> Turn
 }
 
 // Says that there is contention, and takes over the winner's value where it stands.
-fn lose(mut r: Offer, mut m: OnceCell) -> Turn
+fn lose(mut r: Offer, mut m: OnceCell) -> OnceTurn
     requires { ⌜ (8 ≤ r .line) × (r .line ≤ 10) ⌝ }
-    ensures { λ n. ⌜ ((p : ℕ) → leftBy (n .cell) (n .offer) (given (n .progress)) ≡ does (stageOf r) p r m) ⌝ }
+    ensures { λ n. ⌜ ((p : ℕ) → leavesOf (n .cell) (n .offer) (given (n .progress)) ≡ stageDoes (stageOf r) p r m) ⌝ }
 {
     let line = r.line;
     match line {
@@ -166,9 +166,9 @@ fn lose(mut r: Offer, mut m: OnceCell) -> Turn
 }
 
 // Answers D, which the hardware CAS sets where it is none.
-fn decide(r: Offer, mut m: OnceCell) -> Turn
+fn decide(r: Offer, mut m: OnceCell) -> OnceTurn
     requires { ⌜ (11 ≤ r .line) × (r .line ≤ 13) ⌝ }
-    ensures { λ n. ⌜ ((p : ℕ) → leftBy (n .cell) (n .offer) (given (n .progress)) ≡ does (stageOf r) p r m) ⌝ }
+    ensures { λ n. ⌜ ((p : ℕ) → leavesOf (n .cell) (n .offer) (given (n .progress)) ≡ stageDoes (stageOf r) p r m) ⌝ }
 {
     let line = r.line;
     match line {

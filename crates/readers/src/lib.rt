@@ -1,14 +1,14 @@
 // A word read at a place of a lent buffer.
 ghost use Prim.Native.Nat.{_≤_};
 ghost use lib.ListN.{length};
-ghost use Rattle.text.specs.Readers.{word as «wordOf»};
+ghost use Rattle.text.specs.Readers.{literal};
 ghost use Rattle.text.specs.Answers.{PlaceIs};
 use text::Place;
 
 // The place after a word, if it stands at `at`.
 pub fn starts_with(s: &[u8], at: usize, word: &[u8]) -> Place
     requires { ⌜ at ≤ length (now s) ⌝ }
-    ensures { λ r. ⌜ PlaceIs («wordOf» (now (word .entry))) (now (s .entry)) at (length (now (word .entry))) r ⌝ }
+    ensures { λ r. ⌜ PlaceIs (literal (now (word .entry))) (now (s .entry)) at (length (now (word .entry))) r ⌝ }
 {
     let mut i = at;
     let mut j = 0;

@@ -3,7 +3,7 @@ ghost use mathlib.Core.Path.{_≡_};
 ghost use mathlib.Core.Bool.{true, cond};
 ghost use lib.ListN.{getD};
 ghost use Prim.Native.Nat.{_<_};
-ghost use Rattle.cells.specs.Counts.{less, released, renamed, recounted, Names, Named, Countable};
+ghost use Rattle.cells.specs.Counts.{less, released, renamed, recounted, MayRename, Named, Countable};
 use counting::claim;
 use counting::count;
 use counting::is_holding;
@@ -36,7 +36,7 @@ fn release(counts: &mut [u8; 128], r: Record)
 }
 
 fn rename(counts: &mut [u8; 128], c: u32, d: u32)
-    requires { ⌜ Names (now counts) c d ⌝ }
+    requires { ⌜ MayRename (now counts) c d ⌝ }
     ensures { λ _. ⌜ now (counts .exit) ≡ renamed (now (counts .entry)) c d ⌝ }
 {
     if c != d {

@@ -4,7 +4,7 @@ use mathlib.Core.List.{List, [], _∷_, _++_}
 use Prim.Native.Nat.{ℕ, _+_}
 use lib.ListN.{replicate}
 use Rattle.questions.specs.Questions.{hasNone, openQuestions, recordFit, cellsFit, recordsFit, uses, countsTrue, fit}
-use Rattle.blocks.specs.Blocks.{found}
+use Rattle.blocks.specs.Blocks.{firstUnused}
 use Rattle.lines.specs.Record.{idle}
 use Rattle.history.specs.History.{swap, Action, begin, step, run}
 use Rattle.cells.specs.Open.{opened}
@@ -40,10 +40,10 @@ examples :
     -- block 0 is taken again: its new life
     (rounds, 0) ∷
     (rounds ++ collision 8 8 6, 1) ∷ [])
-unfolding opened openQuestions hasNone fit recordFit cellsFit recordsFit uses countsTrue found recounted swapBegun ran stepped
+unfolding opened openQuestions hasNone fit recordFit cellsFit recordsFit uses countsTrue firstUnused recounted swapBegun ran stepped
 examples = (refl, (refl, (refl, (refl, tt))))
 
 -- and is the cell's once more
 again : current (run pool first rounds .0) 0 ≡ 0
-unfolding opened openQuestions hasNone fit recordFit cellsFit recordsFit uses countsTrue found recounted swapBegun ran stepped
+unfolding opened openQuestions hasNone fit recordFit cellsFit recordsFit uses countsTrue firstUnused recounted swapBegun ran stepped
 again = refl

@@ -13,7 +13,7 @@ use Rattle.pool.specs.Pool.{word}
 use Rattle.pool.specs.Memory.{Shared, poolKeeping}
 use Rattle.lines.proofs.Cas.{decide-value, install-value}
 use Rattle.blocks.specs.Blocks.{unused}
-use Rattle.cells.specs.Step.{current, stepAsks, answers}
+use Rattle.cells.specs.Step.{current, stepAsks, memoryAnswers}
 use Rattle.cells.specs.Machine.{triedBy}
 use Rattle.cells.proofs.Stepping.{own-acting}
 use Rattle.history.specs.History.{step}
@@ -27,5 +27,5 @@ pub cell-attempts-judged : (state : State) (words : List ℕ) (task : ℕ) → r
 cell-attempts-judged s p t g =
     let r = recordAt (s .records) t in
     let m : Shared = record { words = p; named = current s (r .cell); last = s .last } in
-    judge (recordAt (s .records)) (current s) (λ k. word p) t (answers s p r) (own-acting s p t g .line)
+    judge (recordAt (s .records)) (current s) (λ k. word p) t (memoryAnswers s p r) (own-acting s p t g .line)
     (decide-value (poolKeeping (unused s)) m (λ a. a .value) (λ x v. refl)) (install-value (poolKeeping (unused s)) m (λ a. a .value) (λ x v. refl))

@@ -9,7 +9,7 @@ use lib.ListN.{length, length-append}
 use Rattle.history.specs.History.{read, swap, Action, begin, step}
 use Rattle.text.specs.Bytes.{bytes}
 use Rattle.text.specs.Lines.{numbers as spaced}
-use Rattle.text.specs.Readers.{Reader, _>>_, word, isDigit}
+use Rattle.text.specs.Readers.{Reader, _>>_, literal, isDigit}
 use Rattle.text.proofs.ReadBack.{startsDigit}
 use Rattle.session_file.specs.Session.{Form, act, again, Forms, empty, with, space, close, manyWithin, keyword, head, body, list, form}
 use Rattle.session_file.specs.Written.{actionStart, written, writtenForms}
@@ -42,7 +42,7 @@ forms-room (with l f) = omega (arith, forms-room l, length-append (writtenForms 
 
 module _ (one : Reader Form) (P : Form → Type 0) (back : (f : Form) (s : List ℕ) → P f → one (written f ++ s) ≡ some (f, s)) where
   one-more : (l : Forms) (f : Form) (s : List ℕ) (k : ℕ) → P f → manyWithin with (space >> one) close (suc k) l (32 ∷ (written f ++ s)) ≡ manyWithin with (space >> one) close k (with l f) s
-  unfolding manyWithin word
+  unfolding manyWithin literal
   one-more l f s k h = rw (back f s h)
 
   forms-back : (l : Forms) (s : List ℕ) (k : ℕ) → Each P l → manyWithin with (space >> one) close (size l + k) empty (writtenForms l ++ s) ≡ manyWithin with (space >> one) close k l s
@@ -52,7 +52,7 @@ module _ (one : Reader Form) (P : Form → Type 0) (back : (f : Form) (s : List 
       rw (last-form l f s, e) (forms-back l (32 ∷ (written f ++ s)) (suc k) (h .0) ∙ one-more l f s k (h .1))
 
   pub list-back : (l : Forms) (s : List ℕ) → Each P l → list one (writtenForms l ++ (41 ∷ s)) ≡ some (l, s)
-  unfolding manyWithin word
+  unfolding manyWithin literal
   list-back l s h =
       let t = writtenForms l ++ (41 ∷ s) in
       let e : suc (length t) ≡ size l + suc (length t - size l) = omega (arith, forms-room l, length-append (writtenForms l) (41 ∷ s)) in
@@ -61,7 +61,7 @@ module _ (one : Reader Form) (P : Form → Type 0) (back : (f : Form) (s : List 
 -- A FORM
 
 action-back : (d : ℕ) (a : Action) (s : List ℕ) → Small (numbersOf a) → form (suc d) ((actionStart a ++ bytes ")") ++ s) ≡ some (act a, s)
-unfolding form head body keyword word
+unfolding form head body keyword literal
 action-back d (begin t (read k)) s h = rw (append-assoc (spaced (t ∷ k ∷ [])) (bytes ")") s, numbers-back (t ∷ k ∷ []) (41 ∷ s) h refl)
 action-back d (begin t (swap k e n)) s h = rw (append-assoc (spaced (t ∷ k ∷ e ∷ n ∷ [])) (bytes ")") s, numbers-back (t ∷ k ∷ e ∷ n ∷ []) (41 ∷ s) h refl)
 action-back d (step t) s h = rw (append-assoc (spaced (t ∷ [])) (bytes ")") s, numbers-back (t ∷ []) (41 ∷ s) h refl)
@@ -70,7 +70,7 @@ parts : (a b c s : List ℕ) → (a ++ b) ++ c ++ s ≡ a ++ (b ++ (c ++ s))
 parts a b c s = append-assoc (a ++ b) c s ∙ append-assoc a b (c ++ s)
 
 again-back : (d c : ℕ) (l : Forms) (s : List ℕ) → c ≤ 4294967295 → list (form d) (writtenForms l ++ (41 ∷ s)) ≡ some (l, s) → form (suc d) (written (again c l) ++ s) ≡ some (again c l, s)
-unfolding form head body keyword word written
+unfolding form head body keyword literal written
 again-back d c l s h e = rw (parts (spaced (c ∷ [])) (writtenForms l) (bytes ")") s, numbers-back (c ∷ []) (writtenForms l ++ (41 ∷ s)) (h, tt) (forms-apart l 41 s refl), e)
 
 pub form-back : (d : ℕ) (f : Form) (s : List ℕ) → Proper d f → form d (written f ++ s) ≡ some (f, s)

@@ -8,8 +8,8 @@ use native.Mathlib.Omega.{arith}
 use lib.ListN.{length, length-append}
 use Rattle.history.specs.History.{Action}
 use Rattle.text.specs.Bytes.{bytes}
-use Rattle.text.specs.Readers.{word}
-use Rattle.session_file.specs.Session.{Opening, Form, act, again, Forms, empty, with, manyWithin, keyword, head, form, line, finish, lines, times, count, counts, actions, actionsOf, formed}
+use Rattle.text.specs.Readers.{literal}
+use Rattle.session_file.specs.Session.{Opening, Form, act, again, Forms, empty, with, manyWithin, keyword, head, form, readLine, finish, lines, times, count, counts, actions, actionsOf, formed}
 use Rattle.session_file.specs.Written.{written, formLine, formLines, fileText}
 use Rattle.session_file.specs.Proper.{Proper, ProperLines, ProperOpening, actionsIn}
 use Rattle.session_file.proofs.FormsBack.{form-back}
@@ -17,13 +17,13 @@ use Rattle.session_file.proofs.OpeningBack.{opening-back}
 
 -- LINES
 
-line-back : (f : Form) (s : List ℕ) → Proper 8 f → line (formLine f ++ s) ≡ some (f, s)
-unfolding line word
+line-back : (f : Form) (s : List ℕ) → Proper 8 f → readLine (formLine f ++ s) ≡ some (f, s)
+unfolding readLine literal
 line-back f s h = rw (append-assoc (written f) (bytes "\n") s, form-back 8 f (10 ∷ s) h)
 
 -- where a line stands, the file does not end
-not-finish : (s : List ℕ) {f : Form} {t : List ℕ} → line s ≡ some (f, t) → finish s ≡ none
-unfolding line form head keyword word
+not-finish : (s : List ℕ) {f : Form} {t : List ℕ} → readLine s ≡ some (f, t) → finish s ≡ none
+unfolding readLine form head keyword literal
 not-finish [] {f} {t} e = absurd (none-some e)
   where
     none-some : _≡_ {A = Option (Form × List ℕ)} none (some (f, t)) → ⊥
@@ -35,7 +35,7 @@ abbrev pub adds : Forms → List Form → Forms
 adds a [] = a
 adds a (f ∷ l) = adds (with a f) l
 
-lines-from : (l : List Form) (a : Forms) (k : ℕ) → ProperLines l → manyWithin with line finish (length l + suc k) a (formLines l) ≡ some (adds a l, [])
+lines-from : (l : List Form) (a : Forms) (k : ℕ) → ProperLines l → manyWithin with readLine finish (length l + suc k) a (formLines l) ≡ some (adds a l, [])
 unfolding manyWithin formLines ProperLines
 lines-from [] a k h = let e : length {A = Form} [] + suc k ≡ suc k = omega arith in rw e
 lines-from (f ∷ l) a k h =
@@ -52,7 +52,7 @@ pub lines-back : (l : List Form) → ProperLines l → lines (formLines l) ≡ s
 lines-back l h =
     let t = formLines l in
     let e : suc (length t) ≡ length l + suc (length t - length l) = omega (arith, lines-room l) in
-    ap (λ (k : ℕ). manyWithin with line finish k empty t) e ∙ lines-from l empty (length t - length l) h
+    ap (λ (k : ℕ). manyWithin with readLine finish k empty t) e ∙ lines-from l empty (length t - length l) h
 
 pub formed-back : (o : Opening) (l : List Form) → ProperOpening o → ProperLines l → formed (fileText o l) ≡ some ((o, adds empty l), [])
 unfolding formed fileText

@@ -8,9 +8,9 @@ use native.Mathlib.Omega.{arith}
 use lib.ListN.{length, length-append}
 use Rattle.text.specs.Bytes.{decimal}
 use Rattle.text.specs.Lines.{numbers as spaced}
-use Rattle.text.specs.Readers.{word, several}
+use Rattle.text.specs.Readers.{literal, several}
 use Rattle.text.proofs.ReadBack.{startsDigit, number-back}
-use Rattle.session_file.specs.Session.{close, item, numbers, manyWithin, snoc}
+use Rattle.session_file.specs.Session.{close, item, severalItems, manyWithin, snoc}
 use Rattle.session_file.specs.Proper.{Small}
 
 -- a space is no digit
@@ -20,11 +20,11 @@ numbers-apart [] s e = e
 numbers-apart (n ∷ l) s e = refl
 
 item-back : (n : ℕ) (s : List ℕ) → n ≤ 4294967295 → startsDigit s ≡ false → item (32 ∷ (decimal n ++ s)) ≡ some (n, s)
-unfolding word
+unfolding literal
 item-back n s h e = number-back n s h e
 
 -- as many numbers as are asked for
-pub numbers-back : (l s : List ℕ) → Small l → startsDigit s ≡ false → numbers (length l) (spaced l ++ s) ≡ some (l, s)
+pub numbers-back : (l s : List ℕ) → Small l → startsDigit s ≡ false → severalItems (length l) (spaced l ++ s) ≡ some (l, s)
 unfolding several spaced
 numbers-back [] s h e = refl
 numbers-back (n ∷ l) s h e =
@@ -33,7 +33,7 @@ numbers-back (n ∷ l) s h e =
 -- numbers, added to those before
 module _ (n : ℕ) (a s : List ℕ) (k : ℕ) where
   one-back : n ≤ 4294967295 → startsDigit s ≡ false → manyWithin snoc item close (suc k) a (32 ∷ (decimal n ++ s)) ≡ manyWithin snoc item close k (snoc a n) s
-  unfolding manyWithin word
+  unfolding manyWithin literal
   one-back h e = rw (number-back n s h e)
 
 pub items-back : (l a s : List ℕ) (k : ℕ) → Small l → startsDigit s ≡ false → manyWithin snoc item close (length l + k) a (spaced l ++ s) ≡ manyWithin snoc item close k (a ++ l) s

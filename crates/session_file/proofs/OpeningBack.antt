@@ -10,16 +10,16 @@ use lib.Dec.{eqb}
 use lib.ListN.{length, length-append}
 use Rattle.text.specs.Bytes.{bytes, decimal}
 use Rattle.text.specs.Lines.{numbers as spaced}
-use Rattle.text.specs.Readers.{word, number}
+use Rattle.text.specs.Readers.{literal, number}
 use Rattle.text.proofs.ReadBack.{number-back}
-use Rattle.session_file.specs.Session.{Opening, close, item, manyWithin, many, snoc, values, opening}
+use Rattle.session_file.specs.Session.{Opening, close, item, manyWithin, many, snoc, values, readOpening}
 use Rattle.session_file.specs.Written.{writtenValues, openingLine}
 use Rattle.session_file.specs.Proper.{Small, ProperOpening}
 use Rattle.session_file.proofs.NumbersBack.{numbers-apart, numbers-back, items-back, items-room}
 
 -- where a number stands, no bracket does
-not-close : (s : List ℕ) {n : ℕ} {t : List ℕ} → number s ≡ some (n, t) → word (bytes ")") s ≡ none
-unfolding number word
+not-close : (s : List ℕ) {n : ℕ} {t : List ℕ} → number s ≡ some (n, t) → literal (bytes ")") s ≡ none
+unfolding number literal
 not-close [] e = refl
 not-close (d ∷ s) {n} {t} e = go (eqb d 41) refl
   where
@@ -32,14 +32,14 @@ not-close (d ∷ s) {n} {t} e = go (eqb d 41) refl
 
 -- values up to their bracket
 more-values : (l a s : List ℕ) → Small l → many snoc item close a (spaced l ++ (41 ∷ s)) ≡ some (a ++ l, s)
-unfolding manyWithin word
+unfolding manyWithin literal
 more-values l a s h =
     let t = spaced l ++ (41 ∷ s) in
     let e : suc (length t) ≡ length l + suc (length t - length l) = omega (arith, items-room l, length-append (spaced l) (41 ∷ s)) in
     ap (λ (k : ℕ). manyWithin snoc item close k a t) e ∙ items-back l a (41 ∷ s) (suc (length t - length l)) h refl
 
 values-back : (l s : List ℕ) → Small l → values (writtenValues l ++ (41 ∷ s)) ≡ some (l, s)
-unfolding values writtenValues word
+unfolding values writtenValues literal
 values-back [] s h = refl
 values-back (v ∷ l) s h =
     let e = number-back v (spaced l ++ (41 ∷ s)) (h .0) (numbers-apart l (41 ∷ s) refl) in
@@ -48,8 +48,8 @@ values-back (v ∷ l) s h =
 pub parts : (a b c d e : List ℕ) → ((a ++ b) ++ c) ++ d ++ e ≡ a ++ (b ++ (c ++ (d ++ e)))
 parts a b c d e = append-assoc (a ++ b ++ c) d e ∙ append-assoc (a ++ b) c (d ++ e) ∙ append-assoc a b (c ++ (d ++ e))
 
-pub opening-back : (o : Opening) (s : List ℕ) → ProperOpening o → opening (openingLine o ++ s) ≡ some (o, s)
-unfolding opening openingLine word
+pub opening-back : (o : Opening) (s : List ℕ) → ProperOpening o → readOpening (openingLine o ++ s) ≡ some (o, s)
+unfolding readOpening openingLine literal
 opening-back o s h =
     let three = o .tasks ∷ o .cells ∷ o .blocks ∷ [] in
     let rest : List ℕ = 41 ∷ 41 ∷ 10 ∷ s in

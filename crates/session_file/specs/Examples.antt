@@ -7,10 +7,10 @@ use Prim.Native.String.{String}
 use lib.ListN.{length, replicate}
 use Rattle.text.specs.Bytes.{bytes, digits}
 use Rattle.text.specs.Lines.{numbers as spaced}
-use Rattle.text.specs.Readers.{word, digitsAfter, number, several}
+use Rattle.text.specs.Readers.{literal, digitsAfter, number, several}
 use Rattle.history.specs.History.{read, swap, Action, begin, step}
 use Rattle.session_shape.specs.Shape.{fits, deeper, shapedAfter}
-use Rattle.session_file.specs.Session.{Form, act, again, empty, with, Verdict, bad, session, short, numbers, manyWithin, values, opening, keyword, head, body, form, line, count, times, actions, formed, asked15, asked14, verdict}
+use Rattle.session_file.specs.Session.{Form, act, again, empty, with, Verdict, bad, session, short, severalItems, manyWithin, values, readOpening, keyword, head, body, form, readLine, count, times, actions, formed, asked15, asked14, verdict}
 use Rattle.session_file.specs.Written.{written, writtenValues, openingLine, formLines, fileText}
 
 -- P1: its opening and 15 actions
@@ -18,7 +18,7 @@ p1 :
     verdict (bytes "(open 2 1 5 (5))\n(swap 0 0 5 7)\n(again 10 (step 0))\n(read 1 0)\n(again 3 (step 1))\n")
     ≡ session (record { tasks = 2; cells = 1; blocks = 5; values = 5 ∷ [] })
     ((begin 0 (swap 0 5 7) ∷ replicate 10 (step 0)) ++ (begin 1 (read 0) ∷ replicate 3 (step 1)))
-unfolding word digitsAfter number fits deeper shapedAfter several manyWithin values opening keyword head body form line count times actions formed asked15 asked14 verdict
+unfolding literal digitsAfter number fits deeper shapedAfter several manyWithin values readOpening keyword head body form readLine count times actions formed asked15 asked14 verdict
 p1 = refl
 
 -- the same file, written
@@ -78,12 +78,12 @@ judged :
     ("(again 4294967295 (again 4294967295))\n", plays []) ∷
     []
     )
-unfolding word digitsAfter number fits deeper shapedAfter several manyWithin values opening keyword head body form line count times actions formed asked15 asked14 verdict
+unfolding literal digitsAfter number fits deeper shapedAfter several manyWithin values readOpening keyword head body form readLine count times actions formed asked15 asked14 verdict
 judged = (refl, (refl, (refl, (refl, (refl, (refl, (refl, (refl, (refl, (refl, (refl, (refl, (refl, (refl, (refl, (refl, (refl, (refl, tt))))))))))))))))))
 
 -- an empty file has no open
 none-open : verdict [] ≡ bad 14
-unfolding shapedAfter opening word formed asked15 asked14 verdict
+unfolding shapedAfter readOpening literal formed asked15 asked14 verdict
 none-open = refl
 
 -- a file of 65,536 bytes is short enough, and one of 65,537 is not, whatever they are

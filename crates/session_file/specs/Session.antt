@@ -8,7 +8,7 @@ use lib.ListN.{length, getD}
 use Rattle.history.specs.History.{read, swap, Action, begin, step}
 use Rattle.session_shape.specs.Shape.{shaped}
 use Rattle.text.specs.Bytes.{bytes}
-use Rattle.text.specs.Readers.{Reader, pure, either, _>>=_, _>>_, word, number, several}
+use Rattle.text.specs.Readers.{Reader, pure, either, _>>=_, _>>_, literal, number, several}
 
 pub record Opening : Type 0 where
   pub tasks : ℕ
@@ -30,17 +30,17 @@ short s = leb (length s) 65536
 -- zeros, and open first and only there?
 
 abbrev pub space : Reader (Unit {0})
-space = word (bytes " ")
+space = literal (bytes " ")
 
 abbrev pub close : Reader (Unit {0})
-close = word (bytes ")")
+close = literal (bytes ")")
 
 -- a number after a space, and k of them
 abbrev pub item : Reader ℕ
 item = space >> number
 
-abbrev pub numbers : ℕ → Reader (List ℕ)
-numbers = several item
+abbrev pub severalItems : ℕ → Reader (List ℕ)
+severalItems = several item
 
 module _ {A B : Type 0} (add : B → A → B) (each : Reader A) (end : Reader (Unit {0})) where
   -- items up to what ends them, added to those before; fuel bounds how many
@@ -63,13 +63,13 @@ values s =
     ((number >>= λ v. many snoc item close (v ∷ [])) s)
 
 -- (open N V B (values)) and its line's end
-unfoldable pub opening : Reader Opening
-opening = do
-  word (bytes "(open")
-  n ← numbers 3
-  word (bytes " (")
+unfoldable pub readOpening : Reader Opening
+readOpening = do
+  literal (bytes "(open")
+  n ← severalItems 3
+  literal (bytes " (")
   v ← values
-  word (bytes ")\n")
+  literal (bytes ")\n")
   pure (record { tasks = getD n 0 0; cells = getD n 1 0; blocks = getD n 2 0; values = v })
 
 -- the other forms, each a word, its numbers and, of again, forms
@@ -80,7 +80,7 @@ pub data FormKind : Type 0 where
   repeating : FormKind
 
 abbrev pub means : List ℕ → FormKind → Reader FormKind
-means w k = word w >> pure k
+means w k = literal w >> pure k
 
 unfoldable pub keyword : Reader FormKind
 keyword s =
@@ -99,7 +99,7 @@ arity repeating = 1
 unfoldable pub head : Reader (FormKind × List ℕ)
 head = do
   k ← keyword
-  n ← numbers (arity k)
+  n ← severalItems (arity k)
   pure (k, n)
 
 mutual
@@ -128,10 +128,10 @@ form (suc d) = do
   (k, n) ← head
   body (list (form d)) k n
 
-unfoldable pub line : Reader Form
-line = do
+unfoldable pub readLine : Reader Form
+readLine = do
   f ← form 8
-  word (bytes "\n")
+  literal (bytes "\n")
   pure f
 
 abbrev pub finish : Reader (Unit {0})
@@ -139,7 +139,7 @@ finish [] = some (tt, [])
 finish (b ∷ s) = none
 
 abbrev pub lines : Reader Forms
-lines = many with line finish empty
+lines = many with readLine finish empty
 
 -- 15. Are there at most 65,535 actions after repeating?
 
@@ -173,7 +173,7 @@ unfoldable mutual
 
 unfoldable pub formed : Reader (Opening × Forms)
 formed = do
-  o ← opening
+  o ← readOpening
   l ← lines
   pure (o, l)
 

@@ -10,8 +10,8 @@ ghost use mathlib.Core.List.{List};
 ghost use Prim.Native.Nat.{ℕ, _+_, _-_, _*_, _≤_, _<_};
 ghost use lib.ListN.{length, take, drop};
 ghost use Rattle.text.specs.Append.{Appended};
-ghost use Rattle.session_file.specs.Session.{times, form as «formOf», list as «listOf», line as «lineOf», lines as «linesOf»};
-ghost use Rattle.session_reading.specs.Answers.{KeywordIs, HeadIs, kept, Stands, KeptIs, Ready, ofForm, ofForms, GotIs, RestIs};
+ghost use Rattle.session_file.specs.Session.{times, form as «formOf», list as «listOf», readLine, lines as «linesOf»};
+ghost use Rattle.session_reading.specs.Answers.{KeywordIs, HeadIs, kept, Stands, KeptIs, HasRoom, ofForm, ofForms, GotIs, RestIs};
 
 fn keyword(s: &[u8], at: usize) -> Word
     requires { ⌜ at ≤ length (now s) ⌝ }
@@ -110,7 +110,7 @@ fn form(
     n: usize,
 ) -> Got
     requires { ⌜ depth ≤ 8 ⌝ }
-    requires { ⌜ Ready (now s) at (now forms) f (now actions) n ⌝ }
+    requires { ⌜ HasRoom (now s) at (now forms) f (now actions) n ⌝ }
     ensures { λ r. ⌜ GotIs ofForm («formOf» depth) (now (s .entry)) at 8 (now (forms .entry)) (now (forms .exit)) (now (actions .entry)) (now (actions .exit)) f n r ⌝ }
 {
     if depth == 0 {
@@ -154,7 +154,7 @@ fn list(
     n: usize,
 ) -> Got
     requires { ⌜ depth ≤ 8 ⌝ }
-    requires { ⌜ Ready (now s) at (now forms) f (now actions) n ⌝ }
+    requires { ⌜ HasRoom (now s) at (now forms) f (now actions) n ⌝ }
     ensures { λ r. ⌜ GotIs ofForms («listOf» («formOf» depth)) (now (s .entry)) at 1 (now (forms .entry)) (now (forms .exit)) (now (actions .entry)) (now (actions .exit)) f n r ⌝ }
 {
     let mut i = at;
@@ -183,8 +183,8 @@ fn list(
 
 // The line that starts at `at`: one form and byte 10.
 fn line(s: &[u8], at: usize, forms: &mut [u32], f: usize, actions: &mut [u32], n: usize) -> Got
-    requires { ⌜ Ready (now s) at (now forms) f (now actions) n ⌝ }
-    ensures { λ r. ⌜ GotIs ofForm «lineOf» (now (s .entry)) at 8 (now (forms .entry)) (now (forms .exit)) (now (actions .entry)) (now (actions .exit)) f n r ⌝ }
+    requires { ⌜ HasRoom (now s) at (now forms) f (now actions) n ⌝ }
+    ensures { λ r. ⌜ GotIs ofForm readLine (now (s .entry)) at 8 (now (forms .entry)) (now (forms .exit)) (now (actions .entry)) (now (actions .exit)) f n r ⌝ }
 {
     let got = form(s, at, 8, forms, f, actions, n);
     let Got::At(a, over, g, m) = got else {
@@ -199,7 +199,7 @@ fn line(s: &[u8], at: usize, forms: &mut [u32], f: usize, actions: &mut [u32], n
 
 // All lines from `at` on.
 fn all_lines(s: &[u8], at: usize, forms: &mut [u32], actions: &mut [u32]) -> Got
-    requires { ⌜ Ready (now s) at (now forms) 0 (now actions) 0 ⌝ }
+    requires { ⌜ HasRoom (now s) at (now forms) 0 (now actions) 0 ⌝ }
     ensures { λ r. ⌜ GotIs ofForms «linesOf» (now (s .entry)) at 0 (now (forms .entry)) (now (forms .exit)) (now (actions .entry)) (now (actions .exit)) 0 0 r ⌝ }
 {
     let mut i = at;
@@ -221,7 +221,7 @@ fn all_lines(s: &[u8], at: usize, forms: &mut [u32], actions: &mut [u32]) -> Got
 
 // All lines from `at` on: forms and actions are left in the buffers, or zeros.
 pub fn lines(s: &[u8], at: usize, forms: &mut [u32], actions: &mut [u32]) -> Rest
-    requires { ⌜ Ready (now s) at (now forms) 0 (now actions) 0 ⌝ }
+    requires { ⌜ HasRoom (now s) at (now forms) 0 (now actions) 0 ⌝ }
     ensures { λ r. ⌜ RestIs (now (s .entry)) at (now (forms .entry)) (now (forms .exit)) (now (actions .entry)) (now (actions .exit)) r ⌝ }
 {
     let got = all_lines(s, at, forms, actions);

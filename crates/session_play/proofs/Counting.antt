@@ -8,12 +8,12 @@ use Rattle.cells.specs.Answers.{Said, Refused, Acted, Ended}
 use Rattle.cells.specs.Events.{eventOf}
 use Rattle.cells.specs.Machine.{Pool, does, triedBy, pool}
 use Rattle.history.specs.History.{Action, taskOf, Attempt, untried, Event, refused, accepted, answered, history}
-use Rattle.session_text.specs.Lines.{Small}
+use Rattle.session_text.specs.Lines.{FewDigits}
 use Rattle.session_text.specs.Printed.{Totals, totals, addEvent, addEvents}
 use Rattle.session_play.specs.Loop.{Few}
 use Rattle.session_play.proofs.Outcomes.{small}
 
-few-of : (t : ℕ) (e : Event) → Small t e → Few e
+few-of : (t : ℕ) (e : Event) → FewDigits t e → Few e
 few-of t (refused n) h = tt
 few-of t (accepted x) h = tt
 few-of t (answered x r) h = omega (arith, h .3, h .4)

@@ -24,23 +24,23 @@ use Rattle.figure_cell.proofs.LineLaws.{every-line, Leads, goes, done as ends, 
 use Rattle.history.specs.History.{read, swap, Action, begin, step, taskOf, untried}
 use Rattle.cells.specs.Events.{eventOf}
 use Rattle.cells.specs.Machine.{does}
-use Rattle.session_text.specs.Lines.{Small}
+use Rattle.session_text.specs.Lines.{FewDigits}
 
 -- a line is at most one hardware CAS
 at-most-one : (t : ℕ) (r : Record) → hardware (accessOf t r) ≤ 1
 at-most-one t r = leb→le _ _ (every-line (λ l. leb (hardware (accessAt l t r)) 1) tt (lineOf r))
 
 module _ (t : ℕ) where
-  asked : (o : Option ℕ) (s : State) (p : List ℕ) (a : After) → (o ≡ none → Small t (eventOf untried (a .outcome))) → Small t (eventOf untried (unless o s p a .outcome))
+  asked : (o : Option ℕ) (s : State) (p : List ℕ) (a : After) → (o ≡ none → FewDigits t (eventOf untried (a .outcome))) → FewDigits t (eventOf untried (unless o s p a .outcome))
   asked none s p a h = h refl
   asked (some n) s p a h = tt
 
   -- what follows a line of a task whose cell and counts are small
-  ended : (m : Touched) (l : Line) (r : Record) (x : Next) → Leads l r x → t < 100 → r .cell < 100 → r .steps < 100 → r .won < 10 → r .lost < 10 → Small t (eventOf untried (ending m x .outcome))
+  ended : (m : Touched) (l : Line) (r : Record) (x : Next) → Leads l r x → t < 100 → r .cell < 100 → r .steps < 100 → r .won < 10 → r .lost < 10 → FewDigits t (eventOf untried (ending m x .outcome))
   ended m l r x (goes f) h i j k n = tt
   ended m l r x (ends f) h i j k n = (h, i, j, k, n)
 
-  turns : (p : List ℕ) (r : Record) (c l : ℕ) (f : Option ℕ) → lineFit r ≡ true → t < 100 → r .cell < 100 → r .steps ≤ 20 → r .won + r .lost ≤ 3 → Small t (eventOf untried (turn p t r c l f .outcome))
+  turns : (p : List ℕ) (r : Record) (c l : ℕ) (f : Option ℕ) → lineFit r ≡ true → t < 100 → r .cell < 100 → r .steps ≤ 20 → r .won + r .lost ≤ 3 → FewDigits t (eventOf untried (turn p t r c l f .outcome))
   turns p r c l f e h i j k =
       let m = performed p c l f (accessOf t r) in
       let x = attempt (accessOf t r) (m .value) in
@@ -48,7 +48,7 @@ module _ (t : ℕ) where
       let one = tries (accessOf t r) (m .value) in
       ended m (lineOf r) q (nextOf t r (m .value)) (leads (lineOf r) t q (m .value) refl e) h i (omega arith) (omega (arith, one, at-most-one t r)) (omega (arith, one, at-most-one t r))
 
-  steps : (s : State) (p : List ℕ) → Small t (eventOf untried (stepped s p t .outcome))
+  steps : (s : State) (p : List ℕ) → FewDigits t (eventOf untried (stepped s p t .outcome))
   unfolding stepped ran
   steps s p =
       let r = recordAt (s .records) t in
@@ -56,7 +56,7 @@ module _ (t : ℕ) where
       let a : Acting s p t r = own-acting s p t g in
       turns p r (current s (r .cell)) (s .last) (unused s) (a .line) (omega (arith, a .task)) (omega (arith, a .cell)) (a .ready .steps) (a .ready .hard))
 
-pub small : (s : State) (p : List ℕ) (a : Action) → Small (taskOf a) (eventOf untried (does s p a .outcome))
+pub small : (s : State) (p : List ℕ) (a : Action) → FewDigits (taskOf a) (eventOf untried (does s p a .outcome))
 unfolding readBegun swapBegun
 small s p (begin t (read k)) = asked t (refusal ((6, fit s p) ∷ beginQuestions (s .tasks) (s .cells) (recordAt (s .records) t) t k)) s p (started s p t (firstRead k)) (λ _. tt)
 small s p (begin t (swap k e n)) = asked t (refusal ((6, fit s p) ∷ swapQuestions (s .tasks) (s .cells) (recordAt (s .records) t) t k e n)) s p (started s p t (firstSwap k e n)) (λ _. tt)

@@ -14,7 +14,7 @@ ghost use Prim.Native.Nat.{_≤_};
 ghost use lib.ListN.{length};
 ghost use Rattle.text.specs.Append.{Appended};
 ghost use Rattle.session_file.specs.Session.{verdict};
-ghost use Rattle.starts.specs.Start.{startAt, startOf, Ready};
+ghost use Rattle.starts.specs.Start.{startAt, startOf, Startable};
 ghost use Rattle.session_play.specs.Loop.{startText};
 
 // What follows from the opening, on records of its own. What is left in the pool is open: it is the session's own.
@@ -26,7 +26,7 @@ fn print_started(
     forms: &[u32],
     kept: &[u32],
 ) -> usize
-    requires { ⌜ Ready opening first (now forms) (now kept) (now pool) ⌝ }
+    requires { ⌜ Startable opening first (now forms) (now kept) (now pool) ⌝ }
     requires { ⌜ 921000 ≤ length (now out) ⌝ }
     ensures { λ r. ⌜ Appended (now (out .entry)) (now (out .exit)) 0 r (startText (startAt opening first (now (forms .entry)) (now (kept .entry)) (now (pool .entry)))) ⌝ }
 {

@@ -14,11 +14,11 @@ ghost use Rattle.lines.specs.Record.{idle};
 ghost use Rattle.text.specs.Append.{Appended};
 ghost use Rattle.refinement.specs.Reached.{Reached};
 ghost use Rattle.session_reading.specs.Reading.{actAt};
-ghost use Rattle.session_reading.specs.Kept.{Named};
+ghost use Rattle.session_reading.specs.Kept.{FormNumbers};
 ghost use Rattle.cells.specs.Answers.{said, seen as «seenOf»};
 ghost use Rattle.cells.specs.Events.{eventOf};
 ghost use Rattle.history.specs.History.{untried};
-ghost use Rattle.session_text.specs.Lines.{eventLine, Small};
+ghost use Rattle.session_text.specs.Lines.{eventLine, FewDigits};
 ghost use Rattle.session_text.specs.Printed.{addEvent, lookLine, cellLines, pendingTasks, endText, played};
 ghost use Rattle.session_play.specs.Totals.{totalsOf};
 ghost use Rattle.session_play.specs.Loop.{Few};
@@ -33,7 +33,7 @@ pub struct Tally {
 fn report(out: &mut [u8], at: usize, i: u32, task: u32, outcome: Outcome) -> usize
     requires { ⌜ at + 78 ≤ length (now out) ⌝ }
     ensures { λ r. ⌜ Appended (now (out .entry)) (now (out .exit)) at r (eventLine i task (eventOf untried (said outcome))) ⌝ }
-    ensures { λ r. ⌜ (Small task (eventOf untried (said outcome)) → r ≤ at + 36) ⌝ }
+    ensures { λ r. ⌜ (FewDigits task (eventOf untried (said outcome)) → r ≤ at + 36) ⌝ }
 {
     match outcome {
         Outcome::Refused(n) => printing::put_no(out, at, i, n),
@@ -133,7 +133,7 @@ pub fn play(
     requires { ⌜ Reached tasks cells first (now pool) ⌝ }
     requires { ⌜ (now records ≡ replicate 384 0) × (first .records ≡ replicate 32 idle) ⌝ }
     requires { ⌜ length (now kept) ≤ 65535 ⌝ }
-    requires { ⌜ Named (length (now forms)) (now kept) ⌝ }
+    requires { ⌜ FormNumbers (length (now forms)) (now kept) ⌝ }
     requires { ⌜ 921000 ≤ length (now out) ⌝ }
     ensures { λ r. ⌜ Appended (now (out .entry)) (now (out .exit)) 0 r (played tasks cells (first, now (pool .entry)) (map (actAt (now (forms .entry))) (now (kept .entry)))) ⌝ }
 {

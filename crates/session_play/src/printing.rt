@@ -10,7 +10,7 @@ ghost use Rattle.cells.specs.Events.{kindAt, reportOf, eventOf};
 ghost use Rattle.text.specs.Append.{Appended};
 ghost use Rattle.text.specs.Bytes.{decimal};
 ghost use Rattle.text.specs.Lines.{line};
-ghost use Rattle.session_text.specs.Lines.{noLine, cellLine, kindWord, answerWord, doneStart, doneLine, endLine, Small};
+ghost use Rattle.session_text.specs.Lines.{noLine, cellLine, kindWord, answerWord, doneStart, doneLine, endLine, FewDigits};
 use lines::Answer;
 use lines::Finished;
 use numbered::put_line;
@@ -91,7 +91,7 @@ fn put_done_start(out: &mut [u8], at: usize, task: u32, f: Finished) -> usize
 pub fn put_done(out: &mut [u8], at: usize, task: u32, f: Finished) -> usize
     requires { ⌜ at + 78 ≤ length (now out) ⌝ }
     ensures { λ r. ⌜ Appended (now (out .entry)) (now (out .exit)) at r (doneLine task (reportOf (result f))) ⌝ }
-    ensures { λ r. ⌜ (Small task (eventOf untried (Ended (result f))) → r ≤ at + 36) ⌝ }
+    ensures { λ r. ⌜ (FewDigits task (eventOf untried (Ended (result f))) → r ≤ at + 36) ⌝ }
 {
     let a = put_done_start(out, at, task, f);
     let b = put_numbers(out, a, &[wide(f.steps), wide(f.won), wide(f.lost)]);

@@ -6,8 +6,8 @@ use session_reading::Rest;
 ghost use mathlib.Core.Path.{_≡_};
 ghost use lib.ListN.{length};
 ghost use Rattle.session_file.specs.Session.{verdict};
-ghost use Rattle.session_reading.specs.Reading.{verdictOf, judged};
-ghost use Rattle.session_reading.specs.Kept.{Within};
+ghost use Rattle.session_reading.specs.Reading.{verdictOf, verdictIn};
+ghost use Rattle.session_reading.specs.Kept.{InBuffers};
 ghost use Rattle.session_reading.specs.Tables.{wiped, buffers, afterReading, afterReadingInto};
 ghost use Rattle.session_reading.specs.declared.Reading.the-variants.{Bad};
 
@@ -32,7 +32,7 @@ fn read(file: &[u8], values: &mut [u32], kept: &mut [u32], actions: &mut [u32]) 
     requires { ⌜ length (now kept) ≡ 40960 ⌝ }
     requires { ⌜ length (now actions) ≡ 65535 ⌝ }
     ensures { λ r. ⌜ verdictOf r (now (values .exit)) (now (kept .exit)) (now (actions .exit)) ≡ verdict (now (file .entry)) ⌝ }
-    ensures { λ r. ⌜ Within r (now (values .exit)) (now (kept .exit)) (now (actions .exit)) ⌝ }
+    ensures { λ r. ⌜ InBuffers r (now (values .exit)) (now (kept .exit)) (now (actions .exit)) ⌝ }
     ensures { λ _. ⌜ buffers (now (values .exit)) (now (kept .exit)) (now (actions .exit)) ≡ afterReading (now (file .entry)) (buffers (now (values .entry)) (now (kept .entry)) (now (actions .entry))) ⌝ }
 {
     if 65536 < file.len() {
@@ -68,8 +68,8 @@ pub fn read_session(
     forms: &mut [u32],
     actions: &mut [u32],
 ) -> Reading
-    ensures { λ r. ⌜ verdictOf r (now (values .exit)) (now (forms .exit)) (now (actions .exit)) ≡ judged (length (now (values .entry))) (length (now (forms .entry))) (length (now (actions .entry))) (now (file .entry)) ⌝ }
-    ensures { λ r. ⌜ Within r (now (values .exit)) (now (forms .exit)) (now (actions .exit)) ⌝ }
+    ensures { λ r. ⌜ verdictOf r (now (values .exit)) (now (forms .exit)) (now (actions .exit)) ≡ verdictIn (length (now (values .entry))) (length (now (forms .entry))) (length (now (actions .entry))) (now (file .entry)) ⌝ }
+    ensures { λ r. ⌜ InBuffers r (now (values .exit)) (now (forms .exit)) (now (actions .exit)) ⌝ }
     ensures { λ _. ⌜ buffers (now (values .exit)) (now (forms .exit)) (now (actions .exit)) ≡ afterReadingInto (now (file .entry)) (buffers (now (values .entry)) (now (forms .entry)) (now (actions .entry))) ⌝ }
 {
     if (values.len() == VALUES) & ((forms.len() == FORMS) & (actions.len() == ACTIONS)) {

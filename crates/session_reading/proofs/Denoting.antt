@@ -9,7 +9,7 @@ use Rattle.session_file.specs.Session.{Form, act, again, Forms, empty, with, ti
 use Rattle.session_file.proofs.LinesBack.{counts-length}
 use Rattle.history.specs.History.{Action, read, swap, step, begin}
 use Rattle.session_reading.specs.Reading.{actAt}
-use Rattle.session_reading.specs.Kept.{Named}
+use Rattle.session_reading.specs.Kept.{FormNumbers}
 use Rattle.session_reading.specs.Tables.{wordsOf, tableOf, done, doneOf, names, namesOf, over}
 
 -- THE TABLE
@@ -48,7 +48,7 @@ module _ {table : List ℕ} where
   denotes-actions none-denoted = refl
   denotes-actions (one-denoted {w = w} {a = a} h e x) = ap (λ (b : Action). b ∷ map (actAt table) w) e ∙ ap (λ (k : List Action). a ∷ k) (denotes-actions x)
 
-  denotes-named : {w : List ℕ} {l : List Action} → Denotes table w l → Named (length table) w
+  denotes-named : {w : List ℕ} {l : List Action} → Denotes table w l → FormNumbers (length table) w
   denotes-named none-denoted j h = absurd (omega arith)
   denotes-named (one-denoted h e x) zero k = h
   denotes-named (one-denoted h e x) (suc j) k = denotes-named x j (omega arith)
@@ -111,7 +111,7 @@ module _ (l : Forms) where
   pub length-names : length (namesOf 0 l) ≡ counts l
   length-names = denotes-length (forms-denoted l [] 0 refl) ∙ sym (counts-length l)
 
-  pub kept-actions : (F A : List ℕ) (n : ℕ) → n ≡ counts l → (map (actAt (over table F)) (take n (over (namesOf 0 l) A)) ≡ actionsOf l) × Named (length (over table F)) (take n (over (namesOf 0 l) A))
+  pub kept-actions : (F A : List ℕ) (n : ℕ) → n ≡ counts l → (map (actAt (over table F)) (take n (over (namesOf 0 l) A)) ≡ actionsOf l) × FormNumbers (length (over table F)) (take n (over (namesOf 0 l) A))
   kept-actions F A n e =
       let x = denotes-grown (drop (length table) F) (forms-denoted l [] 0 refl) in
       rw (take-at (namesOf 0 l) (drop (length (namesOf 0 l)) A) n (length-names ∙ sym e)) (denotes-actions x, denotes-named x)

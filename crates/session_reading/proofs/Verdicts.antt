@@ -10,8 +10,8 @@ use lib.ListN.{length, take, drop, take-append-drop}
 use lib.Seq.{length-take-le}
 use Rattle.text.specs.Readers.{Reads}
 use Rattle.session_shape.specs.Shape.{shaped}
-use Rattle.session_file.specs.Session.{Opening, Forms, Verdict, bad, session, opening, lines, counts, actionsOf, formed, asked15, asked14, verdict}
-use Rattle.session_reading.specs.Reading.{sized, judged}
+use Rattle.session_file.specs.Session.{Opening, Forms, Verdict, bad, session, readOpening, lines, counts, actionsOf, formed, asked15, asked14, verdict}
+use Rattle.session_reading.specs.Reading.{sized, verdictIn}
 use Rattle.session_reading.specs.Tables.{Buffers, buffers, cleared, over, tableOf, doneOf, namesOf, afterReading15, afterReading14, afterReading, afterReadingInto}
 use Rattle.session_reading.specs.Answers.{OpenedIs, RestIs}
 use Rattle.session_reading.specs.declared.Rest.{Rest}
@@ -28,10 +28,10 @@ written-over o p n x =
     sym (take-append-drop n p) ∙ ap (λ (l : List ℕ). take n p ++ l) (x .1) ∙ ap (λ (k : ℕ). take n p ++ drop k o) (sym (length-take-le n p (x .0)))
 
 module _ (s : List ℕ) where
-  pub opened-at : (out : List ℕ) {r : Opened} {t c b n next : ℕ} → r ≡ opened.Read t c b n next → OpenedIs s out r → Reads opening s 0 0 (record { tasks = t; cells = c; blocks = b; values = take n out }) next
+  pub opened-at : (out : List ℕ) {r : Opened} {t c b n next : ℕ} → r ≡ opened.Read t c b n next → OpenedIs s out r → Reads readOpening s 0 0 (record { tasks = t; cells = c; blocks = b; values = take n out }) next
   opened-at out q x = subst (OpenedIs s out) q x
 
-  pub opened-no : (out : List ℕ) {r : Opened} → r ≡ opened.Wrong → OpenedIs s out r → opening s ≡ none
+  pub opened-no : (out : List ℕ) {r : Opened} → r ≡ opened.Wrong → OpenedIs s out r → readOpening s ≡ none
   opened-no out q x = subst (OpenedIs s out) q x
 
   pub rest-is : (at : ℕ) (F F′ A A′ : List ℕ) {r t : Rest} → r ≡ t → RestIs s at F F′ A A′ r → RestIs s at F F′ A A′ t
@@ -56,11 +56,11 @@ module _ (s : List ℕ) where
         unfolding verdict afterReading
         asked = let f = le-leb (length s) 65536 h in (rw (f, e), rw (f, e))
 
-        pub unopened : opening s ≡ none → Judged b (bad 14) (cleared b)
+        pub unopened : readOpening s ≡ none → Judged b (bad 14) (cleared b)
         unfolding asked14 formed afterReading14
         unopened f = (rw (asked .0, f), rw (asked .1, f))
 
-        module _ {o : Opening} {a : ℕ} (x : Reads opening s 0 0 o a) where
+        module _ {o : Opening} {a : ℕ} (x : Reads readOpening s 0 0 o a) where
           pub unformed : lines (drop a s) ≡ none → Judged b (bad 14) (cleared b)
           unfolding asked14 formed afterReading14
           unformed f = (rw (asked .0, x .finds, f), rw (asked .1, x .finds, f))
@@ -75,8 +75,8 @@ module _ (s : List ℕ) where
             is-session k = let f = le-leb (counts l) 65535 k in (rw (asked .0, x .finds, y .finds, f), rw (asked .1, x .finds, y .finds, f))
 
 -- with buffers of the right sizes the promise is the verdict
-pub right-sizes : (v f a : ℕ) (s : List ℕ) → v ≡ 32768 → f ≡ 40960 → a ≡ 65535 → judged v f a s ≡ verdict s
-unfolding judged
+pub right-sizes : (v f a : ℕ) (s : List ℕ) → v ≡ 32768 → f ≡ 40960 → a ≡ 65535 → verdictIn v f a s ≡ verdict s
+unfolding verdictIn
 right-sizes v f a s p q r = rw (p, q, r)
 
 pub right-left : (s : List ℕ) (b : Buffers) → length (b .values) ≡ 32768 → length (b .forms) ≡ 40960 → length (b .actions) ≡ 65535 → afterReadingInto s b ≡ afterReading s b

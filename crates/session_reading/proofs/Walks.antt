@@ -10,7 +10,7 @@ use lib.Seq.{length-take-le}
 use Rattle.text.proofs.Reading.{drop-byte}
 use Rattle.text.specs.Readers.{Reader, Reads}
 use Rattle.session_file.specs.Session.{Form, Forms, empty, with, many, finish}
-use Rattle.session_reading.specs.Answers.{Kept, kept, Stands, KeptIs, Ready, Account, ofForm, ofForms, GotIs}
+use Rattle.session_reading.specs.Answers.{Kept, kept, Stands, KeptIs, HasRoom, Account, ofForm, ofForms, GotIs}
 use Rattle.session_reading.specs.Tables.{tableOf, done, doneOf, names, namesOf}
 use Rattle.session_reading.specs.declared.Got.{Got}
 use Rattle.session_reading.specs.declared.Got.the-variants as got
@@ -31,11 +31,11 @@ module _ {X : Type 0} (c : Account X) (p : Reader X) (s : List ℕ) (at long : �
   kept-got most x y h got.Bad k = absurd k
   kept-got most x y h (got.At to o g m) k = (x, rw (k .0) y, k .1, omega (arith, k .0, k .2))
 
-pub ready-later : {s : List ℕ} {at j : ℕ} {F : List ℕ} {f : ℕ} {A : List ℕ} {n : ℕ} → Ready s at F f A n → at ≤ j → j ≤ length s → Ready s j F f A n
+pub ready-later : {s : List ℕ} {at j : ℕ} {F : List ℕ} {f : ℕ} {A : List ℕ} {n : ℕ} → HasRoom s at F f A n → at ≤ j → j ≤ length s → HasRoom s j F f A n
 ready-later r h k = record { here = k; small = r .small; table = r .table; few = omega (arith, r .few); room = r .room; limit = r .limit }
 
 -- also with no room for more actions
-pub ready-part : {s : List ℕ} {at : ℕ} {F : List ℕ} {f : ℕ} {A : List ℕ} {n : ℕ} → Ready s at F f A n → Ready s at F f (take n A) n
+pub ready-part : {s : List ℕ} {at : ℕ} {F : List ℕ} {f : ℕ} {A : List ℕ} {n : ℕ} → HasRoom s at F f A n → HasRoom s at F f (take n A) n
 ready-part {A = A} {n = n} r =
     let e : length (take n A) ≡ n = length-take-le n A (r .room) in
     record { here = r .here; small = r .small; table = r .table; few = r .few; room = omega arith; limit = omega (arith, r .room, r .limit) }
@@ -46,14 +46,14 @@ module _ (each : Reader Form) (end : Reader (Unit {0})) (s : List ℕ) (at : ℕ
 
   -- the forms l were read up to i, and g of them and m actions are kept
   pub record Walk (F′ A′ : List ℕ) (i g m : ℕ) (over : Bool) : Type 0 where
-    pub ready : Ready s i F′ g A′ m
+    pub ready : HasRoom s i F′ g A′ m
     pub same-forms : length F′ ≡ length F
     pub same-actions : length A′ ≡ length A
     pub l : Forms
     pub turn : Turn with each end whole s at i l
     pub stands : Stands F F′ A A′ f n (kept over g m) (ofForms .table l) (namesOf f l)
 
-  pub walk-start : Ready s at F f A n → Walk F A at f n false
+  pub walk-start : HasRoom s at F f A n → Walk F A at f n false
   unfolding doneOf namesOf tableOf
   walk-start r = record {
     ready = r;

@@ -7,10 +7,10 @@ use Prim.Native.Nat.{ℕ, _+_, _*_, _≤_, _<_}
 use lib.ListN.{length, take, drop}
 use Rattle.text.specs.Append.{Appended}
 use Rattle.text.specs.Bytes.{bytes}
-use Rattle.text.specs.Readers.{Reader, Reads, word as literal}
+use Rattle.text.specs.Readers.{Reader, Reads, literal}
 use Rattle.text.specs.declared.Place.{Place}
 use Rattle.text.specs.declared.Place.the-variants as place
-use Rattle.session_file.specs.Session.{FormKind, reading, swapping, stepping, repeating, numbers, values, opening, keyword, arity, head, Form, Forms, counts, lines}
+use Rattle.session_file.specs.Session.{FormKind, reading, swapping, stepping, repeating, severalItems, values, readOpening, keyword, arity, head, Form, Forms, counts, lines}
 use Rattle.session_reading.specs.Tables.{tableOf, done, doneOf, names, namesOf, over, wiped}
 use Rattle.session_reading.specs.declared.Listed.{Listed}
 use Rattle.session_reading.specs.declared.Listed.the-variants as listed
@@ -35,16 +35,16 @@ pub record Led (s out : List ℕ) (next : ℕ) : Type 0 where
   pub a : ℕ
   pub b : ℕ
   pub opens : Reads (literal (bytes "(open")) s 0 5 tt a
-  pub three : Reads (numbers 3) s a 6 (take 3 out) b
+  pub three : Reads (severalItems 3) s a 6 (take 3 out) b
   pub starts : Reads (literal (bytes " (")) s b 2 tt next
 
 abbrev pub LeadIs : List ℕ → List ℕ → Place → Type 0
-LeadIs s out place.Nowhere = opening s ≡ none
+LeadIs s out place.Nowhere = readOpening s ≡ none
 LeadIs s out (place.At next) = Led s out next
 
 abbrev pub OpenedIs : List ℕ → List ℕ → Opened → Type 0
-OpenedIs s out opened.Wrong = opening s ≡ none
-OpenedIs s out (opened.Read t c b n next) = Reads opening s 0 0 (record { tasks = t; cells = c; blocks = b; values = take n out }) next
+OpenedIs s out opened.Wrong = readOpening s ≡ none
+OpenedIs s out (opened.Read t c b n next) = Reads readOpening s 0 0 (record { tasks = t; cells = c; blocks = b; values = take n out }) next
 
 abbrev pub formNumber : FormKind → ℕ
 formNumber reading = 1
@@ -97,7 +97,7 @@ KeptIs F F′ A A′ f n next most table words got.Bad = ⊥
 KeptIs F F′ A A′ f n next most table words (got.At to o g m) = (to ≡ next) × Stands F F′ A A′ f n (kept o g m) table words × (g ≤ most)
 
 -- each form takes at least 8 bytes of s
-pub record Ready (s : List ℕ) (at : ℕ) (F : List ℕ) (f : ℕ) (A : List ℕ) (n : ℕ) : Type 0 where
+pub record HasRoom (s : List ℕ) (at : ℕ) (F : List ℕ) (f : ℕ) (A : List ℕ) (n : ℕ) : Type 0 where
   pub here : at ≤ length s
   pub small : length s ≤ 65536
   pub table : 5 * length s ≤ 8 * length F

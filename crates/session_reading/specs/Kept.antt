@@ -22,14 +22,14 @@ OpenedWithin o p opened.Wrong = p ≡ wiped o
 OpenedWithin o p (opened.Read t c b n next) = (n ≤ length p) × (drop n p ≡ drop n o)
 
 -- each of the actions numbers a form of a table of so many words
-abbrev pub Named : (words : ℕ) → (actions : List ℕ) → Type 0
-Named n l = (j : ℕ) → j < length l → 5 * getD l j 0 + 5 ≤ n
+abbrev pub FormNumbers : (words : ℕ) → (actions : List ℕ) → Type 0
+FormNumbers n l = (j : ℕ) → j < length l → 5 * getD l j 0 + 5 ≤ n
 
 pub record Held (values forms actions : List ℕ) (i n : ℕ) : Type 0 where
   pub some : i ≤ length values
   pub many : n ≤ length actions
-  pub named : Named (length forms) (take n actions)
+  pub named : FormNumbers (length forms) (take n actions)
 
-abbrev pub Within : Reading → (values forms actions : List ℕ) → Type 0
-Within (reading.Bad n) v f a = Unit {0}
-Within (reading.Session t c b i n) v f a = Held v f a i n
+abbrev pub InBuffers : Reading → (values forms actions : List ℕ) → Type 0
+InBuffers (reading.Bad n) v f a = Unit {0}
+InBuffers (reading.Session t c b i n) v f a = Held v f a i n

@@ -29,5 +29,5 @@ abbrev pub sized : (values forms actions : ℕ) → Bool
 sized v f a = eqb v 32768 && (eqb f 40960 && eqb a 65535)
 
 -- buffers of other sizes: 0, the number of no question
-unfoldable pub judged : (values forms actions : ℕ) → List ℕ → Verdict
-judged v f a s = cond (sized v f a) (verdict s) (bad 0)
+unfoldable pub verdictIn : (values forms actions : ℕ) → List ℕ → Verdict
+verdictIn v f a s = cond (sized v f a) (verdict s) (bad 0)

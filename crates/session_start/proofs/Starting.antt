@@ -19,12 +19,12 @@ use Rattle.cells.specs.Machine.{Pool}
 use Rattle.cells.proofs.Acts.{acts-iff, open-acts}
 use Rattle.history.specs.History.{Action}
 use Rattle.session_file.specs.Session.{Verdict, bad, session, verdict}
-use Rattle.session_reading.specs.Reading.{judged}
-use Rattle.session_reading.specs.Kept.{Named}
+use Rattle.session_reading.specs.Reading.{verdictIn}
+use Rattle.session_reading.specs.Kept.{FormNumbers}
 use Rattle.session_reading.proofs.Verdicts.{right-sizes}
 use Rattle.session_text.specs.Printed.{poolWords}
 use Rattle.session_text.specs.Tools.{toolAfterOpen, toolText, toolPrinted, toolWithin}
-use Rattle.starts.specs.Start.{Start, startAfter, startOf, inPool, toolStart, New, Opens, Ready}
+use Rattle.starts.specs.Start.{Start, startAfter, startOf, inPool, toolStart, New, Opens, Startable}
 use Rattle.starts.specs.declared.Opening.{Opening}
 use Rattle.starts.specs.declared.Opening.the-variants as opening
 
@@ -70,13 +70,13 @@ module _ (n v b : ℕ) (vs new : List ℕ) {w : ℕ} (en : new ≡ replicate 640
 
 -- THE READER'S ANSWER
 
-pub judged-is : {a b c : ℕ} {v : Verdict} (s : List ℕ) → v ≡ judged a b c s → a ≡ 32768 → b ≡ 40960 → c ≡ 65535 → v ≡ verdict s
+pub judged-is : {a b c : ℕ} {v : Verdict} (s : List ℕ) → v ≡ verdictIn a b c s → a ≡ 32768 → b ≡ 40960 → c ≡ 65535 → v ≡ verdict s
 judged-is {a} {b} {c} s e p q r = e ∙ right-sizes a b c s p q r
 
-pub made-ready : (o : Opening) (s : State) (f k p : List ℕ) {i : ℕ} → Opens o s i p → i ≤ length k → length k ≡ 65535 → Named (length f) (take i k) → Ready o s f k p
+pub made-ready : (o : Opening) (s : State) (f k p : List ℕ) {i : ℕ} → Opens o s i p → i ≤ length k → length k ≡ 65535 → FormNumbers (length f) (take i k) → Startable o s f k p
 made-ready (opening.NoSession n) s f k p x h l m = tt
 made-ready (opening.NotOpened n) s f k p x h l m = tt
-made-ready (opening.Open n v w j) s f k p x h l m = (x .0, omega (arith, h, x .1), l, subst (λ (i : ℕ). Named (length f) (take i k)) (sym (x .1)) m)
+made-ready (opening.Open n v w j) s f k p x h l m = (x .0, omega (arith, h, x .1), l, subst (λ (i : ℕ). FormNumbers (length f) (take i k)) (sym (x .1)) m)
 
 -- A TOOL'S TEXT
 

@@ -15,7 +15,7 @@ ghost use Rattle.session_file.specs.Session.{verdict};
 ghost use Rattle.session_reading.specs.Reading.{actAt};
 ghost use Rattle.session_reading.specs.Tables.{buffers, afterReading};
 ghost use Rattle.session_text.specs.Printed.{poolWords};
-ghost use Rattle.starts.specs.Start.{startAfter, startOf, startAt, inPool, poolOf, Opens, Ready};
+ghost use Rattle.starts.specs.Start.{startAfter, startOf, startAt, inPool, poolOf, Opens, Startable};
 
 fn open_pool(
     pool: &mut [u32],
@@ -50,7 +50,7 @@ pub fn open_session(
 ) -> Started
     requires { ⌜ (length (now values) ≡ 32768) × (length (now forms) ≡ 40960) × (length (now kept) ≡ 65535) × (now pool ≡ replicate 640 0) ⌝ }
     ensures { λ r. ⌜ startAt (r .opening) (r .state) (now (forms .exit)) (now (kept .exit)) (now (pool .exit)) ≡ startOf (verdict (now (file .entry))) ⌝ }
-    ensures { λ r. ⌜ Ready (r .opening) (r .state) (now (forms .exit)) (now (kept .exit)) (now (pool .exit)) ⌝ }
+    ensures { λ r. ⌜ Startable (r .opening) (r .state) (now (forms .exit)) (now (kept .exit)) (now (pool .exit)) ⌝ }
     ensures { λ _. ⌜ buffers (now (values .exit)) (now (forms .exit)) (now (kept .exit)) ≡ afterReading (now (file .entry)) (buffers (now (values .entry)) (now (forms .entry)) (now (kept .entry))) ⌝ }
     ensures { λ r. ⌜ (r .state, now (pool .exit)) ≡ poolOf (verdict (now (file .entry))) ⌝ }
 {

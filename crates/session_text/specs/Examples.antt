@@ -4,10 +4,10 @@ use mathlib.Core.List.{List, [], _∷_}
 use Prim.Native.String.{String}
 use Rattle.text.specs.Bytes.{bytes, digits}
 use Rattle.text.specs.Lines.{numbers}
-use Rattle.text.specs.Readers.{word, digitsAfter, number, several}
+use Rattle.text.specs.Readers.{literal, digitsAfter, number, several}
 use Rattle.rate.specs.Rate.{rate}
 use Rattle.questions.specs.Questions.{fit, recordFit, cellsFit, recordsFit, uses, countsTrue, hasNone, openQuestions}
-use Rattle.blocks.specs.Blocks.{found}
+use Rattle.blocks.specs.Blocks.{firstUnused}
 use Rattle.cells.specs.Open.{opened}
 use Rattle.cells.specs.Counts.{recounted}
 use Rattle.cells.specs.Begin.{readBegun, swapBegun}
@@ -54,5 +54,5 @@ prints :
     ("(open 2 1 5 (5))\n(read 1 0)\n(step 0)\n(step 1)\n", "(no 1 11)\n(cell 0 5)\n(end 0 1 0 0)\n") ∷
     []
     )
-unfolding digits rate word digitsAfter number fit recordFit cellsFit recordsFit hasNone openQuestions uses countsTrue found recounted opened readBegun swapBegun ran stepped looked fits deeper shapedAfter several reader.manyWithin reader.values reader.opening reader.keyword reader.head reader.body reader.form reader.line reader.count reader.times reader.actions reader.asked14 reader.formed reader.verdict numbers doneStart eventLine eventLines cellLines pendingTasks endText played afterOpen printed reader.asked15
+unfolding digits rate literal digitsAfter number fit recordFit cellsFit recordsFit hasNone openQuestions uses countsTrue firstUnused recounted opened readBegun swapBegun ran stepped looked fits deeper shapedAfter several reader.manyWithin reader.values reader.readOpening reader.keyword reader.head reader.body reader.form reader.readLine reader.count reader.times reader.actions reader.asked14 reader.formed reader.verdict numbers doneStart eventLine eventLines cellLines pendingTasks endText played afterOpen printed reader.asked15
 prints = (refl, (refl, (refl, (refl, (refl, (refl, (refl, (refl, (refl, (refl, (refl, (refl, (refl, (refl, (refl, (refl, tt))))))))))))))))

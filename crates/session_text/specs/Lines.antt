@@ -41,7 +41,7 @@ endLine f u h = line (bytes "(end") (f ∷ u ∷ h ∷ rate h f ∷ [])
 -- HOW LONG THE LINE OF AN EVENT IS
 
 -- the numbers of a finished call, but for a value that it answers, have at most two digits, its attempts one
-abbrev pub Small : (task : ℕ) → Event → Type 0
-Small t (refused n) = Unit {0}
-Small t (accepted x) = Unit {0}
-Small t (answered x r) = (t < 100) × (r .cell < 100) × (r .steps < 100) × (r .won < 10) × (r .lost < 10)
+abbrev pub FewDigits : (task : ℕ) → Event → Type 0
+FewDigits t (refused n) = Unit {0}
+FewDigits t (accepted x) = Unit {0}
+FewDigits t (answered x r) = (t < 100) × (r .cell < 100) × (r .steps < 100) × (r .won < 10) × (r .lost < 10)

@@ -6,7 +6,7 @@ use Prim.Native.String.{String}
 use Rattle.text.specs.Bytes.{bytes, digits}
 use Rattle.text.specs.Lines.{numbers}
 use Rattle.questions.specs.Questions.{fit, recordFit, cellsFit, recordsFit, uses, countsTrue, hasNone, openQuestions}
-use Rattle.blocks.specs.Blocks.{found}
+use Rattle.blocks.specs.Blocks.{firstUnused}
 use Rattle.cells.specs.Open.{opened}
 use Rattle.cells.specs.Counts.{recounted}
 use Rattle.cells.specs.Begin.{readBegun, swapBegun}
@@ -39,5 +39,5 @@ shakes :
     ((0, 32, 16, 128, 3001), "(bad 17)\n") ∷
     []
     )
-unfolding digits numbers next below fit recordFit cellsFit recordsFit hasNone openQuestions uses countsTrue found recounted opened readBegun swapBegun ran stepped written writtenValues openingLine formLines fileText drawnBegin drawnAction drawnActions zeroStart shakeQuestions shaken
+unfolding digits numbers next below fit recordFit cellsFit recordsFit hasNone openQuestions uses countsTrue firstUnused recounted opened readBegun swapBegun ran stepped written writtenValues openingLine formLines fileText drawnBegin drawnAction drawnActions zeroStart shakeQuestions shaken
 shakes = (refl, (refl, (refl, (refl, (refl, (refl, (refl, (refl, (refl, (refl, tt))))))))))

@@ -12,7 +12,7 @@ use Rattle.refinement.specs.Reached.{Reached}
 use Rattle.history.specs.History.{Action}
 use Rattle.session_file.specs.Session.{Verdict, bad, session}
 use Rattle.session_reading.specs.Reading.{actAt}
-use Rattle.session_reading.specs.Kept.{Named}
+use Rattle.session_reading.specs.Kept.{FormNumbers}
 use Rattle.session_reading.specs.Tables.{over}
 use Rattle.session_text.specs.Printed.{openedBy}
 use Rattle.text.specs.Lines.{badLine}
@@ -66,7 +66,7 @@ Opens (opening.NotOpened n) s i p = Unit {0}
 Opens (opening.Open n v w j) s i p = New n v s w p × (j ≡ i)
 
 -- the actions were kept, and each numbers a form
-abbrev pub Ready : Opening → State → (forms kept pool : List ℕ) → Type 0
-Ready (opening.NoSession n) s f k p = Unit {0}
-Ready (opening.NotOpened n) s f k p = Unit {0}
-Ready (opening.Open n v w i) s f k p = New n v s w p × (i ≤ length k) × (length k ≡ 65535) × Named (length f) (take i k)
+abbrev pub Startable : Opening → State → (forms kept pool : List ℕ) → Type 0
+Startable (opening.NoSession n) s f k p = Unit {0}
+Startable (opening.NotOpened n) s f k p = Unit {0}
+Startable (opening.Open n v w i) s f k p = New n v s w p × (i ≤ length k) × (length k ≡ 65535) × FormNumbers (length f) (take i k)

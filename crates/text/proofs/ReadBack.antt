@@ -9,12 +9,12 @@ use native.Mathlib.Omega.{arith}
 use borrow.Author.Tests.{le-leb, eq-eqb, ne-eqb, ltb-true, ltb-false}
 use lib.Dec.{ltb}
 use Rattle.text.specs.Bytes.{digits, decimal}
-use Rattle.text.specs.Readers.{word, isDigit, digitsAfter, number}
+use Rattle.text.specs.Readers.{literal, isDigit, digitsAfter, number}
 use Rattle.text.proofs.Reading.{digit}
 
 -- the word w, whatever follows it
-pub word-back : (w s : List ℕ) → word w (w ++ s) ≡ some (tt, s)
-unfolding word
+pub word-back : (w s : List ℕ) → literal w (w ++ s) ≡ some (tt, s)
+unfolding literal
 word-back [] s = refl
 word-back (x ∷ w) s = rw (eq-eqb x x refl) (word-back w s)
 

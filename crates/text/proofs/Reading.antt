@@ -9,7 +9,7 @@ use borrow.Author.Tests.{ltb-true, ltb-false, le-leb, lt-leb, eq-eqb, ne-eqb}
 use lib.Dec.{T, ltb}
 use lib.ListN.{length, take, drop, getD, drop-of-length-le}
 use lib.Seq.{drop-cons}
-use Rattle.text.specs.Readers.{Reader, Reads, several, word, isDigit, digitsAfter, number}
+use Rattle.text.specs.Readers.{Reader, Reads, several, literal, isDigit, digitsAfter, number}
 use Rattle.text.specs.Answers.{PlaceIs, NumeralIs, SeveralIs}
 use Rattle.text.specs.declared.Place.{Place}
 use Rattle.text.specs.declared.Place.the-variants as place
@@ -22,20 +22,20 @@ drop-byte s i h = rw (add-one, drop-cons s i 0 h)
 
 -- the word w from its place j on, at the place i
 module _ (w s : List ℕ) (j i : ℕ) where
-  pub word-end : length w ≤ j → word (drop j w) (drop i s) ≡ some (tt, drop i s)
-  unfolding word
+  pub word-end : length w ≤ j → literal (drop j w) (drop i s) ≡ some (tt, drop i s)
+  unfolding literal
   word-end h = rw (drop-of-length-le w h)
 
-  pub word-short : j < length w → length s ≤ i → word (drop j w) (drop i s) ≡ none
-  unfolding word
+  pub word-short : j < length w → length s ≤ i → literal (drop j w) (drop i s) ≡ none
+  unfolding literal
   word-short h k = rw (drop-byte w j h, drop-of-length-le s k)
 
-  pub word-other : j < length w → i < length s → (getD s i 0 ≡ getD w j 0 → ⊥) → word (drop j w) (drop i s) ≡ none
-  unfolding word
+  pub word-other : j < length w → i < length s → (getD s i 0 ≡ getD w j 0 → ⊥) → literal (drop j w) (drop i s) ≡ none
+  unfolding literal
   word-other h k n = rw (drop-byte w j h, drop-byte s i k, ne-eqb (getD s i 0) (getD w j 0) n)
 
-  pub word-more : j < length w → i < length s → getD s i 0 ≡ getD w j 0 → word (drop j w) (drop i s) ≡ word (drop (j + 1) w) (drop (i + 1) s)
-  unfolding word
+  pub word-more : j < length w → i < length s → getD s i 0 ≡ getD w j 0 → literal (drop j w) (drop i s) ≡ literal (drop (j + 1) w) (drop (i + 1) s)
+  unfolding literal
   word-more h k e = rw (drop-byte w j h, drop-byte s i k, eq-eqb (getD s i 0) (getD w j 0) e)
 
 pub digit : (d : ℕ) → 48 ≤ d → d ≤ 57 → isDigit d ≡ true

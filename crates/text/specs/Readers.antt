@@ -53,10 +53,10 @@ stored p (suc k) s [] = []
 stored p (suc k) s (o ∷ old) = overwritten (p s) (λ t. stored p k t old) (o ∷ old)
 
 -- the word w
-unfoldable pub word : List ℕ → Reader (Unit {0})
-word [] s = some (tt, s)
-word (x ∷ w) [] = none
-word (x ∷ w) (y ∷ s) = cond (eqb y x) (word w s) none
+unfoldable pub literal : List ℕ → Reader (Unit {0})
+literal [] s = some (tt, s)
+literal (x ∷ w) [] = none
+literal (x ∷ w) (y ∷ s) = cond (eqb y x) (literal w s) none
 
 abbrev pub isDigit : ℕ → Bool
 isDigit d = leb 48 d && leb d 57

@@ -1,5 +1,5 @@
 use mathlib.Core.List.{[], _∷_}
-use Rattle.text.specs.Readers.{word, number}
+use Rattle.text.specs.Readers.{literal, number}
 use Rattle.text.proofs.Reading.{place-at, place-no, number-at, number-no}
 use Rattle.argument_numbers.proofs.Counted.{no-number, no-end, is-ended}
 use borrow.Author.Needs.{needs}
@@ -16,13 +16,13 @@ returns-2 : tie.Need-returns-2
 returns-2 c =
     let a = c .before .before .before .before .before .before .before .before .before .args in
     let x = number-at a.s.now a.at number 1 (c .before .before .before .before .before .read .given .1) (c .before .before .before .before .before .before .before .number .ensures) in
-    no-end a.s.now a.at a.end x (place-no a.s.now (c .before .before .before .before .before .read .given .0 .1 .0) (word (a.end ∷ [])) 1 (c .enum-told2 .given .1) (c .before .before .starts-with .ensures))
+    no-end a.s.now a.at a.end x (place-no a.s.now (c .before .before .before .before .before .read .given .0 .1 .0) (literal (a.end ∷ [])) 1 (c .enum-told2 .given .1) (c .before .before .starts-with .ensures))
 
 returns-3 : tie.Need-returns-3
 returns-3 c =
     let a = c .before .before .before .before .before .before .before .before .before .before .args in
     let x = number-at a.s.now a.at number 1 (c .before .before .before .before .before .before .read .given .1) (c .before .before .before .before .before .before .before .before .number .ensures) in
-    is-ended a.s.now a.at a.end x (place-at a.s.now (c .before .before .before .before .before .before .read .given .0 .1 .0) (word (a.end ∷ [])) 1 (c .before .stop .given .1) (c .before .before .before .starts-with .ensures))
+    is-ended a.s.now a.at a.end x (place-at a.s.now (c .before .before .before .before .before .before .read .given .0 .1 .0) (literal (a.end ∷ [])) 1 (c .before .stop .given .1) (c .before .before .before .starts-with .ensures))
 
 pub ended-spec : {M : Type 1} → statement M
 ended-spec =

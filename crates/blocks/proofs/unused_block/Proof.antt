@@ -5,7 +5,7 @@ use Prim.Native.Nat.{_≤_, _<_}
 use lib.Dec.{leb, ltb}
 use denote.Ref.{now}
 use borrow.Author.Tests.{not-true, not-false}
-use Rattle.blocks.specs.Blocks.{unusedFrom, found}
+use Rattle.blocks.specs.Blocks.{unusedFrom, firstUnused}
 use Rattle.blocks.proofs.Unused.{after-below}
 use Rattle.blocks.proofs.Search.{starts, finds, finds-none, here, onward, nowhere}
 use borrow.Author.Needs.{needs}
@@ -14,7 +14,7 @@ use Rattle.blocks.proofs.unused_block.Statement.{statement}
 use Rattle.blocks.proofs.unused_block.Tie as tie
 
 abbrev Inv-loop : tie.InvT-loop
-Inv-loop counts blocks last b₀ left₀ b left = (blocks ≤ 128) × (b < blocks) × (unusedFrom counts blocks b left ≡ found counts blocks last)
+Inv-loop counts blocks last b₀ left₀ b left = (blocks ≤ 128) × (b < blocks) × (unusedFrom counts blocks b left ≡ firstUnused counts blocks last)
 
 abbrev μ-loop : tie.MeasureT-loop
 μ-loop counts blocks last b₀ left₀ b left = left

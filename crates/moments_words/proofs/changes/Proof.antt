@@ -3,15 +3,6 @@ use Rattle.moments_notes.proofs.Ruling.{changes-yes, changes-no, changes-value}
 use Rattle.moments_words.proofs.changes.Statement.{statement}
 use Rattle.moments_words.proofs.changes.Tie as tie
 
-enum-told : tie.Need-enum-told
-enum-told c = search needs
-
-enum-told-2 : tie.Need-enum-told-2
-enum-told-2 c = search needs
-
-enum-told-3 : tie.Need-enum-told-3
-enum-told-3 c = search needs
-
 returns : tie.Need-returns
 returns c = rw (c .before .before .enum-told .given .1) (changes-yes (c .before .before .before .before .args .r))
 
@@ -22,4 +13,4 @@ returns-3 : tie.Need-returns-3
 returns-3 c = rw (c .enum-told3 .given .1) (changes-value (c .before .before .args .r) _)
 
 pub changes-spec : {M : Type 1} → statement M
-changes-spec = tie.close (tie.spec enum-told enum-told-2 enum-told-3 returns returns-2 returns-3)
+changes-spec = tie.close (tie.spec (λ c. search needs) (λ c. search needs) (λ c. search needs) returns returns-2 returns-3)

@@ -5,7 +5,7 @@ use Prim.Native.Nat.{_≤_}
 use native.Mathlib.Omega.{arith}
 use borrow.Author.Needs.{needs}
 use Rattle.consensus.specs.declared.Offer.{Offer}
-use Rattle.consensus.specs.Figure.{Stage, goOn, does, withStep}
+use Rattle.consensus.specs.Figure.{Stage, goOn, stageDoes, withStep}
 use Rattle.consensus.proofs.Numbers.{outside}
 use Rattle.once_turn.proofs.take_turn.Statement.{statement}
 use Rattle.once_turn.proofs.take_turn.Tie as tie
@@ -28,4 +28,4 @@ take-turn-spec =
     let e = c .before .before .before .args in
     let n = e .r .line in
     let out : 1 ≤ n → n ≤ 13 → ⊥ = λ a b. ⊎-elim (λ w. omega (arith, w .taken, a)) (λ w. omega (arith, w .4 .left, b)) (c .before .if1 .came) in
-    c .go-on .ensures ∙ ap (λ (q : Offer). goOn (e .m) q n (q .value)) (c .before .before .with-step .ensures) ∙ sym (ap (λ (ℓ : Stage). does ℓ (e .task) (withStep (e .r)) (e .m)) (outside n out))))
+    c .go-on .ensures ∙ ap (λ (q : Offer). goOn (e .m) q n (q .value)) (c .before .before .with-step .ensures) ∙ sym (ap (λ (ℓ : Stage). stageDoes ℓ (e .task) (withStep (e .r)) (e .m)) (outside n out))))

@@ -9,7 +9,7 @@ use Rattle.readers.proofs.starts_with.Statement.{statement}
 use Rattle.readers.proofs.starts_with.Tie as tie
 
 abbrev Inv-loop : tie.InvT-loop
-Inv-loop s at word i₀ j₀ i j = (j ≤ length word) × (i ≡ at + j) × (i ≤ length s) × (readers.word (drop j word) (drop i s) ≡ readers.word word (drop at s))
+Inv-loop s at word i₀ j₀ i j = (j ≤ length word) × (i ≡ at + j) × (i ≤ length s) × (readers.literal (drop j word) (drop i s) ≡ readers.literal word (drop at s))
 
 abbrev μ-loop : tie.MeasureT-loop
 μ-loop s at word i₀ j₀ i j = length word - j

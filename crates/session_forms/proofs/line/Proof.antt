@@ -5,7 +5,7 @@ use Rattle.session_file.specs.Session as specs
 use Rattle.session_reading.specs.Answers.{ofForm, GotIs}
 use Rattle.session_reading.specs.declared.Got.the-variants as got
 use Rattle.text.proofs.Reading.{place-at, place-no}
-use Rattle.text.specs.Readers.{word}
+use Rattle.text.specs.Readers.{literal}
 use Rattle.text.specs.Bytes.{bytes}
 use Rattle.session_forms.proofs.line.Statement.{statement}
 use Rattle.session_forms.proofs.line.Tie as tie
@@ -18,7 +18,7 @@ form-requires : tie.Need-form-requires
 form-requires c κs = (omega arith, c .before .before .before .before .before .pre)
 
 returns : tie.Need-returns
-unfolding specs.line
+unfolding specs.readLine
 returns c =
     let a = c .before .before .before .before .before .before .before .before .before .before .before .before .args in
     let b = c .before .before .before .before .before .before .form .last .1 .1 .1 in
@@ -28,17 +28,17 @@ starts-with-requires : tie.Need-starts-with-requires
 starts-with-requires c κs = form-read (c .before .before) .1 .within
 
 returns-2 : tie.Need-returns-2
-unfolding specs.line
+unfolding specs.readLine
 returns-2 c =
     let s = c .before .before .before .before .before .before .before .before .before .before .before .before .before .before .before .before .before .args .s .now in
-    rw (form-read (c .before .before .before .before .before) .1 .finds, place-no s _ (word (bytes "\n")) 1 (c .enum-told2 .given .1) (c .before .before .starts-with .ensures))
+    rw (form-read (c .before .before .before .before .before) .1 .finds, place-no s _ (literal (bytes "\n")) 1 (c .enum-told2 .given .1) (c .before .before .starts-with .ensures))
 
 returns-3 : tie.Need-returns-3
-unfolding specs.line
+unfolding specs.readLine
 returns-3 c =
     let s = c .before .before .before .before .before .before .before .before .before .before .before .before .before .before .before .before .before .before .args .s .now in
     let x = form-read (c .before .before .before .before .before .before) in
-    let y = place-at s _ (word (bytes "\n")) 1 (c .before .end .given .1) (c .before .before .before .starts-with .ensures) in
+    let y = place-at s _ (literal (bytes "\n")) 1 (c .before .end .given .1) (c .before .before .before .starts-with .ensures) in
     (x .0, record { finds = rw (x .1 .finds, y .finds); past = omega (arith, x .1 .past, y .past); within = y .within }, x .2, omega (arith, x .3, y .past))
 
 pub line-spec : {M : Type 1} → statement M

@@ -4,7 +4,7 @@ use Rattle.session_reading.proofs.Arms.{values-at, values-no, lead-at, lead-no,
 use Rattle.session_file.specs.Session.{values}
 use Rattle.session_reading.specs.Answers.{Led}
 use Rattle.text.proofs.Reading.{place-at, place-no}
-use Rattle.text.specs.Readers.{Reads, word}
+use Rattle.text.specs.Readers.{Reads, literal}
 use Rattle.text.specs.Bytes.{bytes}
 use lib.ListN.{take, replicate}
 use Prim.Native.Nat.{ℕ}
@@ -37,12 +37,12 @@ starts-with-requires c κs = listed (c .before .before) .within
 
 returns-3 : tie.Need-returns-3
 returns-3 c =
-    let wrong = place-no _ _ (word (bytes ")\n")) 2 (c .before .before .before .before .enum-told3 .given .1) (c .before .before .before .before .before .before .starts-with .ensures) in
+    let wrong = place-no _ _ (literal (bytes ")\n")) 2 (c .before .before .before .before .enum-told3 .given .1) (c .before .before .before .before .before .before .starts-with .ensures) in
     (end-wrong _ _ (led (c .before .before .before .before .before .before .before .before .before .before .before .before .before .before .before .before)) (listed (c .before .before .before .before .before .before .before .before .before)) wrong, c .before .before .clear3 .ensures ∙ ap (λ (k : ℕ). replicate k 0) (c .before .before .before .before .before .before .before .before .before .before .before .before .before .values .kept .1 .1 .0))
 
 returns-4 : tie.Need-returns-4
 returns-4 c =
-    let end = place-at (c .before .before .before .before .before .before .before .before .before .before .before .before .before .before .before .before .before .before .before .before .args .s .now) _ (word (bytes ")\n")) 2 (c .before .end .given .1) (c .before .before .before .starts-with .ensures) in
+    let end = place-at (c .before .before .before .before .before .before .before .before .before .before .before .before .before .before .before .before .before .before .before .before .args .s .now) _ (literal (bytes ")\n")) 2 (c .before .end .given .1) (c .before .before .before .starts-with .ensures) in
     (opening-at (c .before .before .before .before .before .before .before .before .before .before .before .before .before .before .before .before .before .before .before .before .args .s .now) (c .before .before .before .before .before .before .before .before .before .before .before .before .before .before .before .before .lead .last .1 .0) (led (c .before .before .before .before .before .before .before .before .before .before .before .before .before)) (listed (c .before .before .before .before .before .before)) end, rw (c .before .before .before .before .before .before .read .given .1) at (c .before .before .before .before .before .before .before .before .before .before .values .ensures .1))
 
 pub opening-spec : {M : Type 1} → statement M

@@ -22,7 +22,7 @@ use Rattle.session_play.proofs.Playing.{one-action, no-action}
 use Rattle.cells.specs.Open.{After}
 use Rattle.cells.specs.Events.{eventOf}
 use Rattle.history.specs.History.{untried}
-use Rattle.session_text.specs.Lines.{Small}
+use Rattle.session_text.specs.Lines.{FewDigits}
 use Rattle.session_play.proofs.Outcomes.{small}
 use Rattle.session_play.proofs.Room.{weights, all-at-most, Paid, paid}
 use Rattle.session_play.proofs.Counting.{few}
@@ -90,7 +90,7 @@ loop-again c =
     let h : l .i < length a.kept.now = c .before .before .before .before .before .before .before .before .before .before .before .before .before .before .before .before .before .loop-test .taken in
     let t = c .before .before .before .before .task-of .result in
     let m : l .i < 100000 = omega (arith, h, c .before .before .before .before .before .before .before .before .before .before .before .before .before .before .before .before .before .before .before .before .before .before .before .before .before .before .pre .1 .1 .0) in
-    let short = r .1 (subst (λ (y : After). Small t (eventOf untried (y .outcome))) (sym d) (rw (c .before .before .before .before .task-of .ensures) (small s l.pool x))) in
+    let short = r .1 (subst (λ (y : After). FewDigits t (eventOf untried (y .outcome))) (sym d) (rw (c .before .before .before .before .task-of .ensures) (small s l.pool x))) in
     let paid-here = subst (λ (y : After). Paid l.i t m s y) (sym d) (paid l.i t m s l.pool x) (omega (arith, short, r .0 .stored .next)) in (
       toward-more (l .inv .0) (r .0) (search needs) (one-action a.tasks a.cells (actAt a.forms.now) a.kept.now l.i (totalsOf l.z) s l.pool h (c .before .before .before .before .before .before .before .before .before .before .before .before .before .before .before .action-at .ensures) d (c .before .before .before .before .task-of .ensures) (k .0)),
       omega (arith, h),
