@@ -1,5 +1,5 @@
--- Three runs of the pool in which readings to keep out would answer otherwise, a fit state whose step is refused with 20, and a run that one
--- block more would let go on, computed. (P1 to P10: `prints` in session_text.)
+-- What a history is told of calls that ended, three runs of the pool in which readings to keep out would answer otherwise, a fit state whose
+-- step is refused with 20, and a run that one block more would let go on, computed. (P1 to P10: `prints` in session_text.)
 use mathlib.Core.Path.{_≡_, refl}
 use mathlib.Core.Bool.{true}
 use mathlib.Core.Option.{none}
@@ -9,16 +9,31 @@ use lib.ListN.{replicate, set}
 use Rattle.questions.specs.Questions.{hasNone, openQuestions, recordFit, cellsFit, recordsFit, uses, countsTrue, fit}
 use Rattle.blocks.specs.Blocks.{firstUnused, unused}
 use Rattle.lines.specs.declared.Record.{Record}
+use Rattle.lines.specs.declared.Answer.{Answer}
+use Rattle.lines.specs.declared.Answer.the-variants as code
 use Rattle.questions.specs.declared.State.{State}
 use Rattle.lines.specs.Record.{idle, recordAt, firstRead, firstSwap}
-use Rattle.history.specs.History.{Op, read, swap, Action, begin, step, Kind, aRead, aSwap, Response, Value, Yes, No, Report, Event, refused, accepted, answered, history}
-use Rattle.cells.specs.Answers.{Refused}
+use Rattle.history.specs.History.{Op, read, swap, Action, begin, step, Kind, aRead, aSwap, Response, Value, Yes, No, Report, Attempt, success, failure, untried, Event, refused, accepted, answered, history}
+use Rattle.cells.specs.declared.Outcome.the-variants as outcome
+use Rattle.cells.specs.Answers.{Refused, said}
+use Rattle.cells.specs.Events.{eventOf}
 use Rattle.cells.specs.Open.{leaving, openState, openPool, opened}
 use Rattle.cells.specs.Counts.{recounted}
 use Rattle.cells.specs.Begin.{started, readBegun, swapBegun}
 use Rattle.cells.specs.Step.{ran, stepped}
 use Rattle.cells.specs.Lent.{lent, steppedLent}
 use Rattle.cells.specs.Machine.{Pool, pool}
+
+-- THE CODE'S ANSWER IN A HISTORY
+
+-- calls on cell 3 that end: the code's answer, and what a history is told
+abbrev Tells : (kind : ℕ) → Answer → Attempt → Kind → Response → Type 0
+Tells n a x k r = eventOf x (said (outcome.Ended (record { kind = n; cell = 3; answer = a; steps = 14; won = 1; lost = 2 }))) ≡ answered x (record { kind = k; cell = 3; answer = r; steps = 14; won = 1; lost = 2 })
+
+told : Tells 2 code.Yes success aSwap Yes × Tells 2 code.No failure aSwap No × Tells 1 (code.Value 9) untried aRead (Value 9)
+told = (refl, refl, refl)
+
+-- RUNS
 
 abbrev reports : List (Action × Event) → List Report
 reports [] = []
