@@ -1,4 +1,4 @@
--- What a history is told of calls that ended, three runs of the pool in which readings to keep out would answer otherwise, a fit state whose
+-- Which event the code's answer is in a history, three runs of the pool in which readings to keep out would answer otherwise, a fit state whose
 -- step is refused with 20, and a run that one block more would let go on, computed. (P1 to P10: `prints` in session_text.)
 use mathlib.Core.Path.{_≡_, refl}
 use mathlib.Core.Bool.{true}
@@ -26,12 +26,12 @@ use Rattle.cells.specs.Machine.{Pool, pool}
 
 -- THE CODE'S ANSWER IN A HISTORY
 
--- calls on cell 3 that end: the code's answer, and what a history is told
-abbrev Tells : (kind : ℕ) → Answer → Attempt → Kind → Response → Type 0
-Tells n a x k r = eventOf x (said (outcome.Ended (record { kind = n; cell = 3; answer = a; steps = 14; won = 1; lost = 2 }))) ≡ answered x (record { kind = k; cell = 3; answer = r; steps = 14; won = 1; lost = 2 })
+-- a call on cell 3 that ends: the code's kind and answer, and the event's
+abbrev IsEvent : (kind : ℕ) → Answer → Attempt → Kind → Response → Type 0
+IsEvent n a x k r = eventOf x (said (outcome.Ended (record { kind = n; cell = 3; answer = a; steps = 14; won = 1; lost = 2 }))) ≡ answered x (record { kind = k; cell = 3; answer = r; steps = 14; won = 1; lost = 2 })
 
-told : Tells 2 code.Yes success aSwap Yes × Tells 2 code.No failure aSwap No × Tells 1 (code.Value 9) untried aRead (Value 9)
-told = (refl, refl, refl)
+events : IsEvent 2 code.Yes success aSwap Yes × IsEvent 2 code.No failure aSwap No × IsEvent 1 (code.Value 9) untried aRead (Value 9)
+events = (refl, refl, refl)
 
 -- RUNS
 
