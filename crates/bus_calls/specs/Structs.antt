@@ -10,7 +10,7 @@ use Rattle.bus_calls.specs.declared.times.Ranges.{Ranges}
 use Rattle.bus_calls.specs.declared.calls.CallTime.{CallTime}
 use Rattle.bus_calls.specs.declared.calls.Longest.{Longest}
 use Rattle.bus_calls.specs.declared.calls.Longest.the-variants.{NoCall, Call}
-use Rattle.bus_calls.specs.declared.calls.Totals.{Totals}
+use Rattle.bus_calls.specs.declared.calls.BusTotals.{BusTotals}
 
 abbrev pub kindsOf : Kinds → PerKind
 kindsOf c = perKind (c .load) (c .store) (c .hardware)
@@ -25,7 +25,7 @@ abbrev pub longestOf : Longest → Option Timed
 longestOf NoCall = none
 longestOf (Call c) = some (callOf c)
 
-abbrev pub sumsIn : Totals → Sums
+abbrev pub sumsIn : BusTotals → Sums
 sumsIn z = record { least = z .least; greatest = z .greatest; longest = longestOf (z .longest) }
 
 -- the line of the sums where there is a call

@@ -27,7 +27,7 @@ pub enum Longest {
 }
 
 // Of all calls so far.
-pub struct Totals {
+pub struct BusTotals {
     pub least: u64,
     pub greatest: u64,
     pub longest: Longest,
@@ -88,10 +88,10 @@ fn longer(best: Longest, c: CallTime) -> CallTime
     }
 }
 
-pub fn no_calls() -> Totals
+pub fn no_calls() -> BusTotals
     ensures { λ z. ⌜ sumsIn z ≡ noSums ⌝ }
 {
-    Totals {
+    BusTotals {
         least: 0,
         greatest: 0,
         longest: Longest::NoCall,
@@ -99,13 +99,13 @@ pub fn no_calls() -> Totals
 }
 
 // The sums of a session have 64 bits.
-pub fn add_call(z: Totals, c: CallTime) -> Totals
+pub fn add_call(z: BusTotals, c: CallTime) -> BusTotals
     requires { ⌜ (z .least + c .least ≤ 18446744073709551615) × (z .greatest + c .greatest ≤ 18446744073709551615) ⌝ }
     ensures { λ r. ⌜ sumsIn r ≡ addCall (sumsIn z) (callOf c) ⌝ }
 {
     let best = z.longest;
     let longest = Longest::Call(longer(best, c));
-    Totals {
+    BusTotals {
         least: z.least + c.least,
         greatest: z.greatest + c.greatest,
         longest,

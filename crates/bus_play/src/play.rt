@@ -1,6 +1,6 @@
 // The actions in their order, each finished call with its line, and the line of the sums after the last.
 use crate::printing;
-use bus_calls::calls::Totals;
+use bus_calls::calls::BusTotals;
 use bus_calls::calls::add_call;
 use bus_calls::calls::no_calls;
 use bus_calls::calls::timed;
@@ -29,7 +29,7 @@ ghost use Rattle.bus_play.specs.Loop.{Ends, addedText, addedSums, addedC
 // The place after the text, and the totals.
 pub struct Entered {
     pub at: usize,
-    pub totals: Totals,
+    pub totals: BusTotals,
 }
 
 fn end_call(
@@ -37,7 +37,7 @@ fn end_call(
     at: usize,
     w: Ranges,
     finished: &mut [u32],
-    z: Totals,
+    z: BusTotals,
     task: u32,
     f: Finished,
 ) -> Entered
@@ -63,7 +63,7 @@ fn enter(
     at: usize,
     w: Ranges,
     finished: &mut [u32],
-    z: Totals,
+    z: BusTotals,
     task: u32,
     outcome: Outcome,
 ) -> Entered

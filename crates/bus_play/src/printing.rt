@@ -5,9 +5,9 @@ ghost use lib.ListN.{length};
 ghost use Rattle.text.specs.Append.{Appended};
 ghost use Rattle.bus_text.specs.Bus.{roundedUp, callLine, allLine};
 ghost use Rattle.bus_calls.specs.Structs.{callOf, longestOf, sumsIn, sumsLine};
+use bus_calls::calls::BusTotals;
 use bus_calls::calls::CallTime;
 use bus_calls::calls::Longest;
-use bus_calls::calls::Totals;
 use numbered::put_line;
 use numbered::wide;
 
@@ -45,7 +45,7 @@ fn put_sums(out: &mut [u8], at: usize, least: u64, greatest: u64, c: CallTime) -
 }
 
 // The last line.
-pub fn put_all(out: &mut [u8], at: usize, z: Totals) -> usize
+pub fn put_all(out: &mut [u8], at: usize, z: BusTotals) -> usize
     requires { ⌜ (at + 90 ≤ length (now out)) × (z .greatest ≤ 18446744073709551606) ⌝ }
     ensures { λ r. ⌜ Appended (now (out .entry)) (now (out .exit)) at r (allLine (sumsIn z) (longestOf (z .longest))) ⌝ }
 {

@@ -14,7 +14,7 @@ use Rattle.questions.specs.Questions.{refusal, openQuestions}
 use Rattle.cells.specs.Machine.{pool}
 use Rattle.history.specs.Basics.{_∈_}
 use Rattle.history.specs.History.{Action, Report, history, callsOf}
-use Rattle.figure_cell.specs.Paths.{count}
+use Rattle.figure_cell.specs.Paths.{accessCount}
 use Rattle.figure.specs.Traces.{Traced}
 use Rattle.refinement.specs.Terms.{start}
 use Rattle.refinement.specs.Traces.{trace}
@@ -94,7 +94,7 @@ module _ (old : State) (words : List ℕ) (tasks cells blocks : ℕ) (values : L
   pub counts-are : (call : Traced) → call ∈ trace (start old words tasks cells blocks values) actions .done → countsOf (call .report) ≡ did (call .lines)
   counts-are x i =
       ap (inRow (x .report .won + x .report .lost)) (calls-find-rows old words tasks cells blocks values allowed actions x i) ∙
-      ap (perKind (count loads (x .lines)) (count stores (x .lines))) (calls-counted old words tasks cells blocks values allowed actions x i .all-hard)
+      ap (perKind (accessCount loads (x .lines)) (accessCount stores (x .lines))) (calls-counted old words tasks cells blocks values allowed actions x i .all-hard)
 
   -- The calls that are printed are the history's finished calls, in order of finishing; the history has the last one first.
   pub calls-printed : let h = history pool (start old words tasks cells blocks values) actions in map taskAndReport (callsOf h .finished) ≡ reverse (finishedCalls h)

@@ -8,7 +8,7 @@ use Rattle.lines.specs.declared.Access.{Access}
 use Rattle.lines.specs.declared.Access.the-variants.{LoadCell, Load, Store, DecideCas, InstallCas, Allocate, Nothing}
 use Rattle.lines.specs.Record.{idle}
 use Rattle.lines.specs.Lines.{Line, accessAt, loads, stores, hardware}
-use Rattle.figure_cell.specs.Paths.{count}
+use Rattle.figure_cell.specs.Paths.{accessCount}
 use Rattle.figure.specs.Traces.{Traced}
 use Rattle.history.specs.History.{Action, Report, FinishedCall}
 use Rattle.cells.specs.Machine.{Pool}
@@ -28,7 +28,7 @@ accesses (l ∷ ls) = accessAt l 0 idle ∷ accesses ls
 
 -- how many of each kind
 abbrev pub did : List Line → PerKind
-did p = perKind (count loads p) (count stores p) (count hardware p)
+did p = perKind (accessCount loads p) (accessCount stores p) (accessCount hardware p)
 
 -- those of several calls
 abbrev pub allAccesses : List Traced → List Access

@@ -16,7 +16,7 @@ use Rattle.cells.specs.Turn.{outcomeOf}
 use Rattle.figure.specs.Figure.{World, WorldAfter, figureRan, opening, figure, triedIn}
 use Rattle.cells.specs.Events.{eventOf}
 use Rattle.lines.specs.Paths.{table}
-use Rattle.figure_cell.specs.Paths.{paths, by25, counts, countRows}
+use Rattle.figure_cell.specs.Paths.{paths, by25, pathCounts, countRows}
 use Rattle.figure.specs.Traces.{Traced, Trace, noTrace, enterLine, figureTraces}
 use Rattle.history.proofs.ListTests.{has}
 use Rattle.figure_cell.proofs.LineLaws.{every-line, same, Leads, goes, done}
@@ -70,12 +70,12 @@ calls-on-paths n v vs l = traces-complete (opening n v vs) noTrace (start-sound 
 pub table-is : countRows paths ≡ table
 table-is = refl
 
-pub row : (p : List Line) → p ∈ paths → counts p ∈ table
+pub row : (p : List Line) → p ∈ paths → pathCounts p ∈ table
 row p i = go paths i
   where
-    go : (ps : List (List Line)) → p ∈ ps → counts p ∈ countRows ps
+    go : (ps : List (List Line)) → p ∈ ps → pathCounts p ∈ countRows ps
     go [] i = i
-    go (x ∷ ps) (inl e) = inl (ap counts e)
+    go (x ∷ ps) (inl e) = inl (ap pathCounts e)
     go (x ∷ ps) (inr i) = inr (go ps i)
 
 -- a hardware CAS is tried at lines 2 and 30, and nowhere else

@@ -22,7 +22,7 @@ use Rattle.figure_cell.specs.Memory.{Cell, accessCell}
 use Rattle.cells.specs.Turn.{recordAfter, outcomeOf}
 use Rattle.figure.specs.Figure.{World, withTask, withBoth, WorldAfter, worldAfter, unlessRefused, figureRan, figureStepped, figureBegun, opening, figure, triedIn, firstOf}
 use Rattle.cells.specs.Events.{reportOf, eventOf}
-use Rattle.figure_cell.specs.Paths.{count}
+use Rattle.figure_cell.specs.Paths.{accessCount}
 use Rattle.figure.specs.Traces.{Trace, didLine, enterLine}
 use Rattle.figure_cell.specs.Paths as Paths
 use Rattle.history.proofs.ListTests.{every, every-in, both, imp}
@@ -36,20 +36,20 @@ pub record Pending (v : ℕ) (did : List Line) (q : Record) : Type 0 where
   pub line : lineFit q ≡ true
   pub values : valuesFit q ≡ true
   pub steps : q .steps ≡ Paths.steps did
-  pub hard : q .won + q .lost ≡ count hardware did
+  pub hard : q .won + q .lost ≡ accessCount hardware did
   pub lines : did ∈ before (lineOf q)
 
 -- a finished call of this operation, with these lines and this report
 pub record Complete (op : Op) (lines : List Line) (r : Report) : Type 0 where
   pub path : lines ∈ waysOf op (r .answer)
   pub all-steps : r .steps ≡ Paths.steps lines
-  pub all-hard : r .won + r .lost ≡ count hardware lines
+  pub all-hard : r .won + r .lost ≡ accessCount hardware lines
 
 pub steps-on : (d : List Line) (l : Line) → Paths.steps (d ++ (l ∷ [])) ≡ Paths.steps d + 1
 steps-on [] l = refl
 steps-on (a ∷ d) l = omega (arith, steps-on d l)
 
-hardware-on : (d : List Line) (l : Line) → count hardware (d ++ (l ∷ [])) ≡ count hardware d + hardware (accessAt l 0 idle)
+hardware-on : (d : List Line) (l : Line) → accessCount hardware (d ++ (l ∷ [])) ≡ accessCount hardware d + hardware (accessAt l 0 idle)
 hardware-on [] l = omega arith
 hardware-on (a ∷ d) l = omega (arith, hardware-on d l)
 
@@ -61,7 +61,7 @@ pub not-idle : (q : Record) → lineFit q ≡ true → isIdle q ≡ false
 not-idle q k = ne-eqb (q .line) 0 (λ e. false≢true (rw e at k))
 
 abbrev few : ℕ → ℕ → List Line → Bool
-few n x d = ltb (Paths.steps d) n && leb (count hardware d) x
+few n x d = ltb (Paths.steps d) n && leb (accessCount hardware d) x
 
 module _ (v : ℕ) (did : List Line) (q : Record) (o : Pending v did q) where
   pub led : (t x : ℕ) → Leads (lineOf q) (counted q (attempt (accessOf t q) x)) (nextOf t q x)
@@ -78,7 +78,7 @@ module _ (v : ℕ) (did : List Line) (q : Record) (o : Pending v did q) where
       steps : q .steps + 1 ≡ Paths.steps (did ++ (lineOf q ∷ []))
       steps = omega (arith, steps-on did (lineOf q), o .steps)
 
-      hard : (q .won + wins (attempt (accessOf t q) x)) + (q .lost + losses (attempt (accessOf t q) x)) ≡ count hardware (did ++ (lineOf q ∷ []))
+      hard : (q .won + wins (attempt (accessOf t q) x)) + (q .lost + losses (attempt (accessOf t q) x)) ≡ accessCount hardware (did ++ (lineOf q ∷ []))
       hard = omega (arith, hardware-on did (lineOf q), hardware-alike (lineOf q) t q, tries (accessOf t q) x, o .hard)
 
       go : {n : Next} → Leads (lineOf q) (counted q (attempt (accessOf t q) x)) n → Then n
@@ -98,7 +98,7 @@ module _ (v : ℕ) (did : List Line) (q : Record) (o : Pending v did q) where
       let all = imp (test (lineOf q)) (every (few n x) (before (lineOf q))) (every-line (λ l. every (few n x) (before l) || not (test l)) h (lineOf q)) e in
       let k = both (ltb (Paths.steps did) n) _ (every-in (few n x) (before (lineOf q)) all did (o .lines)) in
       let s = ltb→lt (Paths.steps did) n (k .0) in
-      let m = leb→le (count hardware did) x (k .1) in
+      let m = leb→le (accessCount hardware did) x (k .1) in
       (omega (arith, o .steps), omega (arith, o .hard))
 
   pub pending-bounds : (q .steps < 21) × (q .won + q .lost ≤ 3)

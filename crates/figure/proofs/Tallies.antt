@@ -21,7 +21,7 @@ use Rattle.figure_cell.specs.Memory.{Cell, accessCell}
 use Rattle.cells.specs.Turn.{recordAfter, outcomeOf}
 use Rattle.figure.specs.Figure.{World, WorldAfter, withBoth, figureRan, figure, triedIn, firstOf}
 use Rattle.cells.specs.Events.{eventOf}
-use Rattle.figure_cell.specs.Paths.{readPaths, paths, count}
+use Rattle.figure_cell.specs.Paths.{readPaths, paths, accessCount}
 use Rattle.figure_cell.proofs.AsBegun.{kind-of, cell-of}
 use Rattle.history.proofs.ListTests.{every-in, by-test}
 use Rattle.figure_cell.proofs.LineLaws.{waysOf, on-paths, on-read-paths, Leads, goes, done}
@@ -42,9 +42,9 @@ was-doing v did q o = rw (not-idle q (o .line))
 -- BOUNDS
 
 -- found by computing over the paths
-few-hard : (op : Op) (a : Response) (p : List Line) → p ∈ waysOf op a → count hardware p ≤ mostHard op
-few-hard (read k) a p i = leb→le _ _ (every-in (λ p. leb (count hardware p) 1) readPaths tt p (on-read-paths k a p i))
-few-hard (swap k e n) a p i = leb→le _ _ (every-in (λ p. leb (count hardware p) 3) paths tt p (on-paths (swap k e n) a p i))
+few-hard : (op : Op) (a : Response) (p : List Line) → p ∈ waysOf op a → accessCount hardware p ≤ mostHard op
+few-hard (read k) a p i = leb→le _ _ (every-in (λ p. leb (accessCount hardware p) 1) readPaths tt p (on-read-paths k a p i))
+few-hard (swap k e n) a p i = leb→le _ _ (every-in (λ p. leb (accessCount hardware p) 3) paths tt p (on-paths (swap k e n) a p i))
 
 abbrev Few : Tally → Type 0
 Few n = (n .steps < most (n .op)) × (n .won + n .lost ≤ mostHard (n .op))

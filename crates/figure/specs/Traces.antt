@@ -7,7 +7,7 @@ use Rattle.lines.specs.Lines.{Line, lineOf, hardware}
 use Rattle.history.specs.Basics.{upd, _∈_}
 use Rattle.figure.specs.Figure.{World, figure}
 use Rattle.history.specs.History.{Op, read, Action, begin, step, Report, Event, refused, accepted, answered, FinishedCall}
-use Rattle.figure_cell.specs.Paths.{count, counts, pathsOf, reached, steps, won}
+use Rattle.figure_cell.specs.Paths.{accessCount, pathCounts, pathsOf, reached, steps}
 
 -- a finished call: what it is as begun, its lines in order, and what its last step reported
 pub record Traced : Type 0 where
@@ -53,8 +53,8 @@ pub record Counted (x : Traced) : Type 0 where
   -- a path of what the call is as begun, that ends in what it answered
   pub its-path : x .lines ∈ pathsOf (x .op) (x .report .answer)
   pub all-steps : x .report .steps ≡ steps (x .lines)
-  pub all-hard : x .report .won + x .report .lost ≡ count hardware (x .lines)
-  pub row : counts (x .lines) ∈ table
+  pub all-hard : x .report .won + x .report .lost ≡ accessCount hardware (x .lines)
+  pub row : pathCounts (x .lines) ∈ table
 
 -- what a call is as begun, and what its last step reported: of a history, and of a trace
 abbrev pub finishedReport : FinishedCall → Op × Report

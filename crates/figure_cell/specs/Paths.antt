@@ -19,17 +19,17 @@ readActive = l10 ∷ l11 ∷ l12 ∷ []
 abbrev pub readDecided : List Line
 readDecided = readActive ++ decision for13
 
-abbrev pub won : List Line
-won = l15 ∷ l16 ∷ l17 ∷ l18 ∷ l19 ∷ l20 ∷ l21 ∷ []
+abbrev pub wonLines : List Line
+wonLines = l15 ∷ l16 ∷ l17 ∷ l18 ∷ l19 ∷ l20 ∷ l21 ∷ []
 
 abbrev pub noFrom22 : List Line
-noFrom22 = won ++ (l22 ∷ [])
+noFrom22 = wonLines ++ (l22 ∷ [])
 
 abbrev pub yesFrom26 : List Line
-yesFrom26 = won ++ (l23 ∷ l24 ∷ l26 ∷ [])
+yesFrom26 = wonLines ++ (l23 ∷ l24 ∷ l26 ∷ [])
 
 abbrev pub yesFrom25 : List Line
-yesFrom25 = won ++ (l23 ∷ l24 ∷ decision for25)
+yesFrom25 = wonLines ++ (l23 ∷ l24 ∷ decision for25)
 
 -- to line 28: by 17, 19, 21 or 25
 abbrev pub by17 : List Line
@@ -39,7 +39,7 @@ abbrev pub by19 : List Line
 by19 = l15 ∷ l16 ∷ l17 ∷ l18 ∷ l19 ∷ l27 ∷ decision for28
 
 abbrev pub by21 : List Line
-by21 = won ++ decision for28
+by21 = wonLines ++ decision for28
 
 abbrev pub by25 : List Line
 by25 = yesFrom25 ++ decision for28
@@ -89,18 +89,18 @@ pathsOf (swap k e n) No = cond (eqb e n) readPaths noPaths
 -- COUNTS
 
 -- how often an access of the lines is of the kind that the test counts; what an access is does not depend on task and record
-abbrev pub count : (Access → ℕ) → List Line → ℕ
-count f [] = 0
-count f (l ∷ ls) = f (accessAt l 0 idle) + count f ls
+abbrev pub accessCount : (Access → ℕ) → List Line → ℕ
+accessCount f [] = 0
+accessCount f (l ∷ ls) = f (accessAt l 0 idle) + accessCount f ls
 
 abbrev pub steps : List Line → ℕ
 steps [] = 0
 steps (l ∷ ls) = 1 + steps ls
 
 -- steps, loads, stores, hardware CAS attempts
-abbrev pub counts : List Line → List ℕ
-counts p = steps p ∷ count loads p ∷ count stores p ∷ count hardware p ∷ []
+abbrev pub pathCounts : List Line → List ℕ
+pathCounts p = steps p ∷ accessCount loads p ∷ accessCount stores p ∷ accessCount hardware p ∷ []
 
 abbrev pub countRows : List (List Line) → List (List ℕ)
 countRows [] = []
-countRows (p ∷ ps) = counts p ∷ countRows ps
+countRows (p ∷ ps) = pathCounts p ∷ countRows ps

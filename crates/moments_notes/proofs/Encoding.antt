@@ -10,7 +10,7 @@ use borrow.Author.Tests.{le-leb, lt-leb, leb-true, leb-false, eqb-true, eqb-fals
 use Rattle.history.specs.History.{cellOf, Kind, aRead, aSwap, kindOf}
 use Rattle.history.specs.Moments.{Side, before, itself, after, Rule, R1, R2, C1, C2, C3, C4, C5, C6, Mark, changing, sideNumber, key, notAfter, insert, sort}
 use Rattle.moments_lines.specs.Lines.{atLine, markLine, markLines}
-use Rattle.moments_notes.specs.Words.{ruleNumber, kindNumber, rank, joined, encode, insertWord, FitsWord, AllSmall, Listed, sideAt, kindBit, ruleNumbered, wordLine, wordLines}
+use Rattle.moments_notes.specs.Words.{ruleNumber, kindNumber, rank, joined, encode, insertWord, FitsWord, AllFit, Listed, sideAt, kindBit, ruleNumbered, wordLine, wordLines}
 use Rattle.moments_notes.proofs.Sorting.{insert-sorted}
 
 -- THE PARTS
@@ -138,15 +138,15 @@ encode-order x y h k =
 
 -- LISTS
 
-all-insert : (m : Mark) (l : List Mark) → FitsWord m → AllSmall l → AllSmall (insert m l)
+all-insert : (m : Mark) (l : List Mark) → FitsWord m → AllFit l → AllFit (insert m l)
 all-insert m [] h s = (h, tt)
 all-insert m (y ∷ l) h s = go (notAfter (key m) (key y)) (all-insert m l h (s .1))
   where
-    go : (b : Bool) → AllSmall (insert m l) → AllSmall (cond b (m ∷ y ∷ l) (y ∷ insert m l))
+    go : (b : Bool) → AllFit (insert m l) → AllFit (cond b (m ∷ y ∷ l) (y ∷ insert m l))
     go true r = (h, s)
     go false r = (s .0, r)
 
-encode-insert : (m : Mark) (l : List Mark) → FitsWord m → AllSmall l → map encode (insert m l) ≡ insertWord (encode m) (map encode l)
+encode-insert : (m : Mark) (l : List Mark) → FitsWord m → AllFit l → map encode (insert m l) ≡ insertWord (encode m) (map encode l)
 encode-insert m [] h s = refl
 encode-insert m (y ∷ l) h s = go (notAfter (key m) (key y)) (sym (encode-order m y h (s .0))) (encode-insert m l h (s .1))
   where
@@ -156,19 +156,19 @@ encode-insert m (y ∷ l) h s = go (notAfter (key m) (key y)) (sym (encode-order
     go false e r = rw (e, r)
 
 pub none-listed : Listed [] []
-none-listed = record { same = refl; small = tt; sorted = tt }
+none-listed = record { same = refl; fit = tt; sorted = tt }
 
 pub one-listed : {words : List ℕ} {l : List Mark} → Listed words l → (m : Mark) → FitsWord m → Listed (insertWord (encode m) words) (m ∷ l)
 one-listed {words} {l} x m h = record {
-  same = ap (insertWord (encode m)) (x .same) ∙ sym (encode-insert m (sort l) h (x .small));
-  small = all-insert m (sort l) h (x .small);
+  same = ap (insertWord (encode m)) (x .same) ∙ sym (encode-insert m (sort l) h (x .fit));
+  fit = all-insert m (sort l) h (x .fit);
   sorted = insert-sorted (encode m) words (x .sorted);
 }
 
-lines-same : (l : List Mark) → AllSmall l → wordLines (map encode l) ≡ markLines l
+lines-same : (l : List Mark) → AllFit l → wordLines (map encode l) ≡ markLines l
 unfolding wordLines markLines
 lines-same [] s = refl
 lines-same (m ∷ l) s = ap₂ (λ (x y : List ℕ). x ++ y) (sym (encode-line m (s .0))) (lines-same l (s .1))
 
 pub listed-lines : {words : List ℕ} {l : List Mark} → Listed words l → wordLines words ≡ markLines (sort l)
-listed-lines {l = l} x = ap wordLines (x .same) ∙ lines-same (sort l) (x .small)
+listed-lines {l = l} x = ap wordLines (x .same) ∙ lines-same (sort l) (x .fit)

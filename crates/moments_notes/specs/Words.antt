@@ -58,14 +58,14 @@ pub record FitsWord (m : Mark) : Type 0 where
   pub task : m .call .task < 32
   pub cell : cellOf (m .call .op) < 16
 
-abbrev pub AllSmall : List Mark → Type 0
-AllSmall [] = Unit {0}
-AllSmall (m ∷ l) = FitsWord m × AllSmall l
+abbrev pub AllFit : List Mark → Type 0
+AllFit [] = Unit {0}
+AllFit (m ∷ l) = FitsWord m × AllFit l
 
 -- the words are those of the marks, in their order
 pub record Listed (words : List ℕ) (l : List Mark) : Type 0 where
   pub same : words ≡ map encode (sort l)
-  pub small : AllSmall (sort l)
+  pub fit : AllFit (sort l)
   pub sorted : SortedWords words
 
 -- THEIR LINES

@@ -10,7 +10,7 @@ use Rattle.history.specs.History.{Action, begin, step, taskOf, Response, Event,
 use Rattle.lines.specs.Answers.{answerOf}
 use Rattle.nudge_calls.specs.declared.calls.Noted.{Noted}
 use Rattle.nudge_calls.specs.declared.calls.Noted.the-variants as code
-use Rattle.nudge_calls.specs.declared.calls.Call.{Call}
+use Rattle.nudge_calls.specs.declared.calls.CallSummary.{CallSummary}
 use Rattle.nudge_calls.specs.declared.calls.Sought.{Sought}
 use Rattle.nudge_calls.specs.declared.calls.Sought.the-variants as sought
 
@@ -72,7 +72,7 @@ abbrev pub noteIn : Noted → Note
 noteIn (code.Pending k) = pending k
 noteIn (code.Ended a) = ended (answerOf a)
 
-abbrev pub summaryOf : Call → Summary
+abbrev pub summaryOf : CallSummary → Summary
 summaryOf c = record { at = c .at; last = c .last; answer = answerOf (c .answer) }
 
 abbrev pub soughtOf : Sought → Option Summary

@@ -55,7 +55,7 @@ pub enum Noted {
 }
 
 // The numbers of its begin and of its last step, and its answer.
-pub struct Call {
+pub struct CallSummary {
     pub at: usize,
     pub last: usize,
     pub answer: Answer,
@@ -63,7 +63,7 @@ pub struct Call {
 
 pub enum Sought {
     Nowhere,
-    Found(Call),
+    Found(CallSummary),
 }
 
 // The first exchange that changes the answer.
@@ -150,7 +150,7 @@ fn seek(
             }
             Noted::Ended(answer) => {
                 if left == 0 {
-                    let call = Call {
+                    let call = CallSummary {
                         at,
                         last: i,
                         answer,

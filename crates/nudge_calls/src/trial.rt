@@ -1,5 +1,5 @@
 // One exchange of neighbouring actions, tried.
-use crate::calls::Call;
+use crate::calls::CallSummary;
 use crate::calls::Frame;
 use crate::calls::Noted;
 use crate::calls::note;
@@ -35,7 +35,7 @@ fn follow(
     i: usize,
     task: u32,
     at: usize,
-    call: Call,
+    call: CallSummary,
 ) -> bool
     requires { ⌜ Reached (s .tasks) (s .cells) (stateWith s (now records)) (now pool) ⌝ }
     requires { ⌜ (length (now records) ≡ 384) × (length (now kept) ≤ 2000) × (i + 1 < length (now kept)) ⌝ }
@@ -90,7 +90,7 @@ pub fn try_exchange(
     i: usize,
     task: u32,
     at: usize,
-    call: Call,
+    call: CallSummary,
 ) -> bool
     requires { ⌜ Reached (s .tasks) (s .cells) (stateWith s (now records)) (now pool) ⌝ }
     requires { ⌜ (length (now records) ≡ 384) × (length (now kept) ≤ 2000) × (i + 1 < length (now kept)) ⌝ }

@@ -1,7 +1,7 @@
 // The exchanges of neighbouring actions, tried one after the other, for the call that is named.
 use machine::actions::action_at;
 use machine::advance::advance;
-use nudge_calls::calls::Call;
+use nudge_calls::calls::CallSummary;
 use nudge_calls::calls::Frame;
 use nudge_calls::calls::Nudge;
 use nudge_calls::calls::begun_after;
@@ -29,7 +29,7 @@ fn try_each(
     forms: &[u32],
     kept: &[u32],
     task: u32,
-    call: Call,
+    call: CallSummary,
 ) -> Nudge
     requires { ⌜ Fresh (stateWith s (now records)) (now pool) ⌝ }
     requires { ⌜ (length (now records) ≡ 384) × (length (now kept) ≤ 2000) ⌝ }
@@ -85,7 +85,7 @@ pub fn first_nudge(
     forms: &[u32],
     kept: &[u32],
     task: u32,
-    call: Call,
+    call: CallSummary,
 ) -> Nudge
     requires { ⌜ Fresh (stateWith s (now records)) (now pool) ⌝ }
     requires { ⌜ (length (now records) ≡ 384) × (length (now kept) ≤ 2000) ⌝ }

@@ -7,7 +7,7 @@ use buffers::value_space;
 use numbered::put_bad;
 use questions::State;
 use session_start::open_session;
-use starts::Opening;
+use starts::SessionOpening;
 ghost use Prim.Native.Nat.{_≤_};
 ghost use lib.ListN.{length};
 ghost use Rattle.nudge_text.specs.Nudge.{nudgeText};
@@ -19,7 +19,7 @@ ghost use Rattle.text.specs.Append.{Appended};
 fn print_started(
     out: &mut [u8],
     first: State,
-    opening: Opening,
+    opening: SessionOpening,
     pool: &[u32],
     forms: &[u32],
     kept: &[u32],
@@ -31,9 +31,9 @@ fn print_started(
     ensures { λ r. ⌜ Appended (now (out .entry)) (now (out .exit)) 0 r (toolStart (nudgeText task n) (startAt opening first (now (forms .entry)) (now (kept .entry)) (now (pool .entry)))) ⌝ }
 {
     match opening {
-        Opening::NoSession(r) => put_bad(out, 0, r),
-        Opening::NotOpened(r) => put_bad(out, 0, r),
-        Opening::Open {
+        SessionOpening::NoSession(r) => put_bad(out, 0, r),
+        SessionOpening::NotOpened(r) => put_bad(out, 0, r),
+        SessionOpening::Open {
             tasks: _,
             cells: _,
             words,

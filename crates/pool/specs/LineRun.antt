@@ -27,11 +27,11 @@ lineRun p t r c l f = let m = performed p c l f (accessOf t r) in left (m .pool)
 
 -- WHAT THE CODE'S ENUM SAYS of a record's words: one step more, the line, and one word; or the end of the call
 
-abbrev pub written : List ℕ → (line word value : ℕ) → List ℕ
-written w n i v = set (set (set w 9 (getD w 9 0 + 1)) 0 n) i v
+abbrev pub wordWritten : List ℕ → (line word value : ℕ) → List ℕ
+wordWritten w n i v = set (set (set w 9 (getD w 9 0 + 1)) 0 n) i v
 
 abbrev pub followed : List ℕ → Code.Next → Next
-followed w (next.Go n i v) = Go (recordOf (written w n i v))
+followed w (next.Go n i v) = Go (recordOf (wordWritten w n i v))
 followed w (next.Done a x y) = Done (record { kind = getD w 2 0; cell = getD w 3 0; answer = answerOf a; steps = getD w 9 0 + 1; won = x; lost = y })
 
 -- (what follows only helps the proofs)

@@ -12,7 +12,7 @@ use Rattle.questions.specs.Questions.{refusal, openQuestions}
 use Rattle.history.specs.Basics.{_∈_}
 use Rattle.history.specs.History.{Action, history, callsOf}
 use Rattle.figure.specs.Figure.{opening}
-use Rattle.figure_cell.specs.Paths.{reached, count, steps}
+use Rattle.figure_cell.specs.Paths.{reached, accessCount, steps}
 use Rattle.figure.specs.Traces.{Traced, Trace, noTrace, Counted, finishedReport, tracedReport, figureTraces}
 use Rattle.figure_cell.proofs.LineLaws.{on-paths}
 use Rattle.figure.proofs.Paths.{calls-on-paths, row}
@@ -26,7 +26,7 @@ use Rattle.refinement.proofs.Demand3.{starting-values, cells-meet-deman
 
 -- by the steps and hardware CAS attempts of these lines the table's row of them is found
 abbrev Finds : List Line → Type 0
-Finds p = rowOf (steps p) (count hardware p) ≡ some (count loads p, count stores p)
+Finds p = rowOf (steps p) (accessCount hardware p) ≡ some (accessCount loads p, accessCount stores p)
 
 abbrev AllFind : List (List Line) → Type 0
 AllFind [] = Unit {0}
@@ -68,5 +68,5 @@ module _ (old : State) (words : List ℕ) (tasks cells blocks : ℕ) (values : L
 
   -- Every finished call finds its row: by the steps and hardware CAS attempts that it reports, the table has the loads and stores of the
   -- lines that it did.
-  pub calls-find-rows : (call : Traced) → call ∈ trace (start old words tasks cells blocks values) actions .done → rowOf (call .report .steps) (call .report .won + call .report .lost) ≡ some (count loads (call .lines), count stores (call .lines))
+  pub calls-find-rows : (call : Traced) → call ∈ trace (start old words tasks cells blocks values) actions .done → rowOf (call .report .steps) (call .report .won + call .report .lost) ≡ some (accessCount loads (call .lines), accessCount stores (call .lines))
   calls-find-rows x i = let c = calls-counted x i in rw (c .all-steps, c .all-hard) (finds reached reached-find (x .lines) (c .path))

@@ -1,8 +1,8 @@
 // The forms after the first line, and the actions that they make.
 use clearing::clear;
 use session_reading::Got;
+use session_reading::HeadRead;
 use session_reading::Rest;
-use session_reading::Start;
 use session_reading::Word;
 use text::Place;
 ghost use mathlib.Core.Path.{_≡_};
@@ -37,20 +37,20 @@ fn keyword(s: &[u8], at: usize) -> Word
 }
 
 // A form's word, and its numbers stored.
-fn head(s: &[u8], at: usize, out: &mut [u32]) -> Start
+fn head(s: &[u8], at: usize, out: &mut [u32]) -> HeadRead
     requires { ⌜ at ≤ length (now s) ⌝ }
     requires { ⌜ 4 ≤ length (now out) ⌝ }
     ensures { λ r. ⌜ HeadIs (now (s .entry)) at (now (out .entry)) (now (out .exit)) r ⌝ }
 {
     let word = keyword(s, at);
     let Word::Known(kind, k, a) = word else {
-        return Start::Unknown;
+        return HeadRead::Unknown;
     };
     let read = session_items::numbers(s, a, k, out);
     let Place::At(next) = read else {
-        return Start::Unknown;
+        return HeadRead::Unknown;
     };
-    Start::Known(kind, next)
+    HeadRead::Known(kind, next)
 }
 
 // Copies the words from n to m behind them, so that they stand there c times.
@@ -118,7 +118,7 @@ fn form(
     }
     let mut numbers = [0u32; 4];
     let start = head(s, at, &mut numbers);
-    let Start::Known(kind, a) = start else {
+    let HeadRead::Known(kind, a) = start else {
         return Got::Bad;
     };
     if kind == 4 {

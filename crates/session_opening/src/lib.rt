@@ -1,7 +1,7 @@
 // The first line: (open N V B (values)).
 use clearing::clear;
-use session_reading::Listed;
 use session_reading::Opened;
+use session_reading::ValuesRead;
 use text::Numeral;
 use text::Place;
 ghost use Prim.Native.Nat.{_+_, _*_, _≤_};
@@ -10,7 +10,7 @@ ghost use Rattle.session_reading.specs.Answers.{ValuesAre, LeadIs, OpenedIs};
 ghost use Rattle.session_reading.specs.Kept.{ListedWithin, OpenedWithin};
 
 // Stores the values up to their bracket.
-fn values(s: &[u8], at: usize, out: &mut [u32]) -> Listed
+fn values(s: &[u8], at: usize, out: &mut [u32]) -> ValuesRead
     requires { ⌜ (1 ≤ at) × (at ≤ length (now s)) ⌝ }
     requires { ⌜ length (now s) ≤ 2 * length (now out) ⌝ }
     ensures { λ r. ⌜ ValuesAre (now (s .entry)) at (now (out .exit)) r ⌝ }
@@ -18,11 +18,11 @@ fn values(s: &[u8], at: usize, out: &mut [u32]) -> Listed
 {
     let shut = session_items::close(s, at);
     if let Place::At(next) = shut {
-        return Listed::Read(0, next);
+        return ValuesRead::Read(0, next);
     }
     let first = numerals::number(s, at);
     let Numeral::Read(v, a) = first else {
-        return Listed::Wrong;
+        return ValuesRead::Wrong;
     };
     out[0] = v;
     let mut n = 1;
@@ -30,11 +30,11 @@ fn values(s: &[u8], at: usize, out: &mut [u32]) -> Listed
     loop {
         let end = session_items::close(s, i);
         if let Place::At(next) = end {
-            return Listed::Read(n, next);
+            return ValuesRead::Read(n, next);
         }
         let read = session_items::item(s, i);
         let Numeral::Read(w, next) = read else {
-            return Listed::Wrong;
+            return ValuesRead::Wrong;
         };
         out[n] = w;
         n += 1;
@@ -71,7 +71,7 @@ pub fn opening(s: &[u8], out: &mut [u32]) -> Opened
         return Opened::Wrong;
     };
     let read = values(s, c, out);
-    let Listed::Read(count, d) = read else {
+    let ValuesRead::Read(count, d) = read else {
         clear(out);
         return Opened::Wrong;
     };

@@ -10,7 +10,7 @@ use Rattle.session_file.proofs.LinesBack.{counts-length}
 use Rattle.history.specs.History.{Action, read, swap, step, begin}
 use Rattle.session_reading.specs.Reading.{actAt}
 use Rattle.session_reading.specs.Kept.{FormNumbers}
-use Rattle.session_reading.specs.Tables.{wordsOf, tableOf, done, doneOf, names, namesOf, over}
+use Rattle.session_reading.specs.Tables.{wordsOf, tableOf, done, doneOf, formNames, formNamesOf, over}
 
 -- THE TABLE
 
@@ -88,14 +88,14 @@ module _ (P : List ℕ) (n : ℕ) (p : length P ≡ 5 * n) where
 
 -- with n forms before them, in P
 mutual
-  unfolding done names actions tableOf
+  unfolding done formNames actions tableOf
 
-  form-denoted : (f : Form) (P : List ℕ) (n : ℕ) → length P ≡ 5 * n → Denotes (P ++ tableOf (done f)) (names n f) (actions f)
+  form-denoted : (f : Form) (P : List ℕ) (n : ℕ) → length P ≡ 5 * n → Denotes (P ++ tableOf (done f)) (formNames n f) (actions f)
   form-denoted (act a) P n p = rw (append-nil (wordsOf a)) (words-denoted P n p a)
   form-denoted (again zero l) P n p = none-denoted
   form-denoted (again (suc c) l) P n p = denotes-times (suc c) (forms-denoted l P n p)
 
-  forms-denoted : (l : Forms) (P : List ℕ) (n : ℕ) → length P ≡ 5 * n → Denotes (P ++ tableOf (doneOf l)) (namesOf n l) (actionsOf l)
+  forms-denoted : (l : Forms) (P : List ℕ) (n : ℕ) → length P ≡ 5 * n → Denotes (P ++ tableOf (doneOf l)) (formNamesOf n l) (actionsOf l)
   forms-denoted empty P n p = none-denoted
   forms-denoted (with l f) P n p =
       let q : length (P ++ tableOf (doneOf l)) ≡ 5 * (n + length (doneOf l)) = omega (arith, p, length-append P (tableOf (doneOf l)), length-table (doneOf l)) in
@@ -108,10 +108,10 @@ module _ (l : Forms) where
   abbrev table : List ℕ
   table = tableOf (doneOf l)
 
-  pub length-names : length (namesOf 0 l) ≡ counts l
+  pub length-names : length (formNamesOf 0 l) ≡ counts l
   length-names = denotes-length (forms-denoted l [] 0 refl) ∙ sym (counts-length l)
 
-  pub kept-actions : (F A : List ℕ) (n : ℕ) → n ≡ counts l → (map (actAt (over table F)) (take n (over (namesOf 0 l) A)) ≡ actionsOf l) × FormNumbers (length (over table F)) (take n (over (namesOf 0 l) A))
+  pub kept-actions : (F A : List ℕ) (n : ℕ) → n ≡ counts l → (map (actAt (over table F)) (take n (over (formNamesOf 0 l) A)) ≡ actionsOf l) × FormNumbers (length (over table F)) (take n (over (formNamesOf 0 l) A))
   kept-actions F A n e =
       let x = denotes-grown (drop (length table) F) (forms-denoted l [] 0 refl) in
-      rw (take-at (namesOf 0 l) (drop (length (namesOf 0 l)) A) n (length-names ∙ sym e)) (denotes-actions x, denotes-named x)
+      rw (take-at (formNamesOf 0 l) (drop (length (formNamesOf 0 l)) A) n (length-names ∙ sym e)) (denotes-actions x, denotes-named x)

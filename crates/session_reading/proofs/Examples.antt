@@ -3,7 +3,7 @@ use mathlib.Core.Path.{_≡_, refl}
 use mathlib.Core.List.{[], _∷_}
 use Rattle.history.specs.History.{read, swap, step, begin}
 use Rattle.session_file.specs.Session.{Forms, act, again, empty, with, times}
-use Rattle.session_reading.specs.Tables.{tableOf, doneOf, namesOf}
+use Rattle.session_reading.specs.Tables.{tableOf, doneOf, formNamesOf}
 
 abbrev two : Forms
 two =
@@ -16,6 +16,6 @@ their-table : tableOf (doneOf two) ≡ 1 ∷ 3 ∷ 1 ∷ 0 ∷ 0 ∷ 2 ∷ 3 ∷
 unfolding tableOf doneOf
 their-table = refl
 
-their-names : namesOf 0 two ≡ 0 ∷ 1 ∷ 0 ∷ 1 ∷ 2 ∷ []
-unfolding namesOf doneOf times
+their-names : formNamesOf 0 two ≡ 0 ∷ 1 ∷ 0 ∷ 1 ∷ 2 ∷ []
+unfolding formNamesOf doneOf times
 their-names = refl

@@ -14,7 +14,7 @@ use Rattle.text.specs.Append.{Appended}
 use Rattle.text.proofs.Appending.{nothing, one, then, stored-then, front, behind, later, whole}
 use Rattle.session_file.specs.Session.{again, Forms, times}
 use Rattle.session_reading.specs.Answers.{Far, Kept, kept, gotOf, Stands, KeptIs, ofForm}
-use Rattle.session_reading.specs.Tables.{done, doneOf, names, namesOf, over, tableOf}
+use Rattle.session_reading.specs.Tables.{done, doneOf, formNames, formNamesOf, over, tableOf}
 use Rattle.session_reading.specs.declared.Got.{Got}
 use Rattle.session_reading.specs.declared.Got.the-variants as got
 use Rattle.session_reading.proofs.Repeated.{length-times}
@@ -121,7 +121,7 @@ stands-whole {F} {G} {A} {B} {b} {t} {w} x e =
 
 -- forms that stand no times, read with no room for an action
 pub again-none : {F G A B : List ℕ} {f n : ℕ} {b : Kept} {t w : List ℕ} (c : ℕ) (l : Forms) → Stands F G (take n A) B f n b t w → c ≡ 0 → n ≤ length A → 5 * f ≤ length F → Stands F G A (B ++ drop n A) f n (kept false f n) (ofForm .table (again c l)) (ofForm .words f (again c l))
-unfolding done names tableOf
+unfolding done formNames tableOf
 again-none {F} {A = A} {f = f} {n = n} zero l x e h g =
     let s = x .still (omega (arith, length-take-le n A h)) in
     rw (s .0, s .1, take-append-drop n A) (stands-nothing F A f n g h)
@@ -136,9 +136,9 @@ module _ (c : ℕ) (l : Forms) (z : c ≡ 0 → ⊥) where
   unfolding done
   again-done = ap (λ (i : ℕ). done (again i l)) again-some
 
-  pub again-names : (f : ℕ) → names f (again c l) ≡ times c (namesOf f l)
-  unfolding names
-  again-names f = ap (λ (i : ℕ). names f (again i l)) again-some ∙ ap (λ (i : ℕ). times i (namesOf f l)) (sym again-some)
+  pub again-names : (f : ℕ) → formNames f (again c l) ≡ times c (formNamesOf f l)
+  unfolding formNames
+  again-names f = ap (λ (i : ℕ). formNames f (again i l)) again-some ∙ ap (λ (i : ℕ). times i (formNamesOf f l)) (sym again-some)
 
 next-one : {a b : List ℕ} {p q : ℕ} {t : List ℕ} (i x : ℕ) → Appended a b p q t → q ≡ i → i < length b → Appended a (set b i x) p (i + 1) (t ++ (x ∷ []))
 next-one {b = b} i x y e h = then (rw e at y) (one b i x h)

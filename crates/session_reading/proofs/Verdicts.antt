@@ -12,7 +12,7 @@ use Rattle.text.specs.Readers.{Reads}
 use Rattle.session_shape.specs.Shape.{shaped}
 use Rattle.session_file.specs.Session.{Opening, Forms, Verdict, bad, session, readOpening, lines, counts, actionsOf, formed, asked15, asked14, verdict}
 use Rattle.session_reading.specs.Reading.{sized, verdictIn}
-use Rattle.session_reading.specs.Tables.{Buffers, buffers, cleared, over, tableOf, doneOf, namesOf, afterReading15, afterReading14, afterReading, afterReadingInto}
+use Rattle.session_reading.specs.Tables.{Buffers, buffers, cleared, over, tableOf, doneOf, formNamesOf, afterReading15, afterReading14, afterReading, afterReadingInto}
 use Rattle.session_reading.specs.Answers.{OpenedIs, RestIs}
 use Rattle.session_reading.specs.declared.Rest.{Rest}
 use Rattle.session_reading.specs.declared.Opened.{Opened}
@@ -70,7 +70,7 @@ module _ (s : List ℕ) where
             unfolding asked14 formed asked15 afterReading14 afterReading15
             is-15 k = let f = lt-leb (counts l) 65535 k in (rw (asked .0, x .finds, y .finds, f), rw (asked .1, x .finds, y .finds, f))
 
-            pub is-session : counts l ≤ 65535 → Judged b (session o (actionsOf l)) (buffers (over (o .values) (b .values)) (over (tableOf (doneOf l)) (b .forms)) (over (namesOf 0 l) (b .actions)))
+            pub is-session : counts l ≤ 65535 → Judged b (session o (actionsOf l)) (buffers (over (o .values) (b .values)) (over (tableOf (doneOf l)) (b .forms)) (over (formNamesOf 0 l) (b .actions)))
             unfolding asked14 formed asked15 afterReading14 afterReading15
             is-session k = let f = le-leb (counts l) 65535 k in (rw (asked .0, x .finds, y .finds, f), rw (asked .1, x .finds, y .finds, f))
 

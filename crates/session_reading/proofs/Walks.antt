@@ -11,7 +11,7 @@ use Rattle.text.proofs.Reading.{drop-byte}
 use Rattle.text.specs.Readers.{Reader, Reads}
 use Rattle.session_file.specs.Session.{Form, Forms, empty, with, many, finish}
 use Rattle.session_reading.specs.Answers.{Kept, kept, Stands, KeptIs, HasRoom, Account, ofForm, ofForms, GotIs}
-use Rattle.session_reading.specs.Tables.{tableOf, done, doneOf, names, namesOf}
+use Rattle.session_reading.specs.Tables.{tableOf, done, doneOf, formNames, formNamesOf}
 use Rattle.session_reading.specs.declared.Got.{Got}
 use Rattle.session_reading.specs.declared.Got.the-variants as got
 use Rattle.session_reading.proofs.Denoting.{length-table, table-append}
@@ -51,10 +51,10 @@ module _ (each : Reader Form) (end : Reader (Unit {0})) (s : List ℕ) (at : ℕ
     pub same-actions : length A′ ≡ length A
     pub l : Forms
     pub turn : Turn with each end whole s at i l
-    pub stands : Stands F F′ A A′ f n (kept over g m) (ofForms .table l) (namesOf f l)
+    pub stands : Stands F F′ A A′ f n (kept over g m) (ofForms .table l) (formNamesOf f l)
 
   pub walk-start : HasRoom s at F f A n → Walk F A at f n false
-  unfolding doneOf namesOf tableOf
+  unfolding doneOf formNamesOf tableOf
   walk-start r = record {
     ready = r;
     same-forms = refl;
@@ -72,8 +72,8 @@ module _ (each : Reader Form) (end : Reader (Unit {0})) (s : List ℕ) (at : ℕ
     pub walk-stop : end (drop i s) ≡ none → each (drop i s) ≡ none → whole ≡ none
     walk-stop e f = turn-stop with each end (w .turn) e f
 
-    pub walk-more : {F″ A″ : List ℕ} {x : Form} {j : ℕ} {b : Kept} → end (drop i s) ≡ none → each (drop i s) ≡ some (x, drop j s) → i < j → j ≤ length s → Stands F′ F″ A′ A″ g m b (ofForm .table x) (names g x) → 8 * b .forms ≤ j → length F″ ≡ length F′ → length A″ ≡ length A′ → Walk F″ A″ j (b .forms) (b .actions) (over || b .over)
-    unfolding doneOf namesOf
+    pub walk-more : {F″ A″ : List ℕ} {x : Form} {j : ℕ} {b : Kept} → end (drop i s) ≡ none → each (drop i s) ≡ some (x, drop j s) → i < j → j ≤ length s → Stands F′ F″ A′ A″ g m b (ofForm .table x) (formNames g x) → 8 * b .forms ≤ j → length F″ ≡ length F′ → length A″ ≡ length A′ → Walk F″ A″ j (b .forms) (b .actions) (over || b .over)
+    unfolding doneOf formNamesOf
     walk-more {x = x} {j = j} e q h k y few p o =
         let r = w .ready in
         record {
@@ -82,7 +82,7 @@ module _ (each : Reader Form) (end : Reader (Unit {0})) (s : List ℕ) (at : ℕ
           same-actions = o ∙ w .same-actions;
           l = with (w .l) x;
           turn = turn-more with each end (w .turn) e q h k;
-          stands = rw (table-append (doneOf (w .l)) (done x)) (stands-join (λ i. names i x) (length (doneOf (w .l))) (w .same-forms) (w .same-actions) (length-table (doneOf (w .l))) (w .stands) y);
+          stands = rw (table-append (doneOf (w .l)) (done x)) (stands-join (λ i. formNames i x) (length (doneOf (w .l))) (w .same-forms) (w .same-actions) (length-table (doneOf (w .l))) (w .stands) y);
         }
 
 -- what ends the lines

@@ -11,22 +11,22 @@ use Rattle.text.specs.Readers.{Reader, Reads, literal}
 use Rattle.text.specs.declared.Place.{Place}
 use Rattle.text.specs.declared.Place.the-variants as place
 use Rattle.session_file.specs.Session.{FormKind, reading, swapping, stepping, repeating, severalItems, values, readOpening, keyword, arity, head, Form, Forms, counts, lines}
-use Rattle.session_reading.specs.Tables.{tableOf, done, doneOf, names, namesOf, over, wiped}
-use Rattle.session_reading.specs.declared.Listed.{Listed}
-use Rattle.session_reading.specs.declared.Listed.the-variants as listed
+use Rattle.session_reading.specs.Tables.{tableOf, done, doneOf, formNames, formNamesOf, over, wiped}
+use Rattle.session_reading.specs.declared.ValuesRead.{ValuesRead}
+use Rattle.session_reading.specs.declared.ValuesRead.the-variants as listed
 use Rattle.session_reading.specs.declared.Opened.{Opened}
 use Rattle.session_reading.specs.declared.Opened.the-variants as opened
 use Rattle.session_reading.specs.declared.Word.{Word}
 use Rattle.session_reading.specs.declared.Word.the-variants as word
-use Rattle.session_reading.specs.declared.Start.{Start}
-use Rattle.session_reading.specs.declared.Start.the-variants as start
+use Rattle.session_reading.specs.declared.HeadRead.{HeadRead}
+use Rattle.session_reading.specs.declared.HeadRead.the-variants as start
 use Rattle.session_reading.specs.declared.Got.{Got}
 use Rattle.session_reading.specs.declared.Got.the-variants as got
 use Rattle.session_reading.specs.declared.Rest.{Rest}
 use Rattle.session_reading.specs.declared.Rest.the-variants as rest
 
 -- the values, stored in the buffer from its start
-abbrev pub ValuesAre : List ℕ → ℕ → List ℕ → Listed → Type 0
+abbrev pub ValuesAre : List ℕ → ℕ → List ℕ → ValuesRead → Type 0
 ValuesAre s at out listed.Wrong = values (drop at s) ≡ none
 ValuesAre s at out (listed.Read n next) = Reads values s at 1 (take n out) next
 
@@ -57,7 +57,7 @@ KeywordIs s at word.Unknown = keyword (drop at s) ≡ none
 KeywordIs s at (word.Known n k next) = (kind : FormKind) × (n ≡ formNumber kind) × (k ≡ arity kind) × Reads keyword s at 5 kind next
 
 -- behind its numbers the buffer is as it was
-abbrev pub HeadIs : List ℕ → ℕ → (old new : List ℕ) → Start → Type 0
+abbrev pub HeadIs : List ℕ → ℕ → (old new : List ℕ) → HeadRead → Type 0
 HeadIs s at o p start.Unknown = head (drop at s) ≡ none
 HeadIs s at o p (start.Known n next) =
     (kind : FormKind) × (n ≡ formNumber kind) × Reads head s at 7 (kind, take (arity kind) p) next × (drop (arity kind) p ≡ drop (arity kind) o)
@@ -111,10 +111,10 @@ pub record Account (X : Type 0) : Type 0 where
   pub words : ℕ → X → List ℕ
 
 abbrev pub ofForm : Account Form
-ofForm = record { table = λ x. tableOf (done x); words = names }
+ofForm = record { table = λ x. tableOf (done x); words = formNames }
 
 abbrev pub ofForms : Account Forms
-ofForms = record { table = λ l. tableOf (doneOf l); words = namesOf }
+ofForms = record { table = λ l. tableOf (doneOf l); words = formNamesOf }
 
 module _ {X : Type 0} (a : Account X) (p : Reader X) where
   abbrev pub GotIs : List ℕ → (at long : ℕ) → (F F′ A A′ : List ℕ) → (f n : ℕ) → Got → Type 0
@@ -128,4 +128,4 @@ RestIs s at F F′ A A′ rest.Wrong = (lines (drop at s) ≡ none) × (F′ ≡
 RestIs s at F F′ A A′ rest.Many =
     (l : Forms) × (next : ℕ) × Reads lines s at 0 l next × (length A < counts l) × (F′ ≡ wiped F) × (A′ ≡ wiped A)
 RestIs s at F F′ A A′ (rest.Kept n) =
-    (l : Forms) × (next : ℕ) × Reads lines s at 0 l next × (n ≡ counts l) × (n ≤ length A) × (F′ ≡ over (tableOf (doneOf l)) F) × (A′ ≡ over (namesOf 0 l) A)
+    (l : Forms) × (next : ℕ) × Reads lines s at 0 l next × (n ≡ counts l) × (n ≤ length A) × (F′ ≡ over (tableOf (doneOf l)) F) × (A′ ≡ over (formNamesOf 0 l) A)

@@ -33,14 +33,14 @@ unfoldable mutual
 
 -- each action as the number of its form, with n forms before these
 unfoldable mutual
-  pub names : ℕ → Form → List ℕ
-  names n (act a) = n ∷ []
-  names n (again zero l) = []
-  names n (again (suc c) l) = times (suc c) (namesOf n l)
+  pub formNames : ℕ → Form → List ℕ
+  formNames n (act a) = n ∷ []
+  formNames n (again zero l) = []
+  formNames n (again (suc c) l) = times (suc c) (formNamesOf n l)
 
-  pub namesOf : ℕ → Forms → List ℕ
-  namesOf n empty = []
-  namesOf n (with l f) = namesOf n l ++ names (n + length (doneOf l)) f
+  pub formNamesOf : ℕ → Forms → List ℕ
+  formNamesOf n empty = []
+  formNamesOf n (with l f) = formNamesOf n l ++ formNames (n + length (doneOf l)) f
 
 -- words written over the start of a buffer
 abbrev pub over : List ℕ → List ℕ → List ℕ
@@ -63,7 +63,7 @@ cleared b = buffers (wiped (b .values)) (wiped (b .forms)) (wiped (b .actions))
 
 -- refused with 14 or 15: zeros; before that nothing is written
 unfoldable pub afterReading15 : Bool → Opening → Forms → Buffers → Buffers
-afterReading15 true o l b = buffers (over (o .values) (b .values)) (over (tableOf (doneOf l)) (b .forms)) (over (namesOf 0 l) (b .actions))
+afterReading15 true o l b = buffers (over (o .values) (b .values)) (over (tableOf (doneOf l)) (b .forms)) (over (formNamesOf 0 l) (b .actions))
 afterReading15 false o l b = cleared b
 
 unfoldable pub afterReading14 : Option ((Opening × Forms) × List ℕ) → Buffers → Buffers

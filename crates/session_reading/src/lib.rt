@@ -13,7 +13,7 @@ pub enum Reading {
 }
 
 // How many values, and the place after their bracket.
-pub enum Listed {
+pub enum ValuesRead {
     Wrong,
     Read(usize, usize),
 }
@@ -31,7 +31,7 @@ pub enum Word {
 }
 
 // A form's kind, and the place after its numbers.
-pub enum Start {
+pub enum HeadRead {
     Unknown,
     Known(u32, usize),
 }

@@ -25,8 +25,8 @@ use Rattle.session_reading.proofs.Verdicts.{right-sizes}
 use Rattle.session_text.specs.Printed.{poolWords}
 use Rattle.session_text.specs.Tools.{toolAfterOpen, toolText, toolPrinted, toolWithin}
 use Rattle.starts.specs.Start.{Start, startAfter, startOf, inPool, toolStart, New, Opens, Startable}
-use Rattle.starts.specs.declared.Opening.{Opening}
-use Rattle.starts.specs.declared.Opening.the-variants as opening
+use Rattle.starts.specs.declared.SessionOpening.{SessionOpening}
+use Rattle.starts.specs.declared.SessionOpening.the-variants as opening
 
 -- ON A NEW POOL
 
@@ -73,7 +73,7 @@ module _ (n v b : ℕ) (vs new : List ℕ) {w : ℕ} (en : new ≡ replicate 640
 pub judged-is : {a b c : ℕ} {v : Verdict} (s : List ℕ) → v ≡ verdictIn a b c s → a ≡ 32768 → b ≡ 40960 → c ≡ 65535 → v ≡ verdict s
 judged-is {a} {b} {c} s e p q r = e ∙ right-sizes a b c s p q r
 
-pub made-ready : (o : Opening) (s : State) (f k p : List ℕ) {i : ℕ} → Opens o s i p → i ≤ length k → length k ≡ 65535 → FormNumbers (length f) (take i k) → Startable o s f k p
+pub made-ready : (o : SessionOpening) (s : State) (f k p : List ℕ) {i : ℕ} → Opens o s i p → i ≤ length k → length k ≡ 65535 → FormNumbers (length f) (take i k) → Startable o s f k p
 made-ready (opening.NoSession n) s f k p x h l m = tt
 made-ready (opening.NotOpened n) s f k p x h l m = tt
 made-ready (opening.Open n v w j) s f k p x h l m = (x .0, omega (arith, h, x .1), l, subst (λ (i : ℕ). FormNumbers (length f) (take i k)) (sym (x .1)) m)

@@ -2,7 +2,7 @@
 use opening_state::blank;
 use session_reader::read_session;
 use session_reading::Reading;
-use starts::Opening;
+use starts::SessionOpening;
 use starts::Started;
 use starts::opening_of;
 use starts::pool_words;
@@ -58,7 +58,7 @@ pub fn open_session(
     match found {
         Reading::Bad(n) => Started {
             state: blank(),
-            opening: Opening::NoSession(n),
+            opening: SessionOpening::NoSession(n),
         },
         Reading::Session {
             tasks,

@@ -16,8 +16,8 @@ use Rattle.session_reading.specs.Kept.{FormNumbers}
 use Rattle.session_reading.specs.Tables.{over}
 use Rattle.session_text.specs.Printed.{openedBy}
 use Rattle.text.specs.Lines.{badLine}
-use Rattle.starts.specs.declared.Opening.{Opening}
-use Rattle.starts.specs.declared.Opening.the-variants as opening
+use Rattle.starts.specs.declared.SessionOpening.{SessionOpening}
+use Rattle.starts.specs.declared.SessionOpening.the-variants as opening
 
 pub data Start : Type 0 where
   noSession : ℕ → Start
@@ -48,7 +48,7 @@ toolStart text (ready n v x l) = text n x l
 
 -- THE CODE'S ANSWER, and the buffers that it speaks of
 
-abbrev pub startAt : Opening → State → (forms kept pool : List ℕ) → Start
+abbrev pub startAt : SessionOpening → State → (forms kept pool : List ℕ) → Start
 startAt (opening.NoSession n) s f k p = noSession n
 startAt (opening.NotOpened n) s f k p = notOpened n
 startAt (opening.Open n v w i) s f k p = ready n v (s, take w p) (map (actAt f) (take i k))
@@ -60,13 +60,13 @@ pub record New (n v : ℕ) (s : State) (w : ℕ) (p : List ℕ) : Type 0 where
   pub no-actions : reached .actions ≡ []
   pub all-idle : s .records ≡ replicate 32 idle
 
-abbrev pub Opens : Opening → State → (actions : ℕ) → (pool : List ℕ) → Type 0
+abbrev pub Opens : SessionOpening → State → (actions : ℕ) → (pool : List ℕ) → Type 0
 Opens (opening.NoSession n) s i p = Unit {0}
 Opens (opening.NotOpened n) s i p = Unit {0}
 Opens (opening.Open n v w j) s i p = New n v s w p × (j ≡ i)
 
 -- the actions were kept, and each numbers a form
-abbrev pub Startable : Opening → State → (forms kept pool : List ℕ) → Type 0
+abbrev pub Startable : SessionOpening → State → (forms kept pool : List ℕ) → Type 0
 Startable (opening.NoSession n) s f k p = Unit {0}
 Startable (opening.NotOpened n) s f k p = Unit {0}
 Startable (opening.Open n v w i) s f k p = New n v s w p × (i ≤ length k) × (length k ≡ 65535) × FormNumbers (length f) (take i k)

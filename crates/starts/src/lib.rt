@@ -13,7 +13,7 @@ ghost use Rattle.session_text.specs.Printed.{poolWords};
 ghost use Rattle.starts.specs.Start.{startAfter, startAt, New, Opens};
 
 // How many words of the pool are the cells', and how many actions were read.
-pub enum Opening {
+pub enum SessionOpening {
     NoSession(u32),
     NotOpened(u32),
     Open {
@@ -26,7 +26,7 @@ pub enum Opening {
 
 pub struct Started {
     pub state: State,
-    pub opening: Opening,
+    pub opening: SessionOpening,
 }
 
 // Five words for each block, at most 128; more are refused whatever the pool has.
@@ -39,19 +39,25 @@ pub fn pool_words(blocks: u32) -> usize
     640
 }
 
-pub fn opening_of(outcome: Outcome, tasks: u32, cells: u32, words: usize, actions: usize) -> Opening
+pub fn opening_of(
+    outcome: Outcome,
+    tasks: u32,
+    cells: u32,
+    words: usize,
+    actions: usize,
+) -> SessionOpening
     ensures { λ r. ⌜ ((s : State) (forms kept p : List ℕ) → startAt r s forms kept p ≡ startAfter tasks cells (map (actAt forms) (take actions kept)) (leaving s (take words p) (said outcome))) ⌝ }
     ensures { λ r. ⌜ ((s : State) (p : List ℕ) → (said outcome ≡ Acted → New tasks cells s words p) → Opens r s actions p) ⌝ }
 {
     match outcome {
-        Outcome::Refused(n) => Opening::NotOpened(n),
-        Outcome::Acted => Opening::Open {
+        Outcome::Refused(n) => SessionOpening::NotOpened(n),
+        Outcome::Acted => SessionOpening::Open {
             tasks,
             cells,
             words,
             actions,
         },
         // An open ends no call.
-        Outcome::Ended(_) => Opening::NotOpened(0),
+        Outcome::Ended(_) => SessionOpening::NotOpened(0),
     }
 }

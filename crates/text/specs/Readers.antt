@@ -52,7 +52,7 @@ stored p zero s old = old
 stored p (suc k) s [] = []
 stored p (suc k) s (o ∷ old) = overwritten (p s) (λ t. stored p k t old) (o ∷ old)
 
--- the word w
+-- just these bytes
 unfoldable pub literal : List ℕ → Reader (Unit {0})
 literal [] s = some (tt, s)
 literal (x ∷ w) [] = none

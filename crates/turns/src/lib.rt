@@ -33,7 +33,7 @@ pub struct Turn {
 }
 
 // What a turn in its record's place leaves besides pool and record.
-pub struct Move {
+pub struct TurnInPlace {
     pub current: u32,
     pub last: u32,
     pub outcome: Outcome,
@@ -70,14 +70,14 @@ pub fn make_move(
     current: u32,
     last: u32,
     free: Found,
-) -> Move
+) -> TurnInPlace
     requires { ⌜ (length (now rec) ≡ 12) × Ready (length (now pool)) (recordOf (now rec)) × There (length (now pool)) (foundOf free) ⌝ }
     ensures { λ n. ⌜ turned (recordOf (now (rec .exit))) (n .current) (n .last) (now (pool .exit)) (said (n .outcome)) ≡ turn (now (pool .entry)) task (recordOf (now (rec .entry))) current last (foundOf free) ⌝ }
 {
     let n = run(pool, rec, task, current, last, free);
     let next = n.next;
     let outcome = follow(rec, next);
-    Move {
+    TurnInPlace {
         current: n.current,
         last: n.last,
         outcome,

@@ -5,8 +5,8 @@ use Rattle.session_reading.proofs.Walks.{got-at, got-no, kept-got, ready-later,
 use Rattle.session_reading.proofs.Forming.{head-at, head-no, act-table, form-none, form-no, again-no, again-at, act-no, act-at}
 use Rattle.session_file.specs.Session as specs
 use Rattle.session_reading.specs.Answers.{formNumber, HeadIs, ofForm, ofForms, GotIs}
-use Rattle.session_reading.specs.Tables.{names, namesOf}
-use Rattle.session_reading.specs.declared.Start.the-variants as start
+use Rattle.session_reading.specs.Tables.{formNames, formNamesOf}
+use Rattle.session_reading.specs.declared.HeadRead.the-variants as start
 use Rattle.session_reading.specs.declared.Got.the-variants as got
 use Rattle.text.proofs.Reading.{place-at, place-no}
 use Rattle.text.specs.Readers.{_>>_, Reads}
@@ -163,7 +163,7 @@ module _ (t : ℕ) where
       let times = getD (c .before .before .before .before .before .before .before .before .before .before .before .before .before .before .before .before .before .before .before .before .head .last .1 .1 .0) 0 0 in
       let many = c .before .before .before .before .before .before .before .before .before .before .before .before .before .before .if3 .left in
       kept-got ofForm (specs.form a.depth) a.s.now a.at 8 a.forms.now (c .before .before .before .before .before .before .before .before .before .before .before .list2 .last .1 .1 .1 .0) a.actions.now (g.last .0) a.f a.n (c .before .before .before .before .before .inner .given .0 .1 .1 .0) (specs.again times (y .0)) whole (y .3) g.result
-      (rw (again-done times (y .0) many, again-names times (y .0) many a.f) (g.ensures _ _ _ (ofForms .table (y .0)) (namesOf a.f (y .0)) (sym (c .before .before .before .before .before .before .before .before .before .before .before .list2 .kept .1 .1 .1 .1 .1 .0)) (y .2)))
+      (rw (again-done times (y .0) many, again-names times (y .0) many a.f) (g.ensures _ _ _ (ofForms .table (y .0)) (formNamesOf a.f (y .0)) (sym (c .before .before .before .before .before .before .before .before .before .before .before .list2 .kept .1 .1 .1 .1 .1 .0)) (y .2)))
 
   form-close-requires : form-lts.Need-close-requires (form-claims t) (form-at t) form.Post
   form-close-requires c κs = head-read (c .before .before) .2 .within
@@ -182,7 +182,7 @@ module _ (t : ℕ) where
       (omega (arith, x .2 .past, y .past, y .within, p .few, p .table), (omega (arith, p .few, p .here, p .small), (p .room, search needs)))
 
   form-returns-8 : form-lts.Need-returns-8 (form-claims t) (form-at t) form.Post
-  unfolding names
+  unfolding formNames
   form-returns-8 c =
       let a = entered (c .before .before .before .before .before .before .before .before .before .before .before .before .before .before) .args in
       let p = entered (c .before .before .before .before .before .before .before .before .before .before .before .before .before .before) .pre .1 .1 in
