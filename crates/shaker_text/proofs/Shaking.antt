@@ -74,9 +74,9 @@ refused-text : (o : Option ℕ) (t : List ℕ) {q : ℕ} → q ≡ Option·getD 
 refused-text none t e f = absurd (f e)
 refused-text (some m) t e f = ap badLine e
 
-allowed-text : (o : Option ℕ) (t : List ℕ) → o ≡ none → t ≡ elim o [ none ↦ t | some m ↦ badLine m ]
-allowed-text none t e = refl
-allowed-text (some m) t e = let z : _≡_ {A = ℕ} 0 1 = cc in absurd (omega arith)
+pub shaken-text : (g n v b k : ℕ) → refusal (shakeQuestions n v b k) ≡ none → shaken g n v b k ≡ sessionText g n v b k
+unfolding shaken
+shaken-text g n v b k e = rw (e, shaken)
 
 module _ (g n v b k : ℕ) (old new : List ℕ) (r : ℕ) where
   abbrev text : List ℕ
@@ -99,8 +99,7 @@ module _ (g n v b k : ℕ) (old new : List ℕ) (r : ℕ) where
     no-refusal z = let y = answered z in rw (y .0, y .1, y .2, y .3)
 
     pub all-shaken : q ≡ 0 → Appended old new 0 r (sessionText g n v b k) → 65536 ≤ length old → Entire
-    unfolding shaken
-    all-shaken z x h = entire text x (allowed-text (refusal (shakeQuestions n v b k)) (sessionText g n v b k) (no-refusal z) ∙ with-room (length old) g n v b k h)
+    all-shaken z x h = entire text x (sym (shaken-text g n v b k (no-refusal z)) ∙ with-room (length old) g n v b k h)
 
 pub none-shaken : (g n v b k : ℕ) (old : List ℕ) → length old < 65536 → Entire g n v b k old old 0
 none-shaken g n v b k old h = entire (text g n v b k old old 0) (nothing old 0) (no-room (length old) g n v b k h)
