@@ -8,9 +8,8 @@ use lib.ListN.{length, take, drop, replicate, length-replicate, length-append}
 use lib.Seq.{length-take-le, take-at}
 use borrow.Author.Tests.{le-leb, lt-leb}
 use Rattle.text.proofs.Zeros.{take-zeros}
-use Rattle.io.specs.Counts.{Counts}
 use Rattle.text.specs.Append.{Appended}
-use Rattle.text.proofs.Appending.{nothing, entire}
+use Rattle.text.proofs.Appending.{nothing, Entire, entire}
 use Rattle.questions.specs.declared.State.{State}
 use Rattle.questions.specs.Questions.{refusal, openQuestions}
 use Rattle.cells.specs.Answers.{Said, Refused, Acted, acts}
@@ -99,9 +98,6 @@ module _ (need : ℕ) (text : (tasks : ℕ) → Pool → List Action → List �
   abbrev within : List ℕ
   within = toolWithin need text (length old) s
 
-  abbrev Entire : (new : List ℕ) (r : ℕ) → Type 0
-  Entire new r = (new ≡ within ++ drop r old) × ((r ≡ length within) × Counts r new)
-
   no-room : length old < need → [] ≡ within
   unfolding toolWithin
   no-room h = rw (lt-leb need (length old) h)
@@ -110,8 +106,8 @@ module _ (need : ℕ) (text : (tasks : ℕ) → Pool → List Action → List �
   unfolding toolWithin toolPrinted
   with-room h = rw (le-leb need (length old) h)
 
-  pub nothing-printed : length old < need → Entire old 0
+  pub nothing-printed : length old < need → Entire within old old 0
   nothing-printed h = entire within (nothing old 0) (no-room h)
 
-  pub all-printed : (new : List ℕ) (r : ℕ) {x : Start} → Appended old new 0 r (toolStart text x) → x ≡ startOf (verdict s) → need ≤ length old → Entire new r
+  pub all-printed : (new : List ℕ) (r : ℕ) {x : Start} → Appended old new 0 r (toolStart text x) → x ≡ startOf (verdict s) → need ≤ length old → Entire within old new r
   all-printed new r a e h = entire within a (ap (toolStart text) e ∙ tool-started text (verdict s) ∙ with-room h)
