@@ -7,6 +7,7 @@ use native.Mathlib.Omega.{arith}
 use lib.ListN.{length, replicate, length-append}
 use Rattle.text.specs.Bytes.{bytes, digits}
 use Rattle.text.specs.Lines.{numbers}
+use Rattle.text.proofs.Spaced.{numbers-3}
 use Rattle.history.specs.History.{read, swap, Action, begin, step}
 use Rattle.questions.specs.Questions.{refusal}
 use Rattle.cells.specs.Machine.{Pool, pool}
@@ -17,7 +18,7 @@ use Rattle.session_file.proofs.WrittenRead.{actions-read}
 use Rattle.drawing.specs.Drawn.{drawnAction}
 use Rattle.shaker_text.specs.Actions.{drawnActions, zeroStart, Short, zeroOpening}
 use Rattle.shaker_text.specs.Shaken.{shakeQuestions, shakenActions, sessionText, shaken}
-use Rattle.shaker_text.proofs.Zeros.{zeros-length, three-length}
+use Rattle.shaker_text.proofs.Zeros.{zeros-length}
 use Rattle.shaker_text.proofs.Shaking.{shaken-text}
 use Rattle.shaker_text.proofs.Writing.{written-short, short-drawn}
 use Rattle.shaker_text.proofs.Allowed.{sizes-ok}
@@ -66,7 +67,7 @@ unfolding openingLine
 opening-length n v b hn hv hb =
     let three = numbers (n ∷ v ∷ b ∷ []) in
     let vs = writtenValues (replicate v 0) in
-    omega (arith, length-append (bytes "(open" ++ three ++ bytes " (" ++ vs) (bytes "))\n"), length-append (bytes "(open" ++ three ++ bytes " (") vs, length-append (bytes "(open" ++ three) (bytes " ("), three-length n v b (omega arith) (omega arith) (omega arith), values-length v)
+    omega (arith, length-append (bytes "(open" ++ three ++ bytes " (" ++ vs) (bytes "))\n"), length-append (bytes "(open" ++ three ++ bytes " (") vs, length-append (bytes "(open" ++ three) (bytes " ("), numbers-3 n v b (omega arith) (omega arith) (omega arith), values-length v)
 
 -- THE SESSION
 
