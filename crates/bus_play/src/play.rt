@@ -88,7 +88,7 @@ fn counters() -> [u32; 32]
     [0; 32]
 }
 
-// Every action, and the line of the sums. What is left in the pool is open: it is the session's own.
+// Every action, and the line of the sums. What is left in pool and records is open: they are the session's own.
 pub fn play(
     out: &mut [u8],
     w: Ranges,

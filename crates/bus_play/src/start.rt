@@ -16,7 +16,7 @@ ghost use Rattle.session_reading.specs.Kept.{FormNumbers};
 ghost use Rattle.bus_text.specs.Bus.{busText};
 ghost use Rattle.bus_calls.specs.Structs.{timesOf};
 
-// 21 and 22, then the actions. What is left in the pool is open: it is the session's own.
+// 21 and 22, then the actions. What is left in pool and records is open: they are the session's own.
 pub fn start(
     out: &mut [u8],
     w: Ranges,

@@ -1,15 +1,15 @@
 -- What bus prints of a session file, and what its numbers bound.
-use mathlib.Core.Path.{_≡_, sym, ap, _∙_}
+use mathlib.Core.Path.{_≡_, ap, _∙_}
 use mathlib.Core.Bool.{true}
 use mathlib.Core.Option.{none}
 use mathlib.Core.List.{List}
 use Prim.Native.Nat.{ℕ}
-use lib.ListN.{length, replicate}
-use Rattle.questions.specs.Questions.{refusal, openQuestions}
+use lib.ListN.{replicate}
+use Rattle.questions.specs.Questions.{refusal}
 use Rattle.questions.proofs.Tests.{yes-to}
 use Rattle.cells.specs.Machine.{Pool}
-use Rattle.cells.specs.Answers.{Acted, acts}
-use Rattle.cells.proofs.Acts.{acts-iff, open-acts}
+use Rattle.cells.specs.Answers.{Acted}
+use Rattle.cells.proofs.Acts.{open-allowed}
 use Rattle.history.specs.History.{Action}
 use Rattle.session_file.specs.Session.{Opening, session, verdict}
 use Rattle.cells.specs.Open.{blank}
@@ -30,11 +30,6 @@ module _ (w : Times) (asked : refusal (busQuestions w) ≡ none) (file : List �
   unfolding toolPrinted toolAfterOpen
   text-is = ap (toolText (busText w)) is-session ∙ rw opens (text-accepted w asked (o .tasks) (leftBy o) actions)
 
-  allowed : refusal (openQuestions (length (replicate {A = ℕ} (poolWords (o .blocks)) 0)) (o .tasks) (o .cells) (o .blocks) (o .values)) ≡ none
-  allowed =
-      let p = replicate {A = ℕ} (poolWords (o .blocks)) 0 in
-      acts-iff (openQuestions (length p) (o .tasks) (o .cells) (o .blocks) (o .values)) .1 (sym (open-acts blank p (o .tasks) (o .cells) (o .blocks) (o .values)) ∙ ap acts opens)
-
   in-order : ordered w ≡ true
   in-order = yes-to (busQuestions w) asked 21
 
@@ -46,6 +41,7 @@ module _ (w : Times) (asked : refusal (busQuestions w) ≡ none) (file : List �
       × LongestOf (sumsOf calls .longest) calls
   printed-bounds =
       let p = replicate {A = ℕ} (poolWords (o .blocks)) 0 in
+      let allowed = open-allowed blank p (o .tasks) (o .cells) (o .blocks) (o .values) opens in
       let calls = busCalls w (leftBy o) actions in (
         calls,
         text-is,

@@ -54,6 +54,9 @@ module _ (s : State) (p : List ℕ) (tasks cells blocks : ℕ) (values : List �
   unfolding opened
   open-acts = asked s p (leaving (openState tasks cells blocks) (openPool p values) Acted) refl (openQuestions (length p) tasks cells blocks values)
 
+  pub open-allowed : opened s p tasks cells blocks values .outcome ≡ Acted → refusal (openQuestions (length p) tasks cells blocks values) ≡ none
+  open-allowed e = acts-iff (openQuestions (length p) tasks cells blocks values) .1 (sym open-acts ∙ ap acts e)
+
   pub open-untouched : Untouched s p (opened s p tasks cells blocks values)
   unfolding opened
   open-untouched = untouched s p (leaving (openState tasks cells blocks) (openPool p values) Acted) refl (refusal (openQuestions (length p) tasks cells blocks values))

@@ -15,6 +15,7 @@ use Rattle.history.proofs.Basics.{no-such}
 use Rattle.questions.specs.Questions.{reads, swaps, ofKind, lineFit, holdsBefore, takenBefore}
 use Rattle.questions.specs.Counts.{claimed}
 use Rattle.questions.proofs.Numbers.{number, at-number}
+use Rattle.questions.proofs.Tests.{or-right}
 use Rattle.cells.specs.Counts.{released, renamed, recounted, Countable}
 use Rattle.cells.specs.Turn.{ending, turn}
 use Rattle.cells.proofs.Countable.{recounted-same}
@@ -78,10 +79,6 @@ module _ (t : ℕ) (r : Record) (v : ℕ) where
   kept l27 h k = search keeping
   kept l30 h k = search keeping
   kept nowhere h k = search keeping
-
-or-right : (a b : Bool) → (a || b) ≡ false → b ≡ false
-or-right true b h = absurd (false≢true (sym h))
-or-right false b h = h
 
 claimed-same : (l : List ℕ) (r q : Record) → Same (r .line) r q → claimed l q ≡ claimed l r
 claimed-same l r q h = rw (h .2, h .3, h .0, h .1)

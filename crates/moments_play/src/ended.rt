@@ -8,25 +8,26 @@ use moments_spots::ending;
 use moments_words::enter;
 ghost use mathlib.Core.Path.{_≡_};
 ghost use Prim.Native.Nat.{_+_, _≤_, _<_};
-ghost use lib.ListN.{length, take};
+ghost use lib.ListN.{length, take, drop};
 ghost use Rattle.lines.specs.Answers.{answerOf};
 ghost use Rattle.lines.specs.Record.{opOf};
 ghost use Rattle.cells.specs.Answers.{said};
 ghost use Rattle.moments_notes.specs.Words.{markWord, insertWord, SortedWords};
 ghost use Rattle.moments_notes.specs.Loop.{endingSpot, endedWords, endedCount, EndFits};
 
-// The word of task t's call, which ends with that answer.
+// The word of task t's call, which ends with that answer. The words behind are as they were.
 fn end_with(list: &mut [u32], n: usize, a: Answer, r: Record, x: Sight, o: Own, i: u16, t: u32)
     requires { ⌜ (n < length (now list)) × SortedWords (take n (now list)) ⌝ }
     requires { ⌜ (t < 32) × (r .cell < 16) ⌝ }
     ensures { λ _. ⌜ take (n + 1) (now (list .exit)) ≡ insertWord (markWord (endingSpot i o r x (answerOf a)) (opOf r) t (answerOf a)) (take n (now (list .entry))) ⌝ }
     ensures { λ _. ⌜ endingSpot i o r x (answerOf a) .moment ≤ 65535 ⌝ }
+    ensures { λ _. ⌜ drop (n + 1) (now (list .exit)) ≡ drop (n + 1) (now (list .entry)) ⌝ }
 {
     let q = ending(r, x, a, i, o);
     enter(list, n, q, r, a, t);
 }
 
-// The word of the call that the action ended, if it did.
+// The word of the call that the action ended, if it did. The words behind are as they were.
 pub fn end_call(
     list: &mut [u32],
     n: usize,
@@ -42,6 +43,7 @@ pub fn end_call(
     ensures { λ m. ⌜ (m ≡ endedCount (said outcome) n) × (m ≤ n + 1) ⌝ }
     ensures { λ m. ⌜ take m (now (list .exit)) ≡ endedWords (endingSpot i o r x) (opOf r) t (said outcome) (take n (now (list .entry))) ⌝ }
     ensures { λ _. ⌜ EndFits (endingSpot i o r x) (said outcome) ⌝ }
+    ensures { λ m. ⌜ drop m (now (list .exit)) ≡ drop m (now (list .entry)) ⌝ }
 {
     match outcome {
         Outcome::Refused(_) => n,

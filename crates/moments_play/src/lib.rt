@@ -42,7 +42,7 @@ fn mark_space() -> [u32; MARKS]
     [0; MARKS]
 }
 
-// Every action, with notes beside it. What is left in the pool is open: it is the session's own.
+// Every action, with notes beside it. What is left in pool and records is open: they are the session's own.
 fn list_marks(
     list: &mut [u32],
     records: &mut [u32],

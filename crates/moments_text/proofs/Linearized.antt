@@ -1,13 +1,11 @@
 -- The calls in the order in which they are printed are a linearization.
-use mathlib.Core.Path.{_≡_, sym, ap, _∙_}
-use mathlib.Core.Option.{none}
+use mathlib.Core.Path.{_≡_, ap, _∙_}
 use mathlib.Core.List.{List, map}
 use Prim.Native.Nat.{ℕ}
-use lib.ListN.{length, getD, replicate}
-use Rattle.questions.specs.Questions.{refusal, openQuestions}
-use Rattle.cells.specs.Answers.{Acted, acts}
+use lib.ListN.{getD, replicate}
+use Rattle.cells.specs.Answers.{Acted}
 use Rattle.cells.specs.Machine.{pool}
-use Rattle.cells.proofs.Acts.{acts-iff, open-acts}
+use Rattle.cells.proofs.Acts.{open-allowed}
 use Rattle.history.specs.History.{Action, history, callsOf}
 use Rattle.history.specs.Linearization.{Linearizes, replies}
 use Rattle.history.specs.Moments.{Mark, pointOf, replyOf}
@@ -28,11 +26,6 @@ module _ (file : List ℕ) (o : Opening) (actions : List Action) (is-session : v
   unfolding toolPrinted toolAfterOpen
   printed-lines = ap (toolText momentsText) is-session ∙ rw opens
 
-  allowed : refusal (openQuestions (length (replicate {A = ℕ} (poolWords (o .blocks)) 0)) (o .tasks) (o .cells) (o .blocks) (o .values)) ≡ none
-  allowed =
-      let p = replicate {A = ℕ} (poolWords (o .blocks)) 0 in
-      acts-iff (openQuestions (length p) (o .tasks) (o .cells) (o .blocks) (o .values)) .1 (sym (open-acts blank p (o .tasks) (o .cells) (o .blocks) (o .values)) ∙ ap acts opens)
-
   -- What is printed is the lines of marks that are a linearization of the session's calls: of every finished call, and of exactly the listed
   -- pending swaps. Fed the calls in the printed order, the sequential cells give each its answer, and yes to the listed pending swaps.
   pub printed-linearizes : (marks : List Mark) × (momentsPrinted file ≡ markLines marks)
@@ -40,4 +33,5 @@ module _ (file : List ℕ) (o : Opening) (actions : List Action) (is-session : v
       × (replies (λ k. getD (o .values) k 0) (map pointOf marks) ≡ map replyOf marks)
   printed-linearizes =
       let p = replicate {A = ℕ} (poolWords (o .blocks)) 0 in
+      let allowed = open-allowed blank p (o .tasks) (o .cells) (o .blocks) (o .values) opens in
       (listed, printed-lines, cell-moments-linearize blank p (o .tasks) (o .cells) (o .blocks) (o .values) allowed actions, cell-moments-answers blank p (o .tasks) (o .cells) (o .blocks) (o .values) allowed actions)

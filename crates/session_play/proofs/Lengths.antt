@@ -7,13 +7,7 @@ use lib.ListN.{length}
 use Rattle.text.specs.Bytes.{bytes, decimal}
 use Rattle.text.proofs.Decimal.{decimal-short}
 use Rattle.text.specs.Lines.{numbers, line}
-use Rattle.text.proofs.Spaced.{decimal-32, decimal-64, numbers-length, none-length, line-length}
-
-pub numbers-2 : (a b : ℕ) → a ≤ 4294967295 → b ≤ 4294967295 → length (numbers (a ∷ b ∷ [])) ≤ 22
-numbers-2 a b h k = omega (arith, numbers-length a (b ∷ []), numbers-length b [], none-length, decimal-32 a h, decimal-32 b k)
-
-pub numbers-3 : (a b c : ℕ) → a ≤ 4294967295 → b ≤ 4294967295 → c ≤ 4294967295 → length (numbers (a ∷ b ∷ c ∷ [])) ≤ 33
-numbers-3 a b c h i j = omega (arith, numbers-length a (b ∷ c ∷ []), numbers-2 b c i j, decimal-32 a h)
+use Rattle.text.proofs.Spaced.{decimal-64, numbers-length, none-length, numbers-2, line-length}
 
 pub line-2 : (s : List ℕ) (a b : ℕ) → a ≤ 4294967295 → b ≤ 4294967295 → length (line s (a ∷ b ∷ [])) ≤ length s + 24
 line-2 s a b h k = omega (arith, line-length s (a ∷ b ∷ []), numbers-2 a b h k)

@@ -4,9 +4,8 @@ use mathlib.Core.List.{List, [], _∷_, _++_, map, append-assoc}
 use Prim.Native.Nat.{ℕ, _+_, _≤_, _<_}
 use borrow.Author.Tests.{le-leb, lt-leb}
 use lib.ListN.{length, drop, getD, replicate}
-use Rattle.io.specs.Counts.{Counts}
 use Rattle.text.specs.Append.{Appended}
-use Rattle.text.proofs.Appending.{nothing, entire}
+use Rattle.text.proofs.Appending.{nothing, Entire, entire}
 use Rattle.questions.specs.declared.State.{State}
 use Rattle.cells.specs.Answers.{Said, Refused, Acted, Ended}
 use Rattle.cells.specs.Open.{After, leaving, blank}
@@ -78,15 +77,8 @@ unfolding printedWithin printed
 with-room s n h = rw (le-leb 921000 n h)
 
 -- the text of the file s, r bytes at the start of the buffer, and nothing else changed
-module _ (s old new : List ℕ) (r : ℕ) where
-  abbrev text : List ℕ
-  text = printedWithin (length old) s
+pub all-printed : (s old new : List ℕ) (r : ℕ) {x : Start} → Appended old new 0 r (startText x) → x ≡ startOf (verdict s) → 921000 ≤ length old → Entire (printedWithin (length old) s) old new r
+all-printed s old new r a e h = entire (printedWithin (length old) s) a (ap startText e ∙ started (verdict s) ∙ with-room s (length old) h)
 
-  abbrev Entire : Type 0
-  Entire = (new ≡ text ++ drop r old) × ((r ≡ length text) × Counts r new)
-
-  pub all-printed : {x : Start} → Appended old new 0 r (startText x) → x ≡ startOf (verdict s) → 921000 ≤ length old → Entire
-  all-printed a e h = entire text a (ap startText e ∙ started (verdict s) ∙ with-room s (length old) h)
-
-pub none-printed : (s old : List ℕ) → length old < 921000 → Entire s old old 0
-none-printed s old h = entire (text s old old 0) (nothing old 0) (no-room s (length old) h)
+pub none-printed : (s old : List ℕ) → length old < 921000 → Entire (printedWithin (length old) s) old old 0
+none-printed s old h = entire (printedWithin (length old) s) (nothing old 0) (no-room s (length old) h)

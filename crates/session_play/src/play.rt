@@ -119,7 +119,7 @@ fn finish(
     printing::put_end(out, a, z.finished, unfinished, z.hard)
 }
 
-// Every action, and what is printed after the last. What is left in the pool is open: it is the session's own.
+// Every action, and what is printed after the last. What is left in pool and records is open: they are the session's own.
 pub fn play(
     out: &mut [u8],
     records: &mut [u32],

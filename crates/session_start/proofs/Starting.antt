@@ -8,15 +8,14 @@ use lib.ListN.{length, take, drop, replicate, length-replicate, length-append}
 use lib.Seq.{length-take-le, take-at}
 use borrow.Author.Tests.{le-leb, lt-leb}
 use Rattle.text.proofs.Zeros.{take-zeros}
-use Rattle.io.specs.Counts.{Counts}
 use Rattle.text.specs.Append.{Appended}
-use Rattle.text.proofs.Appending.{nothing, entire}
+use Rattle.text.proofs.Appending.{nothing, Entire, entire}
 use Rattle.questions.specs.declared.State.{State}
 use Rattle.questions.specs.Questions.{refusal, openQuestions}
-use Rattle.cells.specs.Answers.{Said, Refused, Acted, acts}
+use Rattle.cells.specs.Answers.{Said, Refused, Acted}
 use Rattle.cells.specs.Open.{After, leaving, unless, openState, openPool, opened, blank}
 use Rattle.cells.specs.Machine.{Pool}
-use Rattle.cells.proofs.Acts.{acts-iff, open-acts}
+use Rattle.cells.proofs.Acts.{open-allowed}
 use Rattle.history.specs.History.{Action}
 use Rattle.session_file.specs.Session.{Verdict, bad, session, verdict}
 use Rattle.session_reading.specs.Reading.{verdictIn}
@@ -32,9 +31,6 @@ use Rattle.starts.specs.declared.SessionOpening.the-variants as opening
 
 pub new-length : {l : List ℕ} → l ≡ replicate 640 0 → length l ≡ 640
 new-length e = ap length e ∙ length-replicate {A = ℕ} 640 0
-
-allowed : (s : State) (p : List ℕ) (n v b : ℕ) (vs : List ℕ) → opened s p n v b vs .outcome ≡ Acted → refusal (openQuestions (length p) n v b vs) ≡ none
-allowed s p n v b vs e = acts-iff (openQuestions (length p) n v b vs) .1 (sym (open-acts s p n v b vs) ∙ ap acts e)
 
 module _ (n v b : ℕ) (vs new : List ℕ) {w : ℕ} (en : new ≡ replicate 640 0) (ew : w ≡ poolWords b) (hw : w ≤ 640) {s₀ s : State} {p : List ℕ} {o : Said} (eb : s₀ ≡ blank) (e : leaving s p o ≡ opened s₀ (take w new) n v b vs) (el : length p ≡ length (take w new)) where
   -- the cells' words, and the rest of the pool
@@ -61,7 +57,7 @@ module _ (n v b : ℕ) (vs new : List ℕ) {w : ℕ} (en : new ≡ replicate 640
   pub newly : o ≡ Acted → New n v s w whole
   unfolding opened
   newly q =
-      let a = allowed s₀ (take w new) n v b vs (sym (ap (λ (r : After). r .outcome) e) ∙ q) in record {
+      let a = open-allowed s₀ (take w new) n v b vs (sym (ap (λ (r : After). r .outcome) e) ∙ q) in record {
         within = omega (arith, words, length-append p (drop w new));
         reached = record { old = s₀; words = take w new; blocks = b; values = vs; allowed = a; actions = []; came = ap (λ (q : List ℕ). (s, q)) theirs ∙ ap (λ (r : After). (r .state, r .pool)) e };
         no-actions = refl;
@@ -99,9 +95,6 @@ module _ (need : ℕ) (text : (tasks : ℕ) → Pool → List Action → List �
   abbrev within : List ℕ
   within = toolWithin need text (length old) s
 
-  abbrev Entire : (new : List ℕ) (r : ℕ) → Type 0
-  Entire new r = (new ≡ within ++ drop r old) × ((r ≡ length within) × Counts r new)
-
   no-room : length old < need → [] ≡ within
   unfolding toolWithin
   no-room h = rw (lt-leb need (length old) h)
@@ -110,8 +103,8 @@ module _ (need : ℕ) (text : (tasks : ℕ) → Pool → List Action → List �
   unfolding toolWithin toolPrinted
   with-room h = rw (le-leb need (length old) h)
 
-  pub nothing-printed : length old < need → Entire old 0
+  pub nothing-printed : length old < need → Entire within old old 0
   nothing-printed h = entire within (nothing old 0) (no-room h)
 
-  pub all-printed : (new : List ℕ) (r : ℕ) {x : Start} → Appended old new 0 r (toolStart text x) → x ≡ startOf (verdict s) → need ≤ length old → Entire new r
+  pub all-printed : (new : List ℕ) (r : ℕ) {x : Start} → Appended old new 0 r (toolStart text x) → x ≡ startOf (verdict s) → need ≤ length old → Entire within old new r
   all-printed new r a e h = entire within a (ap (toolStart text) e ∙ tool-started text (verdict s) ∙ with-room h)

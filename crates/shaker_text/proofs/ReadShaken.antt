@@ -1,12 +1,13 @@
 -- What the shaker prints is a session that the reader accepts, with exactly the actions drawn.
 use mathlib.Core.Path.{_≡_, refl, ap, _∙_}
-use mathlib.Core.Option.{Option, none, some}
+use mathlib.Core.Option.{none}
 use mathlib.Core.List.{List, [], _∷_, _++_, map}
 use Prim.Native.Nat.{ℕ, zero, suc, _+_, _*_, _≤_, _<_}
 use native.Mathlib.Omega.{arith}
 use lib.ListN.{length, replicate, length-append}
 use Rattle.text.specs.Bytes.{bytes, digits}
-use Rattle.text.specs.Lines.{numbers, badLine}
+use Rattle.text.specs.Lines.{numbers}
+use Rattle.text.proofs.Spaced.{numbers-3}
 use Rattle.history.specs.History.{read, swap, Action, begin, step}
 use Rattle.questions.specs.Questions.{refusal}
 use Rattle.cells.specs.Machine.{Pool, pool}
@@ -17,7 +18,8 @@ use Rattle.session_file.proofs.WrittenRead.{actions-read}
 use Rattle.drawing.specs.Drawn.{drawnAction}
 use Rattle.shaker_text.specs.Actions.{drawnActions, zeroStart, Short, zeroOpening}
 use Rattle.shaker_text.specs.Shaken.{shakeQuestions, shakenActions, sessionText, shaken}
-use Rattle.shaker_text.proofs.Zeros.{zeros-length, three-length}
+use Rattle.shaker_text.proofs.Zeros.{zeros-length}
+use Rattle.shaker_text.proofs.Shaking.{shaken-text}
 use Rattle.shaker_text.proofs.Writing.{written-short, short-drawn}
 use Rattle.shaker_text.proofs.Allowed.{sizes-ok}
 
@@ -65,7 +67,7 @@ unfolding openingLine
 opening-length n v b hn hv hb =
     let three = numbers (n ∷ v ∷ b ∷ []) in
     let vs = writtenValues (replicate v 0) in
-    omega (arith, length-append (bytes "(open" ++ three ++ bytes " (" ++ vs) (bytes "))\n"), length-append (bytes "(open" ++ three ++ bytes " (") vs, length-append (bytes "(open" ++ three) (bytes " ("), three-length n v b (omega arith) (omega arith) (omega arith), values-length v)
+    omega (arith, length-append (bytes "(open" ++ three ++ bytes " (" ++ vs) (bytes "))\n"), length-append (bytes "(open" ++ three ++ bytes " (") vs, length-append (bytes "(open" ++ three) (bytes " ("), numbers-3 n v b (omega arith) (omega arith) (omega arith), values-length v)
 
 -- THE SESSION
 
@@ -74,14 +76,6 @@ unfolding fileText
 text-length g n v b k e =
     let h = sizes-ok n v b k e in
     omega (arith, length-append (openingLine (zeroOpening n v b)) (formLines (map act (shakenActions g n v b k))), opening-length n v b (h .1) (h .3) (h .4), lines-length n v (h .0) (h .1) (h .2) (h .3) k g (zeroStart n v b), h .5)
-
-allowed-text : (o : Option ℕ) (t : List ℕ) → o ≡ none → elim o [ none ↦ t | some m ↦ badLine m ] ≡ t
-allowed-text none t e = refl
-allowed-text (some m) t e = let z : _≡_ {A = ℕ} 0 1 = cc in absurd (omega arith)
-
-shaken-text : (g n v b k : ℕ) → refusal (shakeQuestions n v b k) ≡ none → shaken g n v b k ≡ sessionText g n v b k
-unfolding shaken
-shaken-text g n v b k e = allowed-text (refusal (shakeQuestions n v b k)) (sessionText g n v b k) e
 
 -- The text that the shaker prints is a session: its opening, all values 0, and exactly the actions drawn, for every length from 1 to 3,000.
 pub shaken-is-read : (seed tasks cells blocks length : ℕ) → refusal (shakeQuestions tasks cells blocks length) ≡ none

@@ -2,16 +2,15 @@
 use mathlib.Core.Path.{_≡_, refl, sym, ap, _∙_}
 use mathlib.Core.Bool.{Bool, true, false, cond, not}
 use mathlib.Core.Option.{Option, none, some, Option·getD}
-use mathlib.Core.List.{List, [], _∷_, _++_}
+use mathlib.Core.List.{List, [], _∷_}
 use Prim.Native.Nat.{ℕ, _+_, _*_, _≤_, _<_}
 use native.Mathlib.Omega.{arith}
 use borrow.Author.Tests.{le-leb, lt-leb, ne-eqb}
 use lib.Dec.{eqb}
-use lib.ListN.{length, drop}
-use Rattle.io.specs.Counts.{Counts}
+use lib.ListN.{length}
 use Rattle.text.specs.Lines.{badLine}
 use Rattle.text.specs.Append.{Appended}
-use Rattle.text.proofs.Appending.{nothing, entire}
+use Rattle.text.proofs.Appending.{nothing, Entire, entire}
 use Rattle.lines.specs.Basics.{within}
 use Rattle.questions.specs.Questions.{Question, refusal, tasksOk, cellsOk, blocksOk, hasNone, openQuestions}
 use Rattle.questions.proofs.Tests.{within-true, blocks-most}
@@ -74,19 +73,16 @@ refused-text : (o : Option ℕ) (t : List ℕ) {q : ℕ} → q ≡ Option·getD 
 refused-text none t e f = absurd (f e)
 refused-text (some m) t e f = ap badLine e
 
-allowed-text : (o : Option ℕ) (t : List ℕ) → o ≡ none → t ≡ elim o [ none ↦ t | some m ↦ badLine m ]
-allowed-text none t e = refl
-allowed-text (some m) t e = let z : _≡_ {A = ℕ} 0 1 = cc in absurd (omega arith)
+pub shaken-text : (g n v b k : ℕ) → refusal (shakeQuestions n v b k) ≡ none → shaken g n v b k ≡ sessionText g n v b k
+unfolding shaken
+shaken-text g n v b k e = rw (e, shaken)
 
 module _ (g n v b k : ℕ) (old new : List ℕ) (r : ℕ) where
   abbrev text : List ℕ
   text = shakenWithin (length old) g n v b k
 
-  abbrev Entire : Type 0
-  Entire = (new ≡ text ++ drop r old) × ((r ≡ length text) × Counts r new)
-
   module _ {q : ℕ} (e : q ≡ first (shakeQuestions n v b k)) where
-    pub all-refused : (q ≡ 0 → ⊥) → Appended old new 0 r (badLine q) → 65536 ≤ length old → Entire
+    pub all-refused : (q ≡ 0 → ⊥) → Appended old new 0 r (badLine q) → 65536 ≤ length old → Entire text old new r
     unfolding shaken
     all-refused f x h = entire text x (refused-text (refusal (shakeQuestions n v b k)) (sessionText g n v b k) e f ∙ with-room (length old) g n v b k h)
 
@@ -98,12 +94,11 @@ module _ (g n v b k : ℕ) (old new : List ℕ) (r : ℕ) where
     unfolding shakeQuestions
     no-refusal z = let y = answered z in rw (y .0, y .1, y .2, y .3)
 
-    pub all-shaken : q ≡ 0 → Appended old new 0 r (sessionText g n v b k) → 65536 ≤ length old → Entire
-    unfolding shaken
-    all-shaken z x h = entire text x (allowed-text (refusal (shakeQuestions n v b k)) (sessionText g n v b k) (no-refusal z) ∙ with-room (length old) g n v b k h)
+    pub all-shaken : q ≡ 0 → Appended old new 0 r (sessionText g n v b k) → 65536 ≤ length old → Entire text old new r
+    all-shaken z x h = entire text x (sym (shaken-text g n v b k (no-refusal z)) ∙ with-room (length old) g n v b k h)
 
-pub none-shaken : (g n v b k : ℕ) (old : List ℕ) → length old < 65536 → Entire g n v b k old old 0
-none-shaken g n v b k old h = entire (text g n v b k old old 0) (nothing old 0) (no-room (length old) g n v b k h)
+pub none-shaken : (g n v b k : ℕ) (old : List ℕ) → length old < 65536 → Entire (shakenWithin (length old) g n v b k) old old 0
+none-shaken g n v b k old h = entire (shakenWithin (length old) g n v b k) (nothing old 0) (no-room (length old) g n v b k h)
 
 -- a session's sizes, where none is refused
 pub sizes : (n v b k : ℕ) {q : ℕ} → q ≡ first (shakeQuestions n v b k) → q ≡ 0 → (0 < n) × (n ≤ 32) × (0 < v) × (v ≤ 16) × (b ≤ 128) × (k ≤ 3000)

@@ -8,7 +8,7 @@ use Rattle.text.proofs.Zeros.{take-zeros}
 use Rattle.text.specs.Bytes.{bytes, digits}
 use Rattle.text.specs.Lines.{numbers}
 use Rattle.text.specs.Append.{Appended}
-use Rattle.text.proofs.Spaced.{decimal-32, numbers-length, none-length}
+use Rattle.text.proofs.Spaced.{numbers-length, none-length}
 use Rattle.session_file.specs.Written.{writtenValues, openingLine}
 use Rattle.shaker_text.specs.Actions.{zeroOpening}
 
@@ -27,9 +27,6 @@ pub zeros-length : (m : ℕ) → length (numbers (replicate m 0)) ≡ 2 * m
 unfolding digits
 zeros-length zero = none-length
 zeros-length (suc m) = omega (arith, numbers-length 0 (replicate m 0), zeros-length m)
-
-pub three-length : (a b c : ℕ) → a ≤ 4294967295 → b ≤ 4294967295 → c ≤ 4294967295 → length (numbers (a ∷ b ∷ c ∷ [])) ≤ 33
-three-length a b c h i j = omega (arith, numbers-length a (b ∷ c ∷ []), numbers-length b (c ∷ []), numbers-length c [], none-length, decimal-32 a h, decimal-32 b i, decimal-32 c j)
 
 -- the code prints the first value with the bracket before it
 values-text : (l : List ℕ) (v : ℕ) → 0 < v → (l ++ bytes " (0") ++ numbers (replicate (v - 1) 0) ≡ (l ++ bytes " (") ++ writtenValues (replicate v 0)

@@ -13,7 +13,10 @@ pub whole : {o p : List ℕ} {r : ℕ} {t : List ℕ} → Appended o p 0 r t →
 whole {o} {p} {r} {t} x = sym (take-append-drop r p) ∙ ap (λ (l : List ℕ). l ++ drop r p) (x .stored .words) ∙ ap (λ (l : List ℕ). t ++ l) (x .rest)
 
 -- what a promise about the whole buffer says: the text u and then what was there, u's length, and that it lies within
-pub entire : {o p : List ℕ} {r : ℕ} {t : List ℕ} (u : List ℕ) → Appended o p 0 r t → t ≡ u → (p ≡ u ++ drop r o) × ((r ≡ length u) × ((r ≤ length p) × (r ≡ length (take r p))))
+abbrev pub Entire : (u o p : List ℕ) (r : ℕ) → Type 0
+Entire u o p r = (p ≡ u ++ drop r o) × ((r ≡ length u) × ((r ≤ length p) × (r ≡ length (take r p))))
+
+pub entire : {o p : List ℕ} {r : ℕ} {t : List ℕ} (u : List ℕ) → Appended o p 0 r t → t ≡ u → Entire u o p r
 entire {o} {p} {r} u x e =
     let h : r ≤ length p = omega (arith, length-take r p, ap length (x .stored .words), x .stored .next) in
     (whole x ∙ ap (λ (l : List ℕ). l ++ drop r o) e, (omega (arith, x .stored .next, ap length e), (h, sym (length-take-le r p h))))

@@ -37,6 +37,12 @@ pub none-length : length (numbers []) ≡ 0
 unfolding numbers
 none-length = omega arith
 
+pub numbers-2 : (a b : ℕ) → a ≤ 4294967295 → b ≤ 4294967295 → length (numbers (a ∷ b ∷ [])) ≤ 22
+numbers-2 a b h k = omega (arith, numbers-length a (b ∷ []), numbers-length b [], none-length, decimal-32 a h, decimal-32 b k)
+
+pub numbers-3 : (a b c : ℕ) → a ≤ 4294967295 → b ≤ 4294967295 → c ≤ 4294967295 → length (numbers (a ∷ b ∷ c ∷ [])) ≤ 33
+numbers-3 a b c h i j = omega (arith, numbers-length a (b ∷ c ∷ []), numbers-2 b c i j, decimal-32 a h)
+
 pub line-length : (s l : List ℕ) → length (line s l) ≡ length s + length (numbers l) + 2
 line-length s l = length-append (s ++ numbers l) (bytes ")\n") ∙ ap (λ (n : ℕ). n + 2) (length-append s (numbers l))
 

@@ -20,10 +20,10 @@ add-result : tie.Need-add-result
 add-result c = search needs
 
 returns : tie.Need-returns
-returns c = rw (c .enum-told .given .1) ((refl, omega arith), (refl, tt))
+returns c = rw (c .enum-told .given .1) ((refl, omega arith), (refl, (tt, refl)))
 
 returns-2 : tie.Need-returns-2
-returns-2 c = rw (c .enum-told2 .given .1) ((refl, omega arith), (refl, tt))
+returns-2 c = rw (c .enum-told2 .given .1) ((refl, omega arith), (refl, (tt, refl)))
 
 same-length : tie.Need-same-length
 same-length c = search needs

@@ -21,7 +21,7 @@ returns c =
     let a = c .before .before .before .before .before .before .args in
     let e = c .before .before .before .before .ending .ensures in
     let p = endingSpot a.i a.o a.r a.x (answerOf a.a) in
-    (entered p e (opOf a.r) a.t (answerOf a.a) _ (take a.n a.list.now) (c .before .before .enter .ensures .0), moment-fits p e (c .before .before .enter .ensures .1 .0))
+    (entered p e (opOf a.r) a.t (answerOf a.a) _ (take a.n a.list.now) (c .before .before .enter .ensures .0), (moment-fits p e (c .before .before .enter .ensures .1 .0), c .before .before .enter .ensures .1 .1))
 
 pub end-with-spec : {M : Type 1} → statement M
 end-with-spec = tie.close (tie.spec ending-requires enter-requires same-length returns)

@@ -1,7 +1,8 @@
 use Rattle.session_text.specs.Lines.{doneStart}
 use native.Mathlib.Omega.{arith}
 use Rattle.text.proofs.Appending.{then}
-use Rattle.session_play.proofs.Lengths.{numbers-3, done-short}
+use Rattle.text.proofs.Spaced.{numbers-3}
+use Rattle.session_play.proofs.Lengths.{done-short}
 use borrow.Author.Needs.{needs}
 use Rattle.session_play.proofs.printing.put_done.Statement.{statement}
 use Rattle.session_play.proofs.printing.put_done.Tie as tie

@@ -5,7 +5,8 @@ use native.Mathlib.Omega.{arith}
 use lib.ListN.{length}
 use Rattle.text.specs.Lines.{numbers}
 use Rattle.text.proofs.Appending.{then}
-use Rattle.shaker_text.proofs.Zeros.{part-zeros, part-length, zeros-length, three-length, opens}
+use Rattle.text.proofs.Spaced.{numbers-3}
+use Rattle.shaker_text.proofs.Zeros.{part-zeros, part-length, zeros-length, opens}
 use borrow.Author.Needs.{needs}
 use Rattle.shaken_actions.proofs.opening.put_opening.Statement.{statement}
 use Rattle.shaken_actions.proofs.opening.put_opening.Tie as tie
@@ -15,7 +16,7 @@ put-numbers-requires c κs =
     let w = c .before .before .before .wide in
     let w2 = c .before .before .wide2 in
     let w3 = c .before .wide3 in
-    omega (arith, three-length (w .result) (w2 .result) (w3 .result) (w .ensures .1) (w2 .ensures .1) (w3 .ensures .1), c .before .before .before .before .before .before .before .put .ensures .stored .next, c .before .before .before .before .before .before .before .before .before .before .before .pre .1)
+    omega (arith, numbers-3 (w .result) (w2 .result) (w3 .result) (w .ensures .1) (w2 .ensures .1) (w3 .ensures .1), c .before .before .before .before .before .before .before .put .ensures .stored .next, c .before .before .before .before .before .before .before .before .before .before .before .pre .1)
 
 put-requires-2 : tie.Need-put-requires-2
 put-requires-2 c κs =
@@ -23,7 +24,7 @@ put-requires-2 c κs =
     let w = p .before .before .before .before .wide in
     let w2 = p .before .before .before .wide2 in
     let w3 = p .before .before .wide3 in
-    let three = three-length (w .result) (w2 .result) (w3 .result) (w .ensures .1) (w2 .ensures .1) (w3 .ensures .1) in
+    let three = numbers-3 (w .result) (w2 .result) (w3 .result) (w .ensures .1) (w2 .ensures .1) (w3 .ensures .1) in
     let start = p .before .before .before .before .before .before .before .before .put .ensures .stored .next in
     let q = p .before .before .before .before .before .before .before .before .before .before .before .before .pre in
     omega (arith, three, start, p .put-numbers .ensures .stored .next, q .1)
@@ -37,7 +38,7 @@ put-numbers-requires-2 c κs =
     let w = p .before .before .before .before .wide in
     let w2 = p .before .before .before .wide2 in
     let w3 = p .before .before .wide3 in
-    let three = three-length (w .result) (w2 .result) (w3 .result) (w .ensures .1) (w2 .ensures .1) (w3 .ensures .1) in
+    let three = numbers-3 (w .result) (w2 .result) (w3 .result) (w .ensures .1) (w2 .ensures .1) (w3 .ensures .1) in
     let start = p .before .before .before .before .before .before .before .before .put .ensures .stored .next in
     let q = p .before .before .before .before .before .before .before .before .before .before .before .before .pre in
     let a = c .before .before .before .before .before .before .before .before .before .before .before .before .before .before .before .before .before .before .before .before .before .before .args in
@@ -50,7 +51,7 @@ put-requires-3 c κs =
     let w = p .before .before .before .before .wide in
     let w2 = p .before .before .before .wide2 in
     let w3 = p .before .before .wide3 in
-    let three = three-length (w .result) (w2 .result) (w3 .result) (w .ensures .1) (w2 .ensures .1) (w3 .ensures .1) in
+    let three = numbers-3 (w .result) (w2 .result) (w3 .result) (w .ensures .1) (w2 .ensures .1) (w3 .ensures .1) in
     let start = p .before .before .before .before .before .before .before .before .put .ensures .stored .next in
     let q = p .before .before .before .before .before .before .before .before .before .before .before .before .pre in
     let a = c .before .before .before .before .before .before .before .before .before .before .before .before .before .before .before .before .before .before .before .before .before .before .before .before .before .before .before .args in
@@ -63,7 +64,7 @@ returns c =
     let w = p .before .before .before .before .wide in
     let w2 = p .before .before .before .wide2 in
     let w3 = p .before .before .wide3 in
-    let three = three-length (w .result) (w2 .result) (w3 .result) (w .ensures .1) (w2 .ensures .1) (w3 .ensures .1) in
+    let three = numbers-3 (w .result) (w2 .result) (w3 .result) (w .ensures .1) (w2 .ensures .1) (w3 .ensures .1) in
     let start = p .before .before .before .before .before .before .before .before .put .ensures .stored .next in
     let q = p .before .before .before .before .before .before .before .before .before .before .before .before .pre in
     let a = c .before .before .before .before .before .before .before .before .before .before .before .before .before .before .before .before .before .before .before .before .before .before .before .before .before .before .before .before .before .before .args in
