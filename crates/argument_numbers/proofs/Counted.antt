@@ -11,17 +11,17 @@ use lib.ListN.{length, take, drop, drop-of-length-le}
 use lib.Seq.{take-all}
 use Rattle.text.specs.Readers.{Reads, literal, number, several}
 use Rattle.text.proofs.Reading.{drop-byte}
-use Rattle.argument_numbers.specs.Arguments.{ended, argument, whole, numbersGiven, numbersOr}
+use Rattle.argument_numbers.specs.Arguments.{endedBy, argument, whole, numbersGiven, numbersOr}
 
 module _ (s : List ℕ) (at end : ℕ) where
-  pub no-number : number (drop at s) ≡ none → ended end (drop at s) ≡ none
+  pub no-number : number (drop at s) ≡ none → endedBy end (drop at s) ≡ none
   no-number e = rw e
 
   module _ {v a : ℕ} (x : Reads number s at 1 v a) where
-    pub no-end : literal (end ∷ []) (drop a s) ≡ none → ended end (drop at s) ≡ none
+    pub no-end : literal (end ∷ []) (drop a s) ≡ none → endedBy end (drop at s) ≡ none
     no-end e = rw (x .finds, e)
 
-    pub is-ended : {next : ℕ} → Reads (literal (end ∷ [])) s a 1 tt next → Reads (ended end) s at 2 v next
+    pub is-ended : {next : ℕ} → Reads (literal (end ∷ [])) s a 1 tt next → Reads (endedBy end) s at 2 v next
     is-ended y = record { finds = rw (x .finds, y .finds); past = omega (arith, x .past, y .past); within = y .within }
 
 -- AT THE END

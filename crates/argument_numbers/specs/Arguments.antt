@@ -9,15 +9,15 @@ use Rattle.text.specs.Bytes.{bytes}
 use Rattle.text.specs.Readers.{Reader, pure, _>>=_, _>>_, literal, digitsAfter, number, several, overwritten, stored}
 
 -- a number by question 14's rule, and the byte that ends it
-abbrev pub ended : (end : ℕ) → Reader ℕ
-ended end = do
+abbrev pub endedBy : (end : ℕ) → Reader ℕ
+endedBy end = do
   n ← number
   literal (end ∷ [])
   pure n
 
 -- an argument
 abbrev pub argument : Reader ℕ
-argument = ended 0
+argument = endedBy 0
 
 -- no more than were asked for
 abbrev pub whole : Option (List ℕ × List ℕ) → Option (List ℕ)
@@ -59,6 +59,6 @@ some-stored :
     × (stored argument 2 (bytes "7" ++ o ++ bytes "8" ++ o ++ bytes "9" ++ o) (1 ∷ 2 ∷ 3 ∷ []) ≡ 7 ∷ 8 ∷ 3 ∷ [])
     × (stored argument 3 (bytes "7" ++ o ++ bytes "08" ++ o ++ bytes "9" ++ o) (1 ∷ 2 ∷ 3 ∷ []) ≡ 7 ∷ 2 ∷ 3 ∷ [])
     × (stored argument 3 (bytes "7 8") (1 ∷ 2 ∷ 3 ∷ []) ≡ 1 ∷ 2 ∷ 3 ∷ [])
-    × (stored (ended 10) 3 (bytes "7\n8\n(read") (1 ∷ 2 ∷ 3 ∷ []) ≡ 7 ∷ 8 ∷ 3 ∷ [])
+    × (stored (endedBy 10) 3 (bytes "7\n8\n(read") (1 ∷ 2 ∷ 3 ∷ []) ≡ 7 ∷ 8 ∷ 3 ∷ [])
 unfolding o literal digitsAfter number stored
 some-stored = (refl, refl, refl, refl, refl)

@@ -3,13 +3,13 @@ ghost use mathlib.Core.Path.{_≡_};
 ghost use lib.ListN.{length};
 ghost use Rattle.text.specs.Readers.{stored};
 ghost use Rattle.text.specs.Answers.{NumeralIs, SeveralIs};
-ghost use Rattle.argument_numbers.specs.Arguments.{ended as «endedBy», argument, numbersGiven, numbersOr};
+ghost use Rattle.argument_numbers.specs.Arguments.{endedBy, argument, numbersGiven, numbersOr};
 use text::Numeral;
 use text::Place;
 
 // The number that stands at `at`, and the place after its end.
 fn ended(s: &[u8], at: usize, end: u8) -> Numeral
-    ensures { λ r. ⌜ NumeralIs («endedBy» end) (now (s .entry)) at 2 r ⌝ }
+    ensures { λ r. ⌜ NumeralIs (endedBy end) (now (s .entry)) at 2 r ⌝ }
 {
     let read = numerals::number(s, at);
     let Numeral::Read(n, a) = read else {
@@ -24,8 +24,8 @@ fn ended(s: &[u8], at: usize, end: u8) -> Numeral
 
 // Stores numbers, as many as there are places; where one is missing, those before it. Returns the place after the last one.
 pub fn ended_numbers(s: &[u8], end: u8, out: &mut [u32]) -> Place
-    ensures { λ r. ⌜ SeveralIs («endedBy» end) (now (s .entry)) 0 (length (now (out .entry))) (now (out .exit)) r ⌝ }
-    ensures { λ r. ⌜ now (out .exit) ≡ stored («endedBy» end) (length (now (out .entry))) (now (s .entry)) (now (out .entry)) ⌝ }
+    ensures { λ r. ⌜ SeveralIs (endedBy end) (now (s .entry)) 0 (length (now (out .entry))) (now (out .exit)) r ⌝ }
+    ensures { λ r. ⌜ now (out .exit) ≡ stored (endedBy end) (length (now (out .entry))) (now (s .entry)) (now (out .entry)) ⌝ }
 {
     let mut at = 0;
     let mut n = 0;

@@ -8,7 +8,7 @@ use opening_state::open_state;
 use questions::State;
 use std::num::wrapping_add_u32;
 
-struct Totals {
+struct LoopTotals {
     pub finished: u32,
     pub yes: u32,
     pub steps: u32,
@@ -22,7 +22,7 @@ fn next_seed(seed: u32) -> u32 {
     ((seed as u64 * 1664525 + 1013904223) % 4294967296) as u32
 }
 
-fn with_finished(t: Totals, f: Finished) -> Totals {
+fn with_finished(t: LoopTotals, f: Finished) -> LoopTotals {
     let mut n = t;
     n.finished = wrapping_add_u32(t.finished, 1);
     n.steps = wrapping_add_u32(t.steps, f.steps);
@@ -41,7 +41,7 @@ fn with_finished(t: Totals, f: Finished) -> Totals {
     n
 }
 
-fn with_outcome(t: Totals, o: Outcome) -> Totals {
+fn with_outcome(t: LoopTotals, o: Outcome) -> LoopTotals {
     match o {
         Outcome::Refused(n) => {
             let mut m = t;
@@ -58,7 +58,7 @@ fn print(n: u32, end: &[u8]) {
     io::write_all(STDOUT_FILENO, end);
 }
 
-fn print_totals(t: Totals) {
+fn print_totals(t: LoopTotals) {
     let space: &[u8] = b" ";
     print(t.finished, space);
     print(t.yes, space);
@@ -72,11 +72,11 @@ fn print_totals(t: Totals) {
 // The state and the schedule between two entries.
 struct Round {
     pub state: State,
-    pub totals: Totals,
+    pub totals: LoopTotals,
     pub seed: u32,
 }
 
-fn begin(s: State, pool: &[u32], task: u32, start: u32, t: Totals) -> Round {
+fn begin(s: State, pool: &[u32], task: u32, start: u32, t: LoopTotals) -> Round {
     let first = next_seed(start);
     let second = next_seed(first);
     let cell = second / 65536 % 16;
@@ -103,7 +103,7 @@ fn begin(s: State, pool: &[u32], task: u32, start: u32, t: Totals) -> Round {
 }
 
 // A task without a call begins one.
-fn turn(s: State, pool: &mut [u32], start: u32, t: Totals) -> Round {
+fn turn(s: State, pool: &mut [u32], start: u32, t: LoopTotals) -> Round {
     let seed = next_seed(start);
     let task = seed / 65536 % 32;
     let at = task as usize;
@@ -121,7 +121,7 @@ fn turn(s: State, pool: &mut [u32], start: u32, t: Totals) -> Round {
     }
 }
 
-fn run(pool: &mut [u32], first: Round) -> Totals {
+fn run(pool: &mut [u32], first: Round) -> LoopTotals {
     let mut r = first;
     let mut i: u32 = 0;
     while i < 60000 {
@@ -135,7 +135,7 @@ fn main() {
     let mut pool = [0u32; 400];
     let opened = entries::open(open_state(1, 1, 3), &mut pool, 32, 16, 80, &[0; 16]);
     let state = opened.state;
-    let none = Totals {
+    let none = LoopTotals {
         finished: 0,
         yes: 0,
         steps: 0,

@@ -26,7 +26,7 @@ use Rattle.history.proofs.Basics.{either}
 use Rattle.places.proofs.Listed.{action-then, no-action as no-more}
 use Rattle.bus_text.specs.Bus.{Times, shortTimes, finishedCalls, finishedCount, timed, timedFrom, Sums, noSums, addCall, addCalls, busCalls, callLine, callLines, allLine, callsText}
 use Rattle.bus_text.proofs.Fits.{Within, sums-after}
-use Rattle.bus_play.specs.Loop.{addedText, addedSums, addedCalls, addedCounts, Ends, Numbered, busOn}
+use Rattle.bus_play.specs.Loop.{addedText, addedSums, addedCalls, addedCounts, EndsWithin, Numbered, busOn}
 
 -- AN ACTION THAT ACTS IS OF A TASK THAT THERE IS
 
@@ -53,7 +53,7 @@ pub none-numbered : Numbered (replicate 32 0) []
 none-numbered t h = getD-replicate {A = ℕ} 32 t 0 0 h
 
 module _ (t : ℕ) (l : List ℕ) (before : List (ℕ × Report)) (numbered : Numbered l before) where
-  pub numbers-more : (o : Said) → length l ≡ 32 → Ends t l o → Numbered (addedCounts t l o) (addedCalls t before o)
+  pub numbers-more : (o : Said) → length l ≡ 32 → EndsWithin t l o → Numbered (addedCounts t l o) (addedCalls t before o)
   numbers-more (Refused q) n h = numbered
   numbers-more Acted n h = numbered
   numbers-more (Ended f) n h = λ u k. go u k (either u t)
@@ -62,13 +62,13 @@ module _ (t : ℕ) (l : List ℕ) (before : List (ℕ × Report)) (numbered : Nu
       go u k (inl e) = rw (e, eq-eqb t t refl) (getD-set-same l t (getD l t 0 + 1) 0 (omega (arith, n, h .0)) ∙ omega (arith, numbered t (h .0)))
       go u k (inr d) = rw (ne-eqb t u (λ e. d (sym e))) (getD-set-other l t u (getD l t 0 + 1) 0 d ∙ omega (arith, numbered u k))
 
-  ends : (i n : ℕ) (o : Said) → (acts o ≡ true → t < n) → n ≤ 32 → length before ≤ i → i < 65535 → Ends t l o
+  ends : (i n : ℕ) (o : Said) → (acts o ≡ true → t < n) → n ≤ 32 → length before ≤ i → i < 65535 → EndsWithin t l o
   ends i n (Refused q) below small few h = tt
   ends i n Acted below small few h = tt
   ends i n (Ended f) below small few h = let b = below refl in (omega (arith, b, small), omega (arith, numbered t (omega (arith, b, small)), by-at-most t before, few, h))
 
   -- the number of a call, as the code has it
-  as-numbered : (w : Times) (z : Sums) (o : Said) → Ends t l o → (addedText w (finishedCount t before) t o ≡ addedText w (getD l t 0) t o) × (addedSums w (finishedCount t before) t z o ≡ addedSums w (getD l t 0) t z o)
+  as-numbered : (w : Times) (z : Sums) (o : Said) → EndsWithin t l o → (addedText w (finishedCount t before) t o ≡ addedText w (getD l t 0) t o) × (addedSums w (finishedCount t before) t z o ≡ addedSums w (getD l t 0) t z o)
   as-numbered w z (Refused q) h = (refl, refl)
   as-numbered w z Acted h = (refl, refl)
   as-numbered w z (Ended f) h =
@@ -77,7 +77,7 @@ module _ (t : ℕ) (l : List ℕ) (before : List (ℕ × Report)) (numbered : Nu
 
 -- of an action that a fit state took
 pub ends-now : (s : State) (p : List ℕ) (a : Action) {s′ : State} {p′ : List ℕ} {o : Said} {t : ℕ} → leaving s′ p′ o ≡ does s p a → t ≡ taskOf a → fit s p ≡ true
-    → (l : List ℕ) (before : List (ℕ × Report)) → Numbered l before → (i : ℕ) → length before ≤ i → i < 65535 → Ends t l o
+    → (l : List ℕ) (before : List (ℕ × Report)) → Numbered l before → (i : ℕ) → length before ≤ i → i < 65535 → EndsWithin t l o
 ends-now s p a {o = o} {t = t} ed et e l before numbered i few h =
     ends t l before numbered i (s .tasks) o (λ x. rw et (task-below s p a (sym (ap (λ (y : After). acts (y .outcome)) ed) ∙ x))) (sizes s p e .tasks) few h
 
@@ -118,7 +118,7 @@ module _ (w : Times) (before : List (ℕ × Report)) (z : Sums) (s : State) (p :
           append-assoc (callLine c) (callLines l) (allLine y (y .longest))
 
   pub one-action : (f : ℕ → Action) (l numbers : List ℕ) (i : ℕ) {z′ : Sums} {s′ : State} {p′ : List ℕ} {o : Said} {a : Action} {t : ℕ} → i < length l → a ≡ f (getD l i 0) → leaving s′ p′ o ≡ does s p a → t ≡ taskOf a
-      → Numbered numbers before → Ends t numbers o → z′ ≡ addedSums w (getD numbers t 0) t z o →
+      → Numbered numbers before → EndsWithin t numbers o → z′ ≡ addedSums w (getD numbers t 0) t z o →
       busOn w before z (s, p) (drop i (map f l)) ≡ addedText w (getD numbers t 0) t o ++ busOn w (addedCalls t before o) z′ (s′, p′) (drop (i + 1) (map f l))
   one-action f l numbers i {s′ = s′} {p′ = p′} {o = o} {a = a} h ea ed et numbered e ez =
       let rest = drop (i + 1) (map f l) in

@@ -33,10 +33,10 @@ module _ (t : ℕ) where
   addedCounts l Acted = l
   addedCounts l (Ended f) = set l t (getD l t 0 + 1)
 
-  abbrev pub Ends : List ℕ → Said → Type 0
-  Ends l (Refused q) = Unit {0}
-  Ends l Acted = Unit {0}
-  Ends l (Ended f) = (t < 32) × (getD l t 0 < 65535)
+  abbrev pub EndsWithin : List ℕ → Said → Type 0
+  EndsWithin l (Refused q) = Unit {0}
+  EndsWithin l Acted = Unit {0}
+  EndsWithin l (Ended f) = (t < 32) × (getD l t 0 < 65535)
 
 abbrev pub Numbered : List ℕ → (before : List (ℕ × Report)) → Type 0
 Numbered l before = (t : ℕ) → t < 32 → getD l t 0 ≡ finishedCount t before

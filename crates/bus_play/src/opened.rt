@@ -18,7 +18,7 @@ ghost use Rattle.starts.specs.Start.{startAt, startOf, toolStart, Startable};
 ghost use Rattle.bus_text.specs.Bus.{busText};
 ghost use Rattle.bus_calls.specs.Structs.{timesOf};
 
-// What follows from the opening, on records of its own.
+// What follows from the opening, on records of its own. What is left in the pool is open: it is the session's own.
 fn print_started(
     out: &mut [u8],
     w: Ranges,

@@ -24,7 +24,7 @@ ghost use Rattle.session_reading.specs.Kept.{FormNumbers};
 ghost use Rattle.cells.specs.Answers.{said, Ended};
 ghost use Rattle.bus_text.specs.Bus.{shortTimes, busCalls, callsText};
 ghost use Rattle.bus_calls.specs.Structs.{timesOf, sumsIn};
-ghost use Rattle.bus_play.specs.Loop.{Ends, addedText, addedSums, addedCounts};
+ghost use Rattle.bus_play.specs.Loop.{EndsWithin, addedText, addedSums, addedCounts};
 
 // The place after the text, and the totals.
 pub struct Entered {
@@ -42,7 +42,7 @@ fn end_call(
     f: Finished,
 ) -> Entered
     requires { ⌜ (at + 90 ≤ length (now out)) × (length (now finished) ≡ 32) × (shortTimes (timesOf w) ≡ true) ⌝ }
-    requires { ⌜ (z .least ≤ 1376235000000) × (z .greatest ≤ 1376235000000) × Ends task (now finished) (Ended (result f)) ⌝ }
+    requires { ⌜ (z .least ≤ 1376235000000) × (z .greatest ≤ 1376235000000) × EndsWithin task (now finished) (Ended (result f)) ⌝ }
     ensures { λ r. ⌜ Appended (now (out .entry)) (now (out .exit)) at (r .at) (addedText (timesOf w) (getD (now (finished .entry)) task 0) task (Ended (result f))) ⌝ }
     ensures { λ r. ⌜ sumsIn (r .totals) ≡ addedSums (timesOf w) (getD (now (finished .entry)) task 0) task (sumsIn z) (Ended (result f)) ⌝ }
     ensures { λ r. ⌜ now (finished .exit) ≡ addedCounts task (now (finished .entry)) (Ended (result f)) ⌝ }
@@ -68,7 +68,7 @@ fn enter(
     outcome: Outcome,
 ) -> Entered
     requires { ⌜ (at + 90 ≤ length (now out)) × (length (now finished) ≡ 32) × (shortTimes (timesOf w) ≡ true) ⌝ }
-    requires { ⌜ (z .least ≤ 1376235000000) × (z .greatest ≤ 1376235000000) × Ends task (now finished) (said outcome) ⌝ }
+    requires { ⌜ (z .least ≤ 1376235000000) × (z .greatest ≤ 1376235000000) × EndsWithin task (now finished) (said outcome) ⌝ }
     ensures { λ r. ⌜ Appended (now (out .entry)) (now (out .exit)) at (r .at) (addedText (timesOf w) (getD (now (finished .entry)) task 0) task (said outcome)) ⌝ }
     ensures { λ r. ⌜ sumsIn (r .totals) ≡ addedSums (timesOf w) (getD (now (finished .entry)) task 0) task (sumsIn z) (said outcome) ⌝ }
     ensures { λ r. ⌜ now (finished .exit) ≡ addedCounts task (now (finished .entry)) (said outcome) ⌝ }

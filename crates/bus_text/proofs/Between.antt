@@ -21,7 +21,7 @@ use Rattle.refinement.specs.Traces.{trace}
 use Rattle.refinement.proofs.Demand3.{cells-meet-demand-3}
 use Rattle.refinement.proofs.Counts.{calls-traced, calls-counted, calls-find-rows}
 use Rattle.bus_text.specs.Bus.{PerKind, perKind, Times, ordered, inRow, countsOf, total, finishedCalls, finishedCount, timed, timedFrom, Sums, noSums, addCall, addCalls, busCalls, sumsOf}
-use Rattle.bus_text.specs.Choices.{tracedCalls, accesses, did, allAccesses, sum, byKind, Between, AllBetween, taskAndReport}
+use Rattle.bus_text.specs.Choices.{tracedCalls, accesses, didPerKind, allAccesses, sum, byKind, Between, AllBetween, taskAndReport}
 use Rattle.bus_text.proofs.Totals.{sum-by-kind, sum-append, ends-between}
 use Rattle.bus_text.proofs.Calls.{finished-calls, reportOf, second, traced-reports}
 
@@ -35,9 +35,9 @@ abbrev Counts : List Traced → List (ℕ × Report) → Type 0
 Counts [] [] = Unit {0}
 Counts [] (f ∷ fs) = ⊥
 Counts (x ∷ xs) [] = ⊥
-Counts (x ∷ xs) (f ∷ fs) = (countsOf (f .1) ≡ did (x .lines)) × Counts xs fs
+Counts (x ∷ xs) (f ∷ fs) = (countsOf (f .1) ≡ didPerKind (x .lines)) × Counts xs fs
 
-counts-beside : (xs : List Traced) (fs : List (ℕ × Report)) → map reportOf xs ≡ map second fs → ((x : Traced) → x ∈ xs → countsOf (x .report) ≡ did (x .lines)) → Counts xs fs
+counts-beside : (xs : List Traced) (fs : List (ℕ × Report)) → map reportOf xs ≡ map second fs → ((x : Traced) → x ∈ xs → countsOf (x .report) ≡ didPerKind (x .lines)) → Counts xs fs
 counts-beside [] [] e h = tt
 counts-beside [] (f ∷ fs) e h = absurd (zero-one cc)
 counts-beside (x ∷ xs) [] e h = absurd (zero-one cc)
@@ -47,7 +47,7 @@ counts-beside (x ∷ xs) (f ∷ fs) e h =
     (ap countsOf (sym same) ∙ h x (inl refl), counts-beside xs fs rest (λ y i. h y (inr i)))
 
 -- with one time for each kind, a call's accesses take what its counts say
-time-of : (c : PerKind) (p : List Line) (r : Report) → countsOf r ≡ did p → sum (byKind c (accesses p)) ≡ total c (countsOf r)
+time-of : (c : PerKind) (p : List Line) (r : Report) → countsOf r ≡ didPerKind p → sum (byKind c (accesses p)) ≡ total c (countsOf r)
 time-of c p r e = sum-by-kind c p ∙ ap (total c) (sym e)
 
 module _ (w : Times) where
@@ -91,7 +91,7 @@ from-reverse a l i = go (in-onto a l [] i)
 
 module _ (old : State) (words : List ℕ) (tasks cells blocks : ℕ) (values : List ℕ) (allowed : refusal (openQuestions (length words) tasks cells blocks values) ≡ none) (actions : List Action) where
   -- The loads, stores and hardware CAS attempts that a call did are those of its row.
-  pub counts-are : (call : Traced) → call ∈ trace (start old words tasks cells blocks values) actions .done → countsOf (call .report) ≡ did (call .lines)
+  pub counts-are : (call : Traced) → call ∈ trace (start old words tasks cells blocks values) actions .done → countsOf (call .report) ≡ didPerKind (call .lines)
   counts-are x i =
       ap (inRow (x .report .won + x .report .lost)) (calls-find-rows old words tasks cells blocks values allowed actions x i) ∙
       ap (perKind (accessCount loads (x .lines)) (accessCount stores (x .lines))) (calls-counted old words tasks cells blocks values allowed actions x i .all-hard)

@@ -16,7 +16,7 @@ use Rattle.lines.specs.Lines.{Line, accessAt, loads, stores, hardware}
 use Rattle.questions.proofs.Tests.{nth}
 use Rattle.figure_cell.proofs.LineLaws.{loads-alike, stores-alike, hardware-alike}
 use Rattle.bus_text.specs.Bus.{PerKind, perKind, Times, ordered, roundedDown, roundedUp, total}
-use Rattle.bus_text.specs.Choices.{accesses, did, numberFor, sum, EachWithin, KindsWithin, byKind, Between}
+use Rattle.bus_text.specs.Choices.{accesses, didPerKind, numberFor, sum, EachWithin, KindsWithin, byKind, Between}
 
 -- three tests, of each kind one
 pub three-le : (a a' b b' c c' : ℕ) → ands (leb a a' ∷ leb b b' ∷ leb c c' ∷ []) ≡ true → (a ≤ a') × (b ≤ b') × (c ≤ c')
@@ -43,11 +43,11 @@ added : (c : PerKind) (l l' s s' h h' : ℕ) → total c (perKind (l + l') (s + 
 added c l l' s s' h h' = omega (arith, mul-add (c .load) l l', mul-add (c .store) s s', mul-add (c .hardware) h h')
 
 -- the total of the accesses of some lines, each with the time of its kind
-pub sum-by-kind : (c : PerKind) (p : List Line) → sum (byKind c (accesses p)) ≡ total c (did p)
+pub sum-by-kind : (c : PerKind) (p : List Line) → sum (byKind c (accesses p)) ≡ total c (didPerKind p)
 sum-by-kind c [] = omega (arith, mul-zero (c .load), mul-zero (c .store), mul-zero (c .hardware))
 sum-by-kind c (l ∷ p) =
     let a = accessAt l 0 idle in
-    let d = did p in
+    let d = didPerKind p in
     omega (arith, one-access c a, sum-by-kind c p, added c (loads a) (d .load) (stores a) (d .store) (hardware a) (d .hardware))
 
 pub sum-append : (c : PerKind) (l m : List Access) → sum (byKind c (l ++ m)) ≡ sum (byKind c l) + sum (byKind c m)

@@ -27,8 +27,8 @@ accesses [] = []
 accesses (l ∷ ls) = accessAt l 0 idle ∷ accesses ls
 
 -- how many of each kind
-abbrev pub did : List Line → PerKind
-did p = perKind (accessCount loads p) (accessCount stores p) (accessCount hardware p)
+abbrev pub didPerKind : List Line → PerKind
+didPerKind p = perKind (accessCount loads p) (accessCount stores p) (accessCount hardware p)
 
 -- those of several calls
 abbrev pub allAccesses : List Traced → List Access

@@ -13,18 +13,18 @@ use lines::Record;
 use questions::State;
 
 // A reply, and the record that was lent.
-struct Kept {
+struct LentKept {
     reply: Reply,
     record: Record,
 }
 
 // The record is lent from a local here, so that no other function has a reference to one.
-fn lend(s: State, pool: &mut [u32], task: u32, r: Record) -> Kept
+fn lend(s: State, pool: &mut [u32], task: u32, r: Record) -> LentKept
     ensures { λ n. ⌜ lent (leaving (n .reply .state) (now (pool .exit)) (said (n .reply .outcome))) (n .record) ≡ steppedLent s (now (pool .entry)) task r ⌝ }
 {
     let mut rec = r;
     let reply = entries::step_lent(s, pool, task, &mut rec);
-    Kept { reply, record: rec }
+    LentKept { reply, record: rec }
 }
 
 // Refused, a step must leave the sum of record, state and pool.
@@ -43,7 +43,7 @@ fn print_step(line: u32, d: Numbers, before: u32, after: u32) {
     }
 }
 
-fn step(s: State, pool: &mut [u32], task: u32, r: Record) -> Kept {
+fn step(s: State, pool: &mut [u32], task: u32, r: Record) -> LentKept {
     let before = record_sum(sum_of(s, pool), r);
     let k = lend(s, pool, task, r);
     let record = k.record;

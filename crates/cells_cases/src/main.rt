@@ -127,7 +127,7 @@ fn print_reply(before: u32, r: Reply, pool: &[u32]) {
 
 // A CASE
 
-struct Case {
+struct EntryCase {
     given: u32,
     block: u32,
     tasks: u32,
@@ -158,11 +158,11 @@ struct Case {
 }
 
 // Three tasks, two cells, eight blocks, all idle; task 0 is to swap 5 for 7; the second value is 6.
-fn plain() -> Case {
+fn plain() -> EntryCase {
     let s = open_state(3, 2, 8);
     let current = s.current;
     let counts = s.counts;
-    Case {
+    EntryCase {
         tasks: 3,
         cells: 2,
         blocks: 8,
@@ -193,7 +193,7 @@ fn plain() -> Case {
     }
 }
 
-fn try_begins(s: State, pool: &[u32], c: Case) {
+fn try_begins(s: State, pool: &[u32], c: EntryCase) {
     let before = sum_of(s, pool);
     let r = entries::begin_read(s, pool, c.task, c.cell);
     print_reply(before, r, pool);
@@ -213,7 +213,7 @@ fn try_open(s: State, pool: &mut [u32], values: &[u32]) {
     print_reply(before, r, pool);
 }
 
-fn record_of(c: Case) -> Record {
+fn record_of(c: EntryCase) -> Record {
     Record {
         line: c.line,
         wanted: c.wanted,
@@ -230,7 +230,7 @@ fn record_of(c: Case) -> Record {
     }
 }
 
-fn state_of(c: Case) -> State {
+fn state_of(c: EntryCase) -> State {
     let r = records::idle();
     let current = c.current;
     let counts = c.counts;
@@ -251,7 +251,7 @@ fn state_of(c: Case) -> State {
 }
 
 // Of the values only the first so many are given.
-fn try_case(c: Case, pool: &mut [u32]) {
+fn try_case(c: EntryCase, pool: &mut [u32]) {
     let s = state_of(c);
     let given = c.given as usize;
     if c.lent > 0 {
@@ -317,7 +317,7 @@ const OPENED: [u32; 45] = [
 ];
 
 // Of the words only the first so many are lent.
-fn run_case(c: Case) {
+fn run_case(c: EntryCase) {
     let mut all = OPENED;
     let words = c.words as usize;
     if words <= 45 {
@@ -333,7 +333,7 @@ fn with_digit(n: u32, digit: u8) -> u32 {
 }
 
 // The case with a word of the record, a cell's block or a count.
-fn with_part(mut c: Case, letter: u8, n: u32) -> Case {
+fn with_part(mut c: EntryCase, letter: u8, n: u32) -> EntryCase {
     match letter {
         b'i' => c.line = n,
         b'j' => c.wanted = n,
@@ -360,7 +360,7 @@ fn with_part(mut c: Case, letter: u8, n: u32) -> Case {
 }
 
 // The case with the letter's word.
-fn with_word(mut c: Case, letter: u8, n: u32) -> Case {
+fn with_word(mut c: EntryCase, letter: u8, n: u32) -> EntryCase {
     match letter {
         b'a' => c.tasks = n,
         b'b' => c.cells = n,

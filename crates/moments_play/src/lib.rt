@@ -124,6 +124,7 @@ fn list_marks(
     )
 }
 
+// The marks of the session, and their lines. What is left in the pool is open: it is the session's own.
 fn play(
     out: &mut [u8],
     tasks: u32,

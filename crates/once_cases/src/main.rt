@@ -55,15 +55,15 @@ const OPEN: usize = 2;
 const OFFER: usize = 3;
 
 // A line's form, and its numbers.
-struct Line {
+struct CaseLine {
     form: usize,
     first: u32,
     second: u32,
     third: u32,
 }
 
-fn bad() -> Line {
-    Line {
+fn bad() -> CaseLine {
+    CaseLine {
         form: BAD,
         first: 0,
         second: 0,
@@ -72,7 +72,7 @@ fn bad() -> Line {
 }
 
 // The numbers of a form, from after its word to the line's end.
-fn read_numbers(s: &[u8], from: usize, form: usize) -> Line
+fn read_numbers(s: &[u8], from: usize, form: usize) -> CaseLine
     requires { ⌜ (from ≤ length (now s)) × (form ≤ 3) ⌝ }
 {
     let mut n = [0u32; 3];
@@ -84,7 +84,7 @@ fn read_numbers(s: &[u8], from: usize, form: usize) -> Line
     let Place::At(_) = end else {
         return bad();
     };
-    Line {
+    CaseLine {
         form,
         first: n[0],
         second: n[1],
@@ -92,7 +92,7 @@ fn read_numbers(s: &[u8], from: usize, form: usize) -> Line
     }
 }
 
-fn read_line(s: &[u8]) -> Line {
+fn read_line(s: &[u8]) -> CaseLine {
     let a_step = starts_with(s, 0, b"(step");
     if let Place::At(after) = a_step {
         return read_numbers(s, after, STEP);
@@ -110,7 +110,7 @@ fn read_line(s: &[u8]) -> Line {
 
 // PLAYING
 
-struct Standing {
+struct SoFar {
     state: OnceState,
     // Whether there was an open, and whether the last one acted.
     open_seen: bool,
@@ -122,7 +122,7 @@ struct Standing {
 }
 
 // Any state may be opened.
-fn blank() -> Standing {
+fn blank() -> SoFar {
     let cell = OnceCell {
         x: 0,
         y: 0,
@@ -144,7 +144,7 @@ fn blank() -> Standing {
         words: [cell; 16],
         offers: [offer; 32],
     };
-    Standing {
+    SoFar {
         state,
         open_seen: false,
         open: false,
@@ -154,7 +154,7 @@ fn blank() -> Standing {
 }
 
 // After a move, or an open; refused, the list is open only if it was.
-fn moved(r: OnceReply, was_open: bool, action: u32, task: u32, next: u32) -> Standing {
+fn moved(r: OnceReply, was_open: bool, action: u32, task: u32, next: u32) -> SoFar {
     let state = r.state;
     let progress = r.progress;
     let mut open = true;
@@ -169,7 +169,7 @@ fn moved(r: OnceReply, was_open: bool, action: u32, task: u32, next: u32) -> Sta
             goes = print_agreed(task, a);
         }
     }
-    Standing {
+    SoFar {
         state,
         open_seen: true,
         open,
@@ -178,7 +178,7 @@ fn moved(r: OnceReply, was_open: bool, action: u32, task: u32, next: u32) -> Sta
     }
 }
 
-fn play(p: Standing, l: Line) -> Standing {
+fn play(p: SoFar, l: CaseLine) -> SoFar {
     if !p.goes {
         return p;
     }
@@ -210,7 +210,7 @@ const ROOM: usize = 64;
 
 // How many bytes of a line are kept.
 struct Played {
-    standing: Standing,
+    standing: SoFar,
     held: usize,
 }
 
@@ -226,7 +226,7 @@ fn keep(line: &mut [u8], held: usize, byte: u8) -> usize
 }
 
 // Plays the lines that end in a part of the input.
-fn play_part(s: &[u8], line: &mut [u8], before: Standing, kept: usize) -> Played
+fn play_part(s: &[u8], line: &mut [u8], before: SoFar, kept: usize) -> Played
     requires { ⌜ kept ≤ length (now line) ⌝ }
     ensures { λ r. ⌜ r .held ≤ length (now (line .exit)) ⌝ }
 {
@@ -247,7 +247,7 @@ fn play_part(s: &[u8], line: &mut [u8], before: Standing, kept: usize) -> Played
 }
 
 // A last line may have no end, and is then no form.
-fn end_input(p: Standing, line: &[u8]) {
+fn end_input(p: SoFar, line: &[u8]) {
     if line.len() > 0 {
         play(p, bad());
     }

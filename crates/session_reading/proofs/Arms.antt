@@ -17,7 +17,7 @@ use Rattle.session_reading.specs.Answers.{formNumber, KeywordIs, ValuesA
 use Rattle.session_reading.specs.declared.Word.{Word}
 use Rattle.session_reading.specs.declared.Word.the-variants as key
 use Rattle.session_reading.specs.declared.ValuesRead.{ValuesRead}
-use Rattle.session_reading.specs.declared.ValuesRead.the-variants as listed
+use Rattle.session_reading.specs.declared.ValuesRead.the-variants as valuesRead
 
 module _ (s : List ℕ) (at : ℕ) where
   pub keyword-at : {r : Word} {n k next : ℕ} → r ≡ key.Known n k next → KeywordIs s at r → (kind : FormKind) × (n ≡ formNumber kind) × (k ≡ arity kind) × Reads keyword s at 5 kind next
@@ -26,10 +26,10 @@ module _ (s : List ℕ) (at : ℕ) where
   pub keyword-no : {r : Word} → r ≡ key.Unknown → KeywordIs s at r → keyword (drop at s) ≡ none
   keyword-no q x = subst (KeywordIs s at) q x
 
-  pub values-at : (out : List ℕ) {r : ValuesRead} {n next : ℕ} → r ≡ listed.Read n next → ValuesAre s at out r → Reads values s at 1 (take n out) next
+  pub values-at : (out : List ℕ) {r : ValuesRead} {n next : ℕ} → r ≡ valuesRead.Read n next → ValuesAre s at out r → Reads values s at 1 (take n out) next
   values-at out q x = subst (ValuesAre s at out) q x
 
-  pub values-no : (out : List ℕ) {r : ValuesRead} → r ≡ listed.Wrong → ValuesAre s at out r → values (drop at s) ≡ none
+  pub values-no : (out : List ℕ) {r : ValuesRead} → r ≡ valuesRead.Wrong → ValuesAre s at out r → values (drop at s) ≡ none
   values-no out q x = subst (ValuesAre s at out) q x
 
 pub few-numbers : (k : FormKind) → (1 ≤ arity k) × (arity k ≤ 4)

@@ -12,12 +12,12 @@ use Rattle.session_reading.specs.Reading.{acted}
 use Rattle.session_reading.specs.Tables.{tableOf, done}
 use Rattle.session_reading.specs.Answers.{formNumber, HeadIs}
 use Rattle.session_reading.specs.declared.HeadRead.{HeadRead}
-use Rattle.session_reading.specs.declared.HeadRead.the-variants as start
+use Rattle.session_reading.specs.declared.HeadRead.the-variants as headRead
 
-pub head-at : (s : List ℕ) (at : ℕ) (o p : List ℕ) {r : HeadRead} {n next : ℕ} → r ≡ start.Known n next → HeadIs s at o p r → (kind : FormKind) × (n ≡ formNumber kind) × Reads head s at 7 (kind, take (arity kind) p) next × (drop (arity kind) p ≡ drop (arity kind) o)
+pub head-at : (s : List ℕ) (at : ℕ) (o p : List ℕ) {r : HeadRead} {n next : ℕ} → r ≡ headRead.Known n next → HeadIs s at o p r → (kind : FormKind) × (n ≡ formNumber kind) × Reads head s at 7 (kind, take (arity kind) p) next × (drop (arity kind) p ≡ drop (arity kind) o)
 head-at s at o p q x = subst (HeadIs s at o p) q x
 
-pub head-no : (s : List ℕ) (at : ℕ) (o p : List ℕ) {r : HeadRead} → r ≡ start.Unknown → HeadIs s at o p r → head (drop at s) ≡ none
+pub head-no : (s : List ℕ) (at : ℕ) (o p : List ℕ) {r : HeadRead} → r ≡ headRead.Unknown → HeadIs s at o p r → head (drop at s) ≡ none
 head-no s at o p q x = subst (HeadIs s at o p) q x
 
 -- a number that a kind does not have is what it was

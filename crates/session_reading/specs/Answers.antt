@@ -13,13 +13,13 @@ use Rattle.text.specs.declared.Place.the-variants as place
 use Rattle.session_file.specs.Session.{FormKind, reading, swapping, stepping, repeating, severalItems, values, readOpening, keyword, arity, head, Form, Forms, counts, lines}
 use Rattle.session_reading.specs.Tables.{tableOf, done, doneOf, formNames, formNamesOf, over, wiped}
 use Rattle.session_reading.specs.declared.ValuesRead.{ValuesRead}
-use Rattle.session_reading.specs.declared.ValuesRead.the-variants as listed
+use Rattle.session_reading.specs.declared.ValuesRead.the-variants as valuesRead
 use Rattle.session_reading.specs.declared.Opened.{Opened}
 use Rattle.session_reading.specs.declared.Opened.the-variants as opened
 use Rattle.session_reading.specs.declared.Word.{Word}
 use Rattle.session_reading.specs.declared.Word.the-variants as word
 use Rattle.session_reading.specs.declared.HeadRead.{HeadRead}
-use Rattle.session_reading.specs.declared.HeadRead.the-variants as start
+use Rattle.session_reading.specs.declared.HeadRead.the-variants as headRead
 use Rattle.session_reading.specs.declared.Got.{Got}
 use Rattle.session_reading.specs.declared.Got.the-variants as got
 use Rattle.session_reading.specs.declared.Rest.{Rest}
@@ -27,8 +27,8 @@ use Rattle.session_reading.specs.declared.Rest.the-variants as rest
 
 -- the values, stored in the buffer from its start
 abbrev pub ValuesAre : List ℕ → ℕ → List ℕ → ValuesRead → Type 0
-ValuesAre s at out listed.Wrong = values (drop at s) ≡ none
-ValuesAre s at out (listed.Read n next) = Reads values s at 1 (take n out) next
+ValuesAre s at out valuesRead.Wrong = values (drop at s) ≡ none
+ValuesAre s at out (valuesRead.Read n next) = Reads values s at 1 (take n out) next
 
 -- the first line up to its values
 pub record Led (s out : List ℕ) (next : ℕ) : Type 0 where
@@ -58,8 +58,8 @@ KeywordIs s at (word.Known n k next) = (kind : FormKind) × (n ≡ formNumber ki
 
 -- behind its numbers the buffer is as it was
 abbrev pub HeadIs : List ℕ → ℕ → (old new : List ℕ) → HeadRead → Type 0
-HeadIs s at o p start.Unknown = head (drop at s) ≡ none
-HeadIs s at o p (start.Known n next) =
+HeadIs s at o p headRead.Unknown = head (drop at s) ≡ none
+HeadIs s at o p (headRead.Known n next) =
     (kind : FormKind) × (n ≡ formNumber kind) × Reads head s at 7 (kind, take (arity kind) p) next × (drop (arity kind) p ≡ drop (arity kind) o)
 
 -- more actions than there is room for, or just these forms and actions appended

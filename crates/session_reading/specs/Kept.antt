@@ -7,14 +7,14 @@ use Rattle.session_reading.specs.Tables.{wiped}
 use Rattle.session_reading.specs.declared.Reading.{Reading}
 use Rattle.session_reading.specs.declared.Reading.the-variants as reading
 use Rattle.session_reading.specs.declared.ValuesRead.{ValuesRead}
-use Rattle.session_reading.specs.declared.ValuesRead.the-variants as listed
+use Rattle.session_reading.specs.declared.ValuesRead.the-variants as valuesRead
 use Rattle.session_reading.specs.declared.Opened.{Opened}
 use Rattle.session_reading.specs.declared.Opened.the-variants as opened
 
 -- so many values fit their buffer, and what stands behind them is what stood there
 abbrev pub ListedWithin : (old new : List ℕ) → ValuesRead → Type 0
-ListedWithin o p listed.Wrong = Unit {0}
-ListedWithin o p (listed.Read n next) = (n ≤ length p) × (drop n p ≡ drop n o)
+ListedWithin o p valuesRead.Wrong = Unit {0}
+ListedWithin o p (valuesRead.Read n next) = (n ≤ length p) × (drop n p ≡ drop n o)
 
 -- the same of the first line, and zeros where it is wrong
 abbrev pub OpenedWithin : (old new : List ℕ) → Opened → Type 0

@@ -58,7 +58,7 @@ fn tool_of(name: [u8; 4096]) -> Tool {
 }
 
 // The numbers that the first lines have, and where the next one begins.
-struct Start {
+struct CaseStart {
     good: bool,
     next: usize,
     a: u32,
@@ -69,7 +69,7 @@ struct Start {
     f: u32,
 }
 
-fn read_start(s: &[u8], takes: usize) -> Start {
+fn read_start(s: &[u8], takes: usize) -> CaseStart {
     let mut n = [0u32; 6];
     let mut read = Place::Nowhere;
     if takes <= 6 {
@@ -81,7 +81,7 @@ fn read_start(s: &[u8], takes: usize) -> Start {
         good = true;
         next = at;
     }
-    Start {
+    CaseStart {
         good,
         next,
         a: n[0],
@@ -93,7 +93,7 @@ fn read_start(s: &[u8], takes: usize) -> Start {
     }
 }
 
-fn shaken(n: Start, out: &mut [u8]) -> usize
+fn shaken(n: CaseStart, out: &mut [u8]) -> usize
     ensures { λ r. ⌜ Counts r (now (out .exit)) ⌝ }
 {
     let mut drawn = session_space();
@@ -101,7 +101,7 @@ fn shaken(n: Start, out: &mut [u8]) -> usize
     session_runner::run_session(&drawn[..end], out)
 }
 
-fn run(tool: u32, n: Start, s: &[u8], out: &mut [u8]) -> usize
+fn run(tool: u32, n: CaseStart, s: &[u8], out: &mut [u8]) -> usize
     ensures { λ r. ⌜ Counts r (now (out .exit)) ⌝ }
 {
     if tool == SESSION {

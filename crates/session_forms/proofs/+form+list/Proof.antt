@@ -6,7 +6,7 @@ use Rattle.session_reading.proofs.Forming.{head-at, head-no, act-table, form-no
 use Rattle.session_file.specs.Session as specs
 use Rattle.session_reading.specs.Answers.{formNumber, HeadIs, ofForm, ofForms, GotIs}
 use Rattle.session_reading.specs.Tables.{formNames, formNamesOf}
-use Rattle.session_reading.specs.declared.HeadRead.the-variants as start
+use Rattle.session_reading.specs.declared.HeadRead.the-variants as headRead
 use Rattle.session_reading.specs.declared.Got.the-variants as got
 use Rattle.text.proofs.Reading.{place-at, place-no}
 use Rattle.text.specs.Readers.{_>>_, Reads}
@@ -80,7 +80,7 @@ module _ (t : ℕ) where
   entered c = c .before .before .before .before .before .before .before .before .before
 
   -- the head was read
-  head-read : (c : form-lts.After-start (form-claims t) (form-at t) form.Post) → let a = entered c .args in HeadIs a.s.now a.at (replicate 4 0) (c .before .before .before .head .last .1 .1 .0) (start.Known (c .start .given .0 .0) (c .start .given .0 .1 .0))
+  head-read : (c : form-lts.After-start (form-claims t) (form-at t) form.Post) → let a = entered c .args in HeadIs a.s.now a.at (replicate 4 0) (c .before .before .before .head .last .1 .1 .0) (headRead.Known (c .start .given .0 .0) (c .start .given .0 .1 .0))
   head-read c = head-at _ _ _ _ (c .start .given .1) (c .before .before .before .head .ensures)
 
   -- the forms of again were read

@@ -47,15 +47,15 @@ use Rattle.cells.specs.Lent.{lent, steppedLent}
 use Rattle.lines.specs.declared.Record.{Record}
 use Rattle.questions.specs.declared.State.{State}
 use Rattle.cells.specs.declared.Reply.{Reply}
-use Rattle.cells_cases.specs.declared.lent_step.Kept.{Kept}
+use Rattle.cells_cases.specs.declared.lent_step.LentKept.{LentKept}
 use Rattle.lines.proofs.Record as R
 use Rattle.lines.proofs.Record.Laws as R′
 use Rattle.questions.proofs.State as S
 use Rattle.questions.proofs.State.Laws as S′
 use Rattle.cells.proofs.Reply as G
 use Rattle.cells.proofs.Reply.Laws as G′
-use Rattle.cells_cases.proofs.lent_step.Kept as P
-use Rattle.cells_cases.proofs.lent_step.Kept.Laws as P′
+use Rattle.cells_cases.proofs.lent_step.LentKept as P
+use Rattle.cells_cases.proofs.lent_step.LentKept.Laws as P′
 use Rattle.lent.proofs.step_lent as step-lent
 use Rattle.lent.proofs.step_lent.Symbol as step-lent-def
 use Rattle.lent.proofs.step_lent.Symbol.{name as #lent·step-lent}
@@ -78,10 +78,10 @@ machR h = LL.val R.the-type R′.the-laws h
 abbrev machS : State → Val
 machS s = LL.val S.the-type S′.the-laws s
 
-abbrev machP : Kept → Val
+abbrev machP : LentKept → Val
 machP k = LL.val P.the-type P′.the-laws k
 
-abbrev kept : Reply → Record → Kept
+abbrev kept : Reply → Record → LentKept
 kept r h = record { reply = r; «record» = h }
 
 -- a reply and a record make what is handed back
@@ -121,10 +121,10 @@ module _ {M : Type 1} (𝓤 : URA M) (H : Heap 𝓤) (A : Atoms 𝓤) (W : Given
   abbrev Post : Val → SProp 𝓤
   Post = walkOf 𝓤 H A lend.ended stayed (lend.clauses 𝓤 H A at-mem run) .post (((κ, tt), (q, tt), tt, a, vals), tt)
 
-  abbrev Fact : Kept → List ℕ → Type 0
+  abbrev Fact : LentKept → List ℕ → Type 0
   Fact k zs = lent (leaving (k .reply .state) zs (said (k .reply .outcome))) (k .record) ≡ steppedLent st ys t h
 
-  exits : (k : Kept) (zs : List ℕ) → Fact k zs → length zs ≡ length ys → Is P.the-row k (machP k ∷ []) → ent 𝓤 (⋆ 𝓤 H A (‵ (flft κ q) ∷ ‵ (finally u32 γ zs) ∷ [])) (Post (machP k))
+  exits : (k : LentKept) (zs : List ℕ) → Fact k zs → length zs ≡ length ys → Is P.the-row k (machP k ∷ []) → ent 𝓤 (⋆ 𝓤 H A (‵ (flft κ q) ∷ ‵ (finally u32 γ zs) ∷ [])) (Post (machP k))
   exits k zs e l g =
       qed W (‵ (flft κ q) ∷ ‵ (finally u32 γ zs) ∷ []) ∵
       suffices ! _ (ends-at 𝓤 H A lend.ended stayed (lend.clauses 𝓤 H A at-mem run) W (((κ, tt), (q, tt), tt, a, vals), tt) (machP k) k (tt, (zs, (tt, (tt, tt)))) (tt, (l, (tt, (tt, tt))))) $ says ! e $
