@@ -8,3 +8,4 @@ pub mod Marks
 pub mod Quietly
 pub mod TracedCalls
 pub mod Exchange
+pub mod StandIns

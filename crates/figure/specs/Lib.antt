@@ -1,3 +1,4 @@
 pub mod Figure
+pub mod StandIns
 pub mod Traces
 pub mod Exchange

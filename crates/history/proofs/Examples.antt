@@ -19,7 +19,7 @@ use Rattle.history.proofs.Basics.{either, clash, some-inj, point}
 
 -- THE SEQUENTIAL CELLS: every cell holds 5 first
 
-abbrev five : ℕ → ℕ
+abbrev pub five : ℕ → ℕ
 five k = 5
 
 -- RIGHT: a swap changes its own cell and no other
@@ -360,26 +360,26 @@ no-value-never-held l r = go l (must r odd (inl refl)) (shape (odd .call) (odd .
     go l h (c-then-d m n) = h
     go l h (d-then-c n m) = h
 
--- a swap that nobody meets answers no, though its cell holds the value that it expects
-abbrev lone-no : List (Action × Event)
-lone-no = (begin 0 (swap 0 5 7), accepted untried) ∷ (step 0, answers untried aSwap No 1 0 0) ∷ []
+-- a swap that nobody meets answers no, though its cell holds the value that it expects; after so many steps
+abbrev pub spurious : (steps : ℕ) → FinishedCall
+spurious n = ended 0 0 (swap 0 5 7) [] n n 0 0 No
 
-abbrev refusal : FinishedCall
-refusal = ended 0 0 (swap 0 5 7) [] 1 1 0 0 No
-
-pub no-spurious-no : (l : List Point) → Linearizes five (callsOf lone-no) l → ⊥
-unfolding upd
-no-spurious-no l r = go l (must r refusal (inl refl)) (shape (refusal .call) (refusal .call) two r) (r .once)
+pub no-such-no : (n : ℕ) (b : Calls) → ((t : ℕ) → t ≢ 0 → b .pending t ≡ none) → b .pending 0 ≡ none → b .finished ≡ spurious n ∷ [] → (l : List Point) → Linearizes five b l → ⊥
+no-such-no n b rest at0 e l r = go l (must r (spurious n) (subst (λ (x : List FinishedCall). spurious n ∈ x) (sym e) (inl refl))) (shape (spurious n .call) (spurious n .call) two r) (r .once)
   where
-    two : TwoCalls (callsOf lone-no) (refusal .call) (refusal .call)
-    two = both-ended (callsOf lone-no) refusal refusal (λ t p q. rw (ne-eqb t 0 p)) refl refl (one-of refusal)
+    two : TwoCalls b (spurious n .call) (spurious n .call)
+    two = both-ended b (spurious n) (spurious n) (λ t p q. rest t p) at0 (rest 1 (λ z. omega arith)) (λ h i. one-of (spurious n) h (subst (λ (x : List FinishedCall). h ∈ x) e i))
 
-    go : (l : List Point) → T (said 0 (replies five l)) → Shape (refusal .call) (refusal .call) l → Once (ats l) → ⊥
+    go : (l : List Point) → T (said 0 (replies five l)) → Shape (spurious n .call) (spurious n .call) l → Once (ats l) → ⊥
     go l h neither o = h
     go l h (only-c m) o = h
     go l h (only-d n) o = h
     go l h (c-then-d m n) o = o .0 (inl refl)
     go l h (d-then-c n m) o = o .0 (inl refl)
+
+pub no-spurious-no : (l : List Point) → Linearizes five (callsOf ((begin 0 (swap 0 5 7), accepted untried) ∷ (step 0, answers untried aSwap No 1 0 0) ∷ [])) l → ⊥
+unfolding upd
+no-spurious-no = no-such-no 1 _ (λ t p. rw (ne-eqb t 0 p)) refl refl
 
 -- two swaps of the value 5 both answer yes
 abbrev two-winners : List (Action × Event)

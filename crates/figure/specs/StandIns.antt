@@ -1,0 +1,20 @@
+-- Two of the stand-ins that document 01 wants rejected by demand 3, made of the figure: each gives wrong events, or leaves a wrong world.
+use Rattle.history.specs.History.{Action, begin, step, No, Report, Event, refused, accepted, answered}
+use Rattle.figure.specs.Figure.{World, figure}
+
+-- every call answers no
+abbrev pub saysNo : Report → Report
+saysNo r = record { kind = r .kind; cell = r .cell; answer = No; steps = r .steps; won = r .won; lost = r .lost }
+
+abbrev pub denied : Event → Event
+denied (refused n) = refused n
+denied (accepted x) = accepted x
+denied (answered x r) = answered x (saysNo r)
+
+abbrev pub denying : World → Action → World × Event
+denying w a = (figure w a .0, denied (figure w a .1))
+
+-- a step gives its event, and moves nothing
+abbrev pub idling : World → Action → World × Event
+idling w (begin t op) = figure w (begin t op)
+idling w (step t) = (w, figure w (step t) .1)
