@@ -16,7 +16,7 @@ use Rattle.lines.specs.Lines.{Line, lineAt, lineOf, accessAt, accessOf, attempt
 use Rattle.figure_cell.proofs.Tries.{tries}
 use Rattle.questions.specs.Questions.{Question, refusal, ofKind, reads, swaps, lineFit, valuesFit, beginQuestions, swapQuestions, stepQuestions}
 use Rattle.history.specs.Basics.{upd, _∈_}
-use Rattle.history.specs.History.{Op, read, swap, cellOf, Action, begin, step, Report, untried, wins, losses, run}
+use Rattle.history.specs.History.{Op, read, swap, cellOf, kindOf, Action, begin, step, Report, untried, wins, losses, run}
 use Rattle.history.proofs.Basics.{either, upd-at, upd-same, upd-off, upd-cases}
 use Rattle.figure_cell.specs.Memory.{Cell, accessCell}
 use Rattle.cells.specs.Turn.{recordAfter, outcomeOf}
@@ -26,6 +26,7 @@ use Rattle.figure_cell.specs.Paths.{accessCount}
 use Rattle.figure.specs.Traces.{Trace, didLine, enterLine}
 use Rattle.figure_cell.specs.Paths as Paths
 use Rattle.history.proofs.ListTests.{every, every-in, both, imp}
+use Rattle.figure_cell.proofs.AsBegun.{kind-of, cell-of}
 use Rattle.figure_cell.proofs.LineLaws.{every-line, lines, before, extends-in, waysOf, hardware-alike, Leads, goes, done, leads}
 
 -- A CALL AND THE LINES THAT IT DID
@@ -44,6 +45,8 @@ pub record Complete (op : Op) (lines : List Line) (r : Report) : Type 0 where
   pub path : lines ∈ waysOf op (r .answer)
   pub all-steps : r .steps ≡ Paths.steps lines
   pub all-hard : r .won + r .lost ≡ accessCount hardware lines
+  pub kind : r .kind ≡ kindOf op
+  pub cell : r .cell ≡ cellOf op
 
 pub steps-on : (d : List Line) (l : Line) → Paths.steps (d ++ (l ∷ [])) ≡ Paths.steps d + 1
 steps-on [] l = refl
@@ -90,7 +93,7 @@ module _ (v : ℕ) (did : List Line) (q : Record) (o : Pending v did q) where
         hard = hard;
         lines = extends-in (lineOf q) (before (lineAt n w)) (h .0) did (o .lines);
       }
-      go (done {a} h) = record { path = extends-in (lineOf q) (waysOf (opOf q) a) h did (o .lines); all-steps = steps; all-hard = hard }
+      go (done {a} h) = record { path = extends-in (lineOf q) (waysOf (opOf q) a) h did (o .lines); all-steps = steps; all-hard = hard; kind = kind-of q; cell = sym (cell-of q) }
 
   -- bounds, found by computing over all that may stand before a line that passes the test
   bounded : (n x : ℕ) (test : Line → Bool) → T (every (λ l. every (few n x) (before l) || not (test l)) lines) → test (lineOf q) ≡ true → (q .steps < n) × (q .won + q .lost ≤ x)

@@ -22,7 +22,6 @@ use Rattle.cells.specs.Turn.{recordAfter, outcomeOf}
 use Rattle.figure.specs.Figure.{World, WorldAfter, withBoth, figureRan, figure, triedIn, firstOf}
 use Rattle.cells.specs.Events.{eventOf}
 use Rattle.figure_cell.specs.Paths.{readPaths, paths, accessCount}
-use Rattle.figure_cell.proofs.AsBegun.{kind-of, cell-of}
 use Rattle.history.proofs.ListTests.{every-in, by-test}
 use Rattle.figure_cell.proofs.LineLaws.{waysOf, on-paths, on-read-paths, Leads, goes, done}
 use Rattle.figure.proofs.Records.{Pending, not-idle, led, Then, one-line, pending-bounds, read-bounds, Begun, starts, begin-cases, Stepped, runs, step-cases, OnPath, AllOnPath}
@@ -91,8 +90,8 @@ module _ (w : World) where
       now = tally q;
       was = was-doing (w .cells) did q o;
       rest = put t idle none refl;
-      kind = kind-of q;
-      cell = sym (cell-of q);
+      kind = end .kind;
+      cell = end .cell;
       steps = add-one (q .steps);
       won = refl;
       lost = refl;

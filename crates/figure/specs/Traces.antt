@@ -6,7 +6,7 @@ use Rattle.lines.specs.Paths.{table}
 use Rattle.lines.specs.Lines.{Line, lineOf, hardware}
 use Rattle.history.specs.Basics.{upd, _∈_}
 use Rattle.figure.specs.Figure.{World, figure}
-use Rattle.history.specs.History.{Op, read, Action, begin, step, Report, Event, refused, accepted, answered, FinishedCall}
+use Rattle.history.specs.History.{Op, read, cellOf, kindOf, Action, begin, step, Report, Event, refused, accepted, answered, FinishedCall}
 use Rattle.figure_cell.specs.Paths.{accessCount, pathCounts, pathsOf, reached, steps}
 
 -- a finished call: what it is as begun, its lines in order, and what its last step reported
@@ -47,7 +47,7 @@ module _ {S : Type 0} (act : S → Action → S × Event) (next : S → ℕ → 
 abbrev pub figureTraces : World → Trace → List Action → Trace
 figureTraces = traces figure (λ w t. lineOf (w .records t))
 
--- a finished call on a path that is its own, whose counts are the lines that it did
+-- a finished call that reports what it is as begun, on a path that is its own, whose counts are the lines that it did
 pub record Counted (x : Traced) : Type 0 where
   pub path : x .lines ∈ reached
   -- a path of what the call is as begun, that ends in what it answered
@@ -55,6 +55,8 @@ pub record Counted (x : Traced) : Type 0 where
   pub all-steps : x .report .steps ≡ steps (x .lines)
   pub all-hard : x .report .won + x .report .lost ≡ accessCount hardware (x .lines)
   pub row : pathCounts (x .lines) ∈ table
+  pub kind : x .report .kind ≡ kindOf (x .op)
+  pub cell : x .report .cell ≡ cellOf (x .op)
 
 -- what a call is as begun, and what its last step reported: of a history, and of a trace
 abbrev pub finishedReport : FinishedCall → Op × Report

@@ -53,6 +53,8 @@ module _ (old : State) (words : List ℕ) (tasks cells blocks : ℕ) (values : L
         all-steps = c .all-steps;
         all-hard = c .all-hard;
         row = row (x .lines) m;
+        kind = c .kind;
+        cell = c .cell;
       }
 
   -- The trace leaves out no call: its finished calls are the history's, one by one, as begun and with the same answer and counts.
@@ -61,7 +63,7 @@ module _ (old : State) (words : List ℕ) (tasks cells blocks : ℕ) (values : L
 
   -- EACH COUNT IS THE LINES DONE. From a fresh opening, for every list of actions, every finished call did the lines of one of the twelve
   -- paths that are reached: a read and a swap of equal values one of the first two, a swap of unequal values one of the ten others, and
-  -- one that ends in the answer that it gave. The steps and hardware CAS attempts that it reports are those of its lines; and its steps,
+  -- one that ends in the answer that it gave. The kind and cell that it reports are as begun, the steps and hardware CAS attempts those of its lines; and its steps,
   -- loads, stores and hardware CAS attempts are a row of the table.
   pub calls-counted : (call : Traced) → call ∈ trace (start old words tasks cells blocks values) actions .done → Counted call
   calls-counted x i = of-figure x (subst (λ (r : Trace). x ∈ r .done) (same-trace old words tasks cells blocks values allowed actions) i)

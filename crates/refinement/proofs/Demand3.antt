@@ -1,7 +1,7 @@
 -- Demand 3 of the cells: it holds of the figure, and the pool has the figure's histories.
 use mathlib.Core.Path.{_≡_, refl, sym, subst}
 use mathlib.Core.Logic.{_≢_}
-use mathlib.Core.Bool.{Bool, true, false, not}
+use mathlib.Core.Bool.{false}
 use mathlib.Core.Option.{none, some}
 use mathlib.Core.List.{List, [], _∷_}
 use Prim.Native.Nat.{ℕ, zero, suc, _≤_}
@@ -9,7 +9,7 @@ use native.Mathlib.Decide.{decLe}
 use native.Mathlib.Omega.{arith}
 use lib.Dec.{eqb}
 use lib.ListN.{getD, length}
-use borrow.Author.Tests.{eqb-false}
+use borrow.Author.Tests.{eqb-false, not-true}
 use Rattle.questions.specs.declared.State.{State}
 use Rattle.lines.specs.Record.{noValue}
 use Rattle.questions.specs.Questions.{refusal, hasNone, openQuestions, answers}
@@ -42,11 +42,7 @@ values-some vs e k z = go (decLe (length vs) k)
 module _ (old : State) (words : List ℕ) (tasks cells blocks : ℕ) (values : List ℕ) (allowed : refusal (openQuestions (length words) tasks cells blocks values) ≡ none) where
   pub starting-values : (k : ℕ) → getD values k 0 ≢ noValue
   unfolding openQuestions
-  starting-values = values-some values (no (hasNone values) (nth (answers (openQuestions (length words) tasks cells blocks values)) (all-yes (openQuestions (length words) tasks cells blocks values) allowed) 4))
-    where
-      no : (x : Bool) → not x ≡ true → x ≡ false
-      no true e = sym e
-      no false e = refl
+  starting-values = values-some values (not-true (hasNone values) (nth (answers (openQuestions (length words) tasks cells blocks values)) (all-yes (openQuestions (length words) tasks cells blocks values) allowed) 4))
 
   -- DEMAND 3. For every list of begins and steps from a fresh opening, with any numbers, refused ones included, wherever tasks halt: the
   -- calls can be put one after another on sequential cells, every finished call once with its own answer and some pending ones once each,

@@ -10,6 +10,7 @@ pub mod Refines
 pub mod Lacking
 pub mod LoneRead
 pub mod Demand3
+pub mod Lent
 pub mod Ninth
 pub mod Traces
 pub mod Moments

@@ -171,8 +171,8 @@ module _ {n v : ℕ} {x : Pool} {w : World} (g : Together n v x w) (i : Reachabl
 -- COUNTING
 
 -- none in this life so far; or one, and then the block is decided and nobody has taken it
-abbrev Counted : Pool → (block number : ℕ) → Type 0
-Counted x b m = (m ≡ 0) ⊎ ((m ≡ 1) × Kept x b)
+abbrev AtMostOnce : Pool → (block number : ℕ) → Type 0
+AtMostOnce x b m = (m ≡ 0) ⊎ ((m ≡ 1) × Kept x b)
 
 module _ {n v : ℕ} {x : Pool} {w : World} (g : Together n v x w) (i : Reachable v w) (b : ℕ) where
   never : (c d : Bool) (o : Said) → (c && (d && eqb (winsOf (eventOf untried o)) 1)) ≡ false
@@ -183,14 +183,14 @@ module _ {n v : ℕ} {x : Pool} {w : World} (g : Together n v x w) (i : Reachabl
   never false d o = refl
 
   -- whatever the action, by whether it takes the block and whether it wins a decision at it
-  on : (y : Pool) (taken won : Bool) (m : ℕ) → (won ≡ true → Kept y b) → (Kept x b → won ≡ true → ⊥) → (Kept x b → taken ≡ false → Kept y b) → Counted x b m → Counted y b (tallied taken won m)
+  on : (y : Pool) (taken won : Bool) (m : ℕ) → (won ≡ true → Kept y b) → (Kept x b → won ≡ true → ⊥) → (Kept x b → taken ≡ false → Kept y b) → AtMostOnce x b m → AtMostOnce y b (tallied taken won m)
   on y true won m now not-twice stays c = inl refl
   on y false true m now not-twice stays (inl e) = inr (ap suc e, now refl)
   on y false true m now not-twice stays (inr (e, k)) = absurd (not-twice k refl)
   on y false false m now not-twice stays (inl e) = inl e
   on y false false m now not-twice stays (inr (e, k)) = inr (e, stays k refl)
 
-  counted-on : (a : Action) (m : ℕ) → Counted x b m → Counted (pool x a .0) b (tallied (takes x a b) (winsDecision x a b) m)
+  counted-on : (a : Action) (m : ℕ) → AtMostOnce x b m → AtMostOnce (pool x a .0) b (tallied (takes x a b) (winsDecision x a b) m)
   counted-on (begin t op) m =
       let r = recordAt (x .0 .records) t in
       let no : winsDecision x (begin t op) b ≡ false = never (eqb (r .line) 2) (eqb (r .held) b) (begins (x .0) (x .1) t op .outcome) in
@@ -201,10 +201,10 @@ module _ {n v : ℕ} {x : Pool} {w : World} (g : Together n v x w) (i : Reachabl
       (λ e. kept-now g i t b (decides (x .0) (x .1) t b f e)) (λ k e. k .decided (decides (x .0) (x .1) t b f e .undecided)) (λ k e. step-keeps (x .0) (x .1) t b k f e)
 
 -- pool and figure together, for as long as they run on
-few : {n v : ℕ} (l : List Action) (x : Pool) (w : World) (m : ℕ → ℕ) (b : ℕ) → ((l : List Action) → Together n v (run pool x l) (run figure w l)) → Reachable v w → Counted x b (m b) → decisions x m l b ≤ 1
+few : {n v : ℕ} (l : List Action) (x : Pool) (w : World) (m : ℕ → ℕ) (b : ℕ) → ((l : List Action) → Together n v (run pool x l) (run figure w l)) → Reachable v w → AtMostOnce x b (m b) → decisions x m l b ≤ 1
 few [] x w m b g i c = go c
   where
-    go : Counted x b (m b) → m b ≤ 1
+    go : AtMostOnce x b (m b) → m b ≤ 1
     go (inl e) = omega arith
     go (inr (e, k)) = omega arith
 few {v = v} (a ∷ l) x w m b g i c = few l (pool x a .0) (figure w a .0) (λ b. tallied (takes x a b) (winsDecision x a b) (m b)) b (λ l. g (a ∷ l)) (next-reachable v w i a) (counted-on (g []) i b a (m b) c)

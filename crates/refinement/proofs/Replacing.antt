@@ -26,7 +26,7 @@ use Rattle.pool.proofs.Installs.{installs, block-stays}
 use Rattle.cells.specs.Step.{current}
 use Rattle.cells.specs.Events.{eventOf}
 use Rattle.cells.specs.Machine.{Pool, pool}
-use Rattle.history.specs.History.{Action, begin, step, success, Attempt, Report, Event, answered, run}
+use Rattle.history.specs.History.{Action, begin, step, Yes, success, Attempt, Report, Event, answered, run}
 use Rattle.history.proofs.ListTests.{by-test}
 use Rattle.cells.specs.Turn.{outcomeOf}
 use Rattle.figure.specs.Figure.{World}
@@ -78,12 +78,13 @@ module _ (s : State) (p : List ℕ) (t k : ℕ) where
     won : x ≡ success
     report : Report
     event : e ≡ answered success report
+    yes : report .answer ≡ Yes
     names : b ≡ r .taken
 
   line-30 : named (touchedAt s p t l30 .current) ≢ current s k → Won (triesAt s p t l30) (eventOf (triesAt s p t l30) (ranAt s p t l30 .outcome)) (named (touchedAt s p t l30 .current))
   line-30 = by-test (λ (m : Touched). named (m .current) ≢ current s k → Won (found (m .value)) (eventOf (found (m .value)) (outcomeOf (nextAt l30 t (counted r (found (m .value))) (m .value)))) (named (m .current)))
       (eqb c (r .held)) (touched p (r .taken) (s .last) 1) (touched p c (s .last) 0)
-      (λ z n. let h = changed (r .taken) n in record { cell = h .0; won = refl; report = _; event = refl; names = h .1 })
+      (λ z n. let h = changed (r .taken) n in record { cell = h .0; won = refl; report = _; event = refl; yes = refl; names = h .1 })
       (λ z n. absurd (changed c n .2 refl))
 
   abbrev Changes : After → Type 0
@@ -96,14 +97,14 @@ module _ (s : State) (p : List ℕ) (t k : ℕ) where
       (h .line ∙ ap number e, subst (λ ℓ. named (touchedAt s p t ℓ .current) ≢ current s k → Won (triesAt s p t ℓ) (eventOf (triesAt s p t ℓ) (ranAt s p t ℓ .outcome)) (named (touchedAt s p t ℓ .current))) (sym e) line-30 d)
 
   step-replaces : current (pool (s, p) (step t) .0 .0) k ≢ current s k → Replaces (s, p) (step t) k
-  step-replaces d = let h = replaced (step-cases s p t) d in let y = h .1 in record { is-step = refl; line = h .0; its-cell = y .cell; won = y .won; report = y .report; event = y .event; names = y .names }
+  step-replaces d = let h = replaced (step-cases s p t) d in let y = h .1 in record { is-step = refl; line = h .0; its-cell = y .cell; won = y .won; report = y .report; event = y .event; yes = y .yes; names = y .names }
 
 begin-leaves : (s : State) (p : List ℕ) (t : ℕ) {f : After} → Began s p t f → f .state .current ≡ s .current
 begin-leaves s p t (declines n) = refl
 begin-leaves s p t (starts q h) = refl
 
--- In any state whatever: where an action makes a cell name another block, it is a step at line 30 on that cell that wins its attempt, and the
--- cell then names the block that the task has taken.
+-- In any state whatever: where an action makes a cell name another block, it is a step at line 30 on that cell that wins its attempt and answers
+-- yes, and the cell then names the block that the task has taken.
 pub replacements-are-won : (now : Pool) (action : Action) (cell : ℕ) → current (pool now action .0 .0) cell ≢ current (now .0) cell → Replaces now action cell
 replacements-are-won x (begin t op) k d = absurd (d (ap (λ (l : List ℕ). getD l k 0) (begin-leaves (x .0) (x .1) t (begin-cases (x .0) (x .1) t op))))
 replacements-are-won x (step t) k d = step-replaces (x .0) (x .1) t k d

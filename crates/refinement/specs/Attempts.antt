@@ -7,7 +7,7 @@ use lib.Dec.{eqb}
 use Rattle.lines.specs.declared.Record.{Record}
 use Rattle.lines.specs.Record.{recordAt}
 use Rattle.cells.specs.Step.{current}
-use Rattle.history.specs.History.{Action, step, taskOf, success, wins, Report, Event, refused, accepted, answered}
+use Rattle.history.specs.History.{Action, step, taskOf, Yes, success, wins, Report, Event, refused, accepted, answered}
 use Rattle.cells.specs.Machine.{Pool, triedBy, pool}
 
 -- the record of an action's own task
@@ -41,7 +41,8 @@ decisions x n (a ∷ l) b = decisions (pool x a .0) (λ b. tallied (takes x a b)
 
 -- REPLACEMENTS
 
--- the action is a step at line 30 on the cell, it wins its attempt and ends its call, and the cell then names the block that the task has taken
+-- the action is a step at line 30 on the cell, it wins its attempt and ends its call with yes, and the cell then names the block that the task
+-- has taken
 pub record Replaces (x : Pool) (a : Action) (cell : ℕ) : Type 0 where
   pub is-step : a ≡ step (taskOf a)
   pub line : ownRecord x a .line ≡ 30
@@ -49,4 +50,5 @@ pub record Replaces (x : Pool) (a : Action) (cell : ℕ) : Type 0 where
   pub won : triedBy (x .0) (x .1) a ≡ success
   pub report : Report
   pub event : pool x a .1 ≡ answered success report
+  pub yes : report .answer ≡ Yes
   pub names : current (pool x a .0 .0) cell ≡ ownRecord x a .taken
