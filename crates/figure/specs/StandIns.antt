@@ -6,13 +6,13 @@ use Rattle.figure.specs.Figure.{World, figure}
 abbrev pub saysNo : Report → Report
 saysNo r = record { kind = r .kind; cell = r .cell; answer = No; steps = r .steps; won = r .won; lost = r .lost }
 
-abbrev pub denied : Event → Event
-denied (refused n) = refused n
-denied (accepted x) = accepted x
-denied (answered x r) = answered x (saysNo r)
+abbrev pub answersNo : Event → Event
+answersNo (refused n) = refused n
+answersNo (accepted x) = accepted x
+answersNo (answered x r) = answered x (saysNo r)
 
 abbrev pub denying : World → Action → World × Event
-denying w a = (figure w a .0, denied (figure w a .1))
+denying w a = (figure w a .0, answersNo (figure w a .1))
 
 -- a step gives its event, and moves nothing
 abbrev pub idling : World → Action → World × Event
