@@ -8,8 +8,7 @@ ghost use lib.ListN.{length};
 ghost use Rattle.session_file.specs.Session.{verdict};
 ghost use Rattle.session_reading.specs.Reading.{verdictOf, verdictIn};
 ghost use Rattle.session_reading.specs.Kept.{InBuffers};
-ghost use Rattle.session_reading.specs.Tables.{wiped, buffers, afterReading, afterReadingInto};
-ghost use Rattle.session_reading.specs.declared.Reading.the-variants.{Bad};
+ghost use Rattle.session_reading.specs.Tables.{buffers, afterReading, afterReadingInto};
 
 // Words that a file can fill: a value takes at least 2 bytes, and a form of five words at least 8.
 const VALUES: usize = 32768;
@@ -17,15 +16,6 @@ const VALUES: usize = 32768;
 const FORMS: usize = 40960;
 
 const ACTIONS: usize = 65535;
-
-// A buffer cleared, and the answer.
-fn refused(words: &mut [u32], n: u32) -> Reading
-    ensures { λ r. ⌜ r ≡ Bad n ⌝ }
-    ensures { λ _. ⌜ now (words .exit) ≡ wiped (now (words .entry)) ⌝ }
-{
-    clear(words);
-    Reading::Bad(n)
-}
 
 fn read(file: &[u8], values: &mut [u32], kept: &mut [u32], actions: &mut [u32]) -> Reading
     requires { ⌜ length (now values) ≡ 32768 ⌝ }
@@ -44,12 +34,19 @@ fn read(file: &[u8], values: &mut [u32], kept: &mut [u32], actions: &mut [u32]) 
     let first = session_opening::opening(file, values);
     let Opened::Read(tasks, cells, blocks, count, next) = first else {
         clear(kept);
-        return refused(actions, 14);
+        clear(actions);
+        return Reading::Bad(14);
     };
     let rest = session_forms::lines(file, next, kept, actions);
     match rest {
-        Rest::Wrong => refused(values, 14),
-        Rest::Many => refused(values, 15),
+        Rest::Wrong => {
+            clear(values);
+            Reading::Bad(14)
+        }
+        Rest::Many => {
+            clear(values);
+            Reading::Bad(15)
+        }
         Rest::Kept(n) => Reading::Session {
             tasks,
             cells,

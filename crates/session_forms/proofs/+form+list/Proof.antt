@@ -12,7 +12,7 @@ use Rattle.text.proofs.Reading.{place-at, place-no}
 use Rattle.text.specs.Readers.{_>>_, Reads}
 use lib.ListN.{length, take, drop, getD, replicate}
 use lib.Seq.{length-take-le}
-use Prim.Native.Nat.{ℕ, _+_, _-_, _<_}
+use Prim.Native.Nat.{ℕ, _+_, _-_, _<_, min}
 use mathlib.Core.Path.{_≡_, sym, _∙_}
 use mathlib.Core.Option.{none}
 use borrow.Fn.Kinds.{In}
@@ -31,12 +31,16 @@ use Rattle.session_items.proofs.space.Reads as space-reads
 use Rattle.session_forms.proofs.+form+list.{statement}
 use Rattle.session_forms.proofs.+form+list.Tie.{close}
 
--- the depth left, counted twice so that it falls from a list to its forms too, and the bytes left: each falls at every call
+-- the depth left, counted twice so that it falls from a list to its forms too, and the bytes left: each falls at every call.
+-- `close` takes one number, which is here the lesser of the two: either may be it, so neither can stand still, as it could in a sum
 abbrev μ-form : Measures 3 form-kinds.ps ℕ
-μ-form κs a = a .1 .1 .0 + a .1 .1 .0 + (length (a .0 .now) - a .1 .0)
+μ-form κs a = min (a .1 .1 .0 + a .1 .1 .0) (length (a .0 .now) - a .1 .0)
 
 abbrev μ-list : Measures 3 list-kinds.ps ℕ
-μ-list κs a = a .1 .1 .0 + a .1 .1 .0 + 1 + (length (a .0 .now) - a .1 .0)
+μ-list κs a = min (a .1 .1 .0 + a .1 .1 .0 + 1) (length (a .0 .now) - a .1 .0)
+
+both-fall : {d d′ b b′ t : ℕ} → min d b ≡ t → d′ < d → b′ < b → min d′ b′ < t
+both-fall e p q = omega (arith, e, p, q)
 
 abbrev form-at : ℕ → In 3 form-kinds.ps
 form-at t = and 3 form-kinds.ps (is 3 form-kinds.ps μ-form t) form.Pre
@@ -109,7 +113,7 @@ module _ (t : ℕ) where
   form-list-requires c κs =
       let x = head-read (c .before .before .before .before .before) in
       let e = entered (c .before .before .before .before .before) .pre in
-      (omega (arith, e .0, x .2 .past, x .2 .within), (omega (arith, e .1 .0), ready-part (ready-later (e .1 .1) (omega (arith, x .2 .past)) (x .2 .within))))
+      (both-fall (e .0) (omega arith) (omega (arith, x .2 .past, x .2 .within)), (omega (arith, e .1 .0), ready-part (ready-later (e .1 .1) (omega (arith, x .2 .past)) (x .2 .within))))
 
   form-slice-aggregate-list : form-lts.Need-slice-aggregate-list (form-claims t) (form-at t) form.Post
   form-slice-aggregate-list c = sym (length-take-le _ _ (entered (c .before .before .before .before .before) .pre .1 .1 .room))
@@ -137,7 +141,7 @@ module _ (t : ℕ) where
   form-list-requires-2 c κs =
       let x = head-read (c .before .before .before .before .before) in
       let e = entered (c .before .before .before .before .before) .pre in
-      (omega (arith, e .0, x .2 .past, x .2 .within), (omega (arith, e .1 .0), ready-later (e .1 .1) (omega (arith, x .2 .past)) (x .2 .within)))
+      (both-fall (e .0) (omega arith) (omega (arith, x .2 .past, x .2 .within)), (omega (arith, e .1 .0), ready-later (e .1 .1) (omega (arith, x .2 .past)) (x .2 .within)))
 
   form-returns-5 : form-lts.Need-returns-5 (form-claims t) (form-at t) form.Post
   form-returns-5 c =
@@ -252,7 +256,7 @@ module _ (t : ℕ) where
       let l = tested (spaced (c .before .before .before)) in
       let x = gap-read (c .before .before .before) in
       let p = l .before .before .before .before .pre in
-      (omega (arith, p .0, l.loop .inv .turn .from, x .past, x .within), (p .1 .0, ready-later (l.loop .inv .ready) (omega (arith, x .past)) (x .within)))
+      (both-fall (p .0) (omega arith) (omega (arith, l.loop .inv .turn .from, x .past, x .within)), (p .1 .0, ready-later (l.loop .inv .ready) (omega (arith, x .past)) (x .within)))
 
   list-returns-3 : list-lts.Need-returns-3 (list-claims t) (list-at t) list.Post list-Inv-loop list-μ-loop
   list-returns-3 c =

@@ -54,8 +54,7 @@ returns-3 c =
     let o = c .before .before .before .before .before .before .before .before .before .before .before .before .opening in
     let wrong = c .before .before .before .before .before .before .before .before .enum-told .given .1 in
     let j = unopened (file e) (buffers a.values.now a.kept.now a.actions.now) (short e) (shaped e) (opened-no _ _ wrong (o .ensures .0)) in
-    let r = c .before .before .refused in
-    (rw (r .ensures .0) (sym (j .0)), (rw (r .ensures .0) tt, alike (rw wrong at (o .ensures .1)) (c .before .before .before .before .before .before .clear .ensures) (r .ensures .1) ∙ sym (j .1)))
+    (sym (j .0), (tt, alike (rw wrong at (o .ensures .1)) (c .before .before .before .before .before .before .clear .ensures) (c .before .before .clear2 .ensures) ∙ sym (j .1)))
 
 lines-requires : tie.Need-lines-requires
 lines-requires c κs =
@@ -67,9 +66,8 @@ returns-4 c =
     let a = c .before .before .before .before .before .before .before .before .before .before .before .before .before .before .before .before .before .before .before .before .before .before .before .before .before .before .before .args in
     let y = rest-said (c .before .before .before .before .before .before .before .before .before .before) (c .before .before .before .before .enum-told2 .given .1) in
     let j = unformed (file e) (buffers a.values.now a.kept.now a.actions.now) (short e) (shaped e) (first-read (c .before .before .before .before .before .before .before .before .before .before .before .before .before .before)) (y .0) in
-    let r = c .before .before .refused2 in
-    let v = r .ensures .1 ∙ ap (λ (k : ℕ). replicate k 0) (c .before .before .before .before .before .before .before .before .before .before .before .before .before .before .before .before .before .before .opening .kept .1 .0) in
-    (rw (r .ensures .0) (sym (j .0)), (rw (r .ensures .0) tt, alike v (y .1) (y .2) ∙ sym (j .1)))
+    let v = c .before .before .clear3 .ensures ∙ ap (λ (k : ℕ). replicate k 0) (c .before .before .before .before .before .before .before .before .before .before .before .before .before .before .before .before .before .before .opening .kept .1 .0) in
+    (sym (j .0), (tt, alike v (y .1) (y .2) ∙ sym (j .1)))
 
 returns-5 : tie.Need-returns-5
 returns-5 c =
@@ -77,9 +75,8 @@ returns-5 c =
     let a = c .before .before .before .before .before .before .before .before .before .before .before .before .before .before .before .before .before .before .before .before .before .before .before .before .before .before .before .args in
     let y = rest-said (c .before .before .before .before .before .before .before .before .before .before) (c .before .before .before .before .enum-told3 .given .1) in
     let j = is-15 (file e) (buffers a.values.now a.kept.now a.actions.now) (short e) (shaped e) (first-read (c .before .before .before .before .before .before .before .before .before .before .before .before .before .before)) (y .2) (omega (arith, y .3)) in
-    let r = c .before .before .refused3 in
-    let v = r .ensures .1 ∙ ap (λ (k : ℕ). replicate k 0) (c .before .before .before .before .before .before .before .before .before .before .before .before .before .before .before .before .before .before .opening .kept .1 .0) in
-    (rw (r .ensures .0) (sym (j .0)), (rw (r .ensures .0) tt, alike v (y .4) (y .5) ∙ sym (j .1)))
+    let v = c .before .before .clear4 .ensures ∙ ap (λ (k : ℕ). replicate k 0) (c .before .before .before .before .before .before .before .before .before .before .before .before .before .before .before .before .before .before .opening .kept .1 .0) in
+    (sym (j .0), (tt, alike v (y .4) (y .5) ∙ sym (j .1)))
 
 returns-6 : tie.Need-returns-6
 returns-6 c =
