@@ -14,6 +14,8 @@ ghost use lib.Dec.{eqb};
 ghost use lib.ListN.{getD, length};
 ghost use Rattle.lines.specs.Record.{idle, recordAt};
 ghost use Rattle.cells.specs.Answers.{said, actOf};
+ghost use Rattle.cells.specs.Events.{eventOf};
+ghost use Rattle.history.specs.History.{untried};
 ghost use Rattle.figure_moments.specs.Moments.{noted};
 ghost use Rattle.pool.specs.Words.{recordsOf};
 ghost use Rattle.moments_notes.specs.Loop.{lineIf, notedLine, spreads as «spreadsOf»};
@@ -169,7 +171,7 @@ pub fn own_notes(
 }
 
 fn line_if(outcome: Outcome, line: u32) -> u32
-    ensures { λ n. ⌜ n ≡ lineIf (said outcome) line ⌝ }
+    ensures { λ n. ⌜ n ≡ lineIf (eventOf untried (said outcome)) line ⌝ }
 {
     match outcome {
         Outcome::Refused(_) => 0,
@@ -180,7 +182,7 @@ fn line_if(outcome: Outcome, line: u32) -> u32
 
 // The line of a step that is done, else 0.
 pub fn noted_line(a: Action, outcome: Outcome, line: u32) -> u32
-    ensures { λ n. ⌜ n ≡ notedLine (actOf a) (said outcome) line ⌝ }
+    ensures { λ n. ⌜ n ≡ notedLine (actOf a) (eventOf untried (said outcome)) line ⌝ }
 {
     match a {
         Action::Read(_, _) => 0,
