@@ -34,14 +34,11 @@ EndFits f (accepted x) = Unit {0}
 EndFits f (answered x r) = f (r .answer) .moment ≤ 65535
 
 -- the line of a step that is done, else 0
-abbrev pub lineIf : Event → ℕ → ℕ
-lineIf (refused q) n = 0
-lineIf (accepted x) n = n
-lineIf (answered x r) n = n
-
 abbrev pub notedLine : Action → Event → ℕ → ℕ
 notedLine (begin t op) e n = 0
-notedLine (step t) e n = lineIf e n
+notedLine (step t) (refused q) n = 0
+notedLine (step t) (accepted x) n = n
+notedLine (step t) (answered x r) n = n
 
 -- it is noted for everybody who holds the block
 abbrev pub spreads : ℕ → Sight → Bool
