@@ -5,6 +5,7 @@ use bus_calls::calls::add_call;
 use bus_calls::calls::no_calls;
 use bus_calls::calls::timed;
 use bus_calls::times::Ranges;
+use cells::Action;
 use cells::Outcome;
 use lines::Finished;
 use machine::actions;
@@ -14,17 +15,19 @@ ghost use mathlib.Core.Path.{_≡_};
 ghost use mathlib.Core.Bool.{true};
 ghost use mathlib.Core.List.{map};
 ghost use Prim.Native.Nat.{_+_, _≤_, _<_};
-ghost use lib.ListN.{length, getD, replicate};
+ghost use lib.ListN.{length, getD, set, replicate};
 ghost use Rattle.lines.specs.Record.{idle};
 ghost use Rattle.lines.specs.Answers.{result};
 ghost use Rattle.text.specs.Append.{Appended};
 ghost use Rattle.refinement.specs.Reached.{Reached};
 ghost use Rattle.session_reading.specs.Reading.{actAt};
 ghost use Rattle.session_reading.specs.Kept.{FormNumbers};
-ghost use Rattle.cells.specs.Answers.{said, Ended};
-ghost use Rattle.bus_text.specs.Bus.{shortTimes, busCalls, callsText};
+ghost use Rattle.cells.specs.Answers.{said, actOf};
+ghost use Rattle.cells.specs.Events.{reportOf, eventOf};
+ghost use Rattle.history.specs.History.{untried};
+ghost use Rattle.bus_text.specs.Bus.{shortTimes, timed as «timedOf», addCall, callLine, busCalls, callsText};
 ghost use Rattle.bus_calls.specs.Structs.{timesOf, sumsIn};
-ghost use Rattle.bus_play.specs.Loop.{EndsWithin, addedText, addedSums, addedCounts};
+ghost use Rattle.bus_play.specs.Loop.{EndsWithin, added};
 
 // The place after the text, and the totals.
 pub struct Entered {
@@ -42,10 +45,10 @@ fn end_call(
     f: Finished,
 ) -> Entered
     requires { ⌜ (at + 90 ≤ length (now out)) × (length (now finished) ≡ 32) × (shortTimes (timesOf w) ≡ true) ⌝ }
-    requires { ⌜ (z .least ≤ 1376235000000) × (z .greatest ≤ 1376235000000) × EndsWithin task (now finished) (Ended (result f)) ⌝ }
-    ensures { λ r. ⌜ Appended (now (out .entry)) (now (out .exit)) at (r .at) (addedText (timesOf w) (getD (now (finished .entry)) task 0) task (Ended (result f))) ⌝ }
-    ensures { λ r. ⌜ sumsIn (r .totals) ≡ addedSums (timesOf w) (getD (now (finished .entry)) task 0) task (sumsIn z) (Ended (result f)) ⌝ }
-    ensures { λ r. ⌜ now (finished .exit) ≡ addedCounts task (now (finished .entry)) (Ended (result f)) ⌝ }
+    requires { ⌜ (z .least ≤ 1376235000000) × (z .greatest ≤ 1376235000000) × (task < 32) × (getD (now finished) task 0 < 65535) ⌝ }
+    ensures { λ r. ⌜ Appended (now (out .entry)) (now (out .exit)) at (r .at) (callLine («timedOf» (timesOf w) (getD (now (finished .entry)) task 0) (task, reportOf (result f)))) ⌝ }
+    ensures { λ r. ⌜ sumsIn (r .totals) ≡ addCall (sumsIn z) («timedOf» (timesOf w) (getD (now (finished .entry)) task 0) (task, reportOf (result f))) ⌝ }
+    ensures { λ r. ⌜ now (finished .exit) ≡ set (now (finished .entry)) task (getD (now (finished .entry)) task 0 + 1) ⌝ }
     ensures { λ r. ⌜ r .at ≤ at + 31 ⌝ }
 {
     let t = task as usize;
@@ -64,20 +67,18 @@ fn enter(
     w: Ranges,
     finished: &mut [u32],
     z: BusTotals,
-    task: u32,
+    a: Action,
     outcome: Outcome,
 ) -> Entered
     requires { ⌜ (at + 90 ≤ length (now out)) × (length (now finished) ≡ 32) × (shortTimes (timesOf w) ≡ true) ⌝ }
-    requires { ⌜ (z .least ≤ 1376235000000) × (z .greatest ≤ 1376235000000) × EndsWithin task (now finished) (said outcome) ⌝ }
-    ensures { λ r. ⌜ Appended (now (out .entry)) (now (out .exit)) at (r .at) (addedText (timesOf w) (getD (now (finished .entry)) task 0) task (said outcome)) ⌝ }
-    ensures { λ r. ⌜ sumsIn (r .totals) ≡ addedSums (timesOf w) (getD (now (finished .entry)) task 0) task (sumsIn z) (said outcome) ⌝ }
-    ensures { λ r. ⌜ now (finished .exit) ≡ addedCounts task (now (finished .entry)) (said outcome) ⌝ }
+    requires { ⌜ (z .least ≤ 1376235000000) × (z .greatest ≤ 1376235000000) × EndsWithin (now finished) (actOf a) (eventOf untried (said outcome)) ⌝ }
+    ensures { λ r. ⌜ (let x = added (timesOf w) (now (finished .entry)) (sumsIn z) (actOf a) (eventOf untried (said outcome)) in Appended (now (out .entry)) (now (out .exit)) at (r .at) (x .text) × (sumsIn (r .totals) ≡ x .sums) × (now (finished .exit) ≡ x .counts)) ⌝ }
     ensures { λ r. ⌜ r .at ≤ at + 31 ⌝ }
 {
     match outcome {
         Outcome::Refused(_) => Entered { at, totals: z },
         Outcome::Acted => Entered { at, totals: z },
-        Outcome::Ended(f) => end_call(out, at, w, finished, z, task, f),
+        Outcome::Ended(f) => end_call(out, at, w, finished, z, actions::task_of(a), f),
     }
 }
 
@@ -130,7 +131,7 @@ pub fn play(
         );
         let outcome = n.outcome;
         last = n.last;
-        let e = enter(out, at, w, &mut finished, z, actions::task_of(a), outcome);
+        let e = enter(out, at, w, &mut finished, z, a, outcome);
         at = e.at;
         z = e.totals;
         i += 1;

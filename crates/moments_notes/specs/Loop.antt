@@ -2,13 +2,12 @@
 use mathlib.Core.Bool.{Bool, _&&_, _||_}
 use mathlib.Core.Option.{Option, none, some}
 use mathlib.Core.List.{List, []}
-use Prim.Native.Nat.{ℕ, zero, suc, _+_, _≤_}
+use Prim.Native.Nat.{ℕ, zero, suc, _≤_}
 use lib.Dec.{eqb}
 use Rattle.lines.specs.declared.Record.{Record}
 use Rattle.lines.specs.Record.{recordAt, opOf}
-use Rattle.cells.specs.Answers.{Said, Refused, Acted, Ended}
 use Rattle.cells.specs.Machine.{Pool, pool}
-use Rattle.history.specs.History.{Op, Response, Yes, Action, begin, step, noCalls}
+use Rattle.history.specs.History.{Op, Action, begin, step, Response, Yes, Event, refused, accepted, answered, noCalls}
 use Rattle.history.specs.Moments.{Spot, Mark, marks}
 use Rattle.figure_moments.specs.Moments.{Notes, noNotes, noting, names, ruled, stands}
 use Rattle.refinement.specs.Moments.{seesPool}
@@ -24,30 +23,22 @@ abbrev pub endingSpot : ℕ → Own → Record → Sight → Response → Spot
 endingSpot i o r x a = ruled (ownNotes i o) 0 (sightOf 0 r x []) a
 
 -- the words after an action that gave this
-abbrev pub endedWords : (Response → Spot) → Op → (task : ℕ) → Said → List ℕ → List ℕ
-endedWords f op t (Refused n) l = l
-endedWords f op t Acted l = l
-endedWords f op t (Ended r) l = insertWord (markWord (f (r .answer)) op t (r .answer)) l
+abbrev pub endedWords : (Response → Spot) → Op → (task : ℕ) → Event → List ℕ → List ℕ
+endedWords f op t (refused n) l = l
+endedWords f op t (accepted x) l = l
+endedWords f op t (answered x r) l = insertWord (markWord (f (r .answer)) op t (r .answer)) l
 
-abbrev pub endedCount : Said → ℕ → ℕ
-endedCount (Refused q) n = n
-endedCount Acted n = n
-endedCount (Ended r) n = n + 1
-
-abbrev pub EndFits : (Response → Spot) → Said → Type 0
-EndFits f (Refused n) = Unit {0}
-EndFits f Acted = Unit {0}
-EndFits f (Ended r) = f (r .answer) .moment ≤ 65535
+abbrev pub EndFits : (Response → Spot) → Event → Type 0
+EndFits f (refused n) = Unit {0}
+EndFits f (accepted x) = Unit {0}
+EndFits f (answered x r) = f (r .answer) .moment ≤ 65535
 
 -- the line of a step that is done, else 0
-abbrev pub lineIf : Said → ℕ → ℕ
-lineIf (Refused q) n = 0
-lineIf Acted n = n
-lineIf (Ended r) n = n
-
-abbrev pub notedLine : Action → Said → ℕ → ℕ
-notedLine (begin t op) o n = 0
-notedLine (step t) o n = lineIf o n
+abbrev pub notedLine : Action → Event → ℕ → ℕ
+notedLine (begin t op) e n = 0
+notedLine (step t) (refused q) n = 0
+notedLine (step t) (accepted x) n = n
+notedLine (step t) (answered x r) n = n
 
 -- it is noted for everybody who holds the block
 abbrev pub spreads : ℕ → Sight → Bool

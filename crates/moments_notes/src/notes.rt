@@ -14,9 +14,11 @@ ghost use lib.Dec.{eqb};
 ghost use lib.ListN.{getD, length};
 ghost use Rattle.lines.specs.Record.{idle, recordAt};
 ghost use Rattle.cells.specs.Answers.{said, actOf};
+ghost use Rattle.cells.specs.Events.{eventOf};
+ghost use Rattle.history.specs.History.{untried};
 ghost use Rattle.figure_moments.specs.Moments.{noted};
 ghost use Rattle.pool.specs.Words.{recordsOf};
-ghost use Rattle.moments_notes.specs.Loop.{lineIf, notedLine, spreads as «spreadsOf»};
+ghost use Rattle.moments_notes.specs.Loop.{notedLine, spreads as «spreadsOf»};
 ghost use Rattle.moments_notes.specs.Notes.{slot as «slotOf», sightIn, holdsWith, sightOf, notesOf, ownOf, Sized};
 
 // A word of the pool, 0 beyond it.
@@ -168,24 +170,18 @@ pub fn own_notes(
     }
 }
 
-fn line_if(outcome: Outcome, line: u32) -> u32
-    ensures { λ n. ⌜ n ≡ lineIf (said outcome) line ⌝ }
-{
-    match outcome {
-        Outcome::Refused(_) => 0,
-        Outcome::Acted => line,
-        Outcome::Ended(_) => line,
-    }
-}
-
 // The line of a step that is done, else 0.
 pub fn noted_line(a: Action, outcome: Outcome, line: u32) -> u32
-    ensures { λ n. ⌜ n ≡ notedLine (actOf a) (said outcome) line ⌝ }
+    ensures { λ n. ⌜ n ≡ notedLine (actOf a) (eventOf untried (said outcome)) line ⌝ }
 {
     match a {
         Action::Read(_, _) => 0,
         Action::Swap(_, _, _, _) => 0,
-        Action::Step(_) => line_if(outcome, line),
+        Action::Step(_) => match outcome {
+            Outcome::Refused(_) => 0,
+            Outcome::Acted => line,
+            Outcome::Ended(_) => line,
+        },
     }
 }
 

@@ -11,12 +11,12 @@ use borrow.Author.Tests.{eqb-true, lt-ltb}
 use Rattle.lines.specs.declared.Record.{Record}
 use Rattle.lines.specs.Record.{idle, isIdle, recordAt, opOf}
 use Rattle.questions.specs.declared.State.{State}
-use Rattle.cells.specs.Answers.{Said, Refused, Acted, Ended}
+use Rattle.cells.specs.Answers.{Said}
 use Rattle.cells.specs.Open.{After, leaving}
 use Rattle.cells.specs.Step.{current}
-use Rattle.cells.specs.Events.{eventOf}
+use Rattle.cells.specs.Events.{reportOf, eventOf}
 use Rattle.cells.specs.Machine.{Pool, does, triedBy, pool}
-use Rattle.history.specs.History.{cellOf, Action, begin, step, taskOf, Response, Value, Yes, No, Attempt, Call, Calls, noCalls, enter}
+use Rattle.history.specs.History.{cellOf, Action, begin, step, taskOf, Response, Value, Yes, No, Attempt, untried, Event, refused, accepted, answered, Call, Calls, noCalls, enter}
 use Rattle.history.specs.Moments.{Spot, Mark, marks, marked, markOf, markOfPending, pendingMarks}
 use Rattle.figure_moments.specs.Moments.{Notes, noNotes, noted, note, noting, names, ruled, stands}
 use Rattle.figure_cell.proofs.AsBegun.{cell-of}
@@ -66,7 +66,7 @@ module _ (s : State) (p : List ℕ) (records : length (s .records) ≡ 32) (task
   spot t a = endingSpot i (ownOf t loaded stored active inactive decided replaced) (rec t) (sees t) a
 
   -- what the code does at task t's place, where the action gave u
-  pub record Coded (t : ℕ) (a : Action) (u : Said) (words words′ : List ℕ) (o′ : Notes) : Type 0 where
+  pub record Coded (t : ℕ) (a : Action) (u : Event) (words words′ : List ℕ) (o′ : Notes) : Type 0 where
     pub list : List ℕ
     pub who : Who s p t (notedLine a u (rec t .line)) (sees t) list
     pub noted-here : o′ ≡ noted o t (sightOf (notedLine a u (rec t .line)) idle (sees t) list)
@@ -74,14 +74,14 @@ module _ (s : State) (p : List ℕ) (records : length (s .records) ≡ 32) (task
     pub fits-here : EndFits (spot t) u
 
   -- nothing spreads where no step is done
-  spread-line : (a : Action) (u : Said) (n : ℕ) (x : Sight) → spreads (notedLine a u n) x ≡ true → spreads n x ≡ true
+  spread-line : (a : Action) (u : Event) (n : ℕ) (x : Sight) → spreads (notedLine a u n) x ≡ true → spreads n x ≡ true
   spread-line (begin t op) u n x e = absurd (false≢true e)
-  spread-line (step t) (Refused q) n x e = absurd (false≢true e)
-  spread-line (step t) Acted n x e = e
-  spread-line (step t) (Ended f) n x e = e
+  spread-line (step t) (refused q) n x e = absurd (false≢true e)
+  spread-line (step t) (accepted y) n x e = e
+  spread-line (step t) (answered y r) n x e = e
 
   -- with what the code found for these
-  pub coded : (t : ℕ) (a : Action) (u : Said) (words words′ : List ℕ) (o′ : Notes) {r : Record} {x : Sight} {own : Own} {line : ℕ} (w : List ℕ) {b : Bool}
+  pub coded : (t : ℕ) (a : Action) (u : Event) (words words′ : List ℕ) (o′ : Notes) {r : Record} {x : Sight} {own : Own} {line : ℕ} (w : List ℕ) {b : Bool}
       → r ≡ rec t → x ≡ sightIn p r (current s (slot (r .cell) (s .cells))) → own ≡ ownOf t loaded stored active inactive decided replaced → line ≡ notedLine a u (r .line) → b ≡ spreads (r .line) x
       → (b ≡ true → (v : ℕ) → v < 32 → eqb (getD w v 0) 1 ≡ holdsWith (rec v) r) → length w ≡ 32
       → o′ ≡ noted o t (sightOf line idle x w) → words′ ≡ endedWords (endingSpot i own r x) (opOf r) t u words → EndFits (endingSpot i own r x) u
@@ -118,11 +118,8 @@ module _ (s : State) (p : List ℕ) (records : length (s .records) ≡ 32) (task
         ∙ same-noted s p t records w (subst (λ (k : ℕ). Who s p t (rec t .line) (sightIn p (rec t) (current s k)) w) in-cells h) o
 
   module _ (b : Calls) (l : List Mark) (begun : AllBegun (s .records) (b .pending)) (words words′ : List ℕ) (o′ : Notes) (listed : Listed words l) (x : Attempt) where
-    abbrev marked-by : Action → Said → List Mark
-    marked-by a u = marked (noting pool seesPool) (names pool seesPool) ((s, p), o) b a (eventOf x u)
-
-    abbrev Next : Action → Said → Type 0
-    Next a u = (o′ ≡ note pool seesPool o (s, p) a (eventOf x u)) × Listed words′ (marked-by a u ++ l)
+    abbrev Next : Action → Event → Type 0
+    Next a u = (o′ ≡ note pool seesPool o (s, p) a u) × Listed words′ (marked (noting pool seesPool) (names pool seesPool) ((s, p), o) b a u ++ l)
 
     same-words : words′ ≡ words → Listed words′ l
     same-words e = subst (λ (w : List ℕ). Listed w l) (sym e) listed
@@ -135,19 +132,19 @@ module _ (s : State) (p : List ℕ) (records : length (s .records) ≡ 32) (task
             → Listed words′ (markOf (noting pool seesPool) (names pool seesPool) (b .pending t) a (ruled o t (seesPool (s, p) t) a) ++ l)
         go (c, y, eo, et) = rw (y, e, ← (same-spot z a)) (one-more listed (spot t a) a t (rec t) c eo et h (omega (arith, z .below, tasks)) (z .acting .cell))
 
-    next : (a : Action) (y : After) (t : ℕ) → Did s p a y → t ≡ slot (taskOf a) (s .tasks) → Coded t a (y .outcome) words words′ o′ → Next a (y .outcome)
+    next : (a : Action) (y : After) (t : ℕ) → Did s p a y → t ≡ slot (taskOf a) (s .tasks) → Coded t a (eventOf untried (y .outcome)) words words′ o′ → Next a (eventOf x (y .outcome))
     next (begin u op) y t (refuses n) e c = (c .noted-here, same-words (c .words-here))
     next (step u) y t (refuses n) e c = (c .noted-here, same-words (c .words-here))
     next (begin u op) y t (begins q h g) e c = (c .noted-here, same-words (c .words-here))
     next (step u) y t (moves q z g f) e c =
-        let k = subst (λ (v : ℕ). Coded v (step u) Acted words words′ o′) (e ∙ in-tasks z) c in
+        let k = subst (λ (v : ℕ). Coded v (step u) (accepted untried) words words′ o′) (e ∙ in-tasks z) c in
         (notes-step z (k .who) (k .noted-here), same-words (k .words-here))
     next (step u) y t (ends f z g) e c =
-        let k = subst (λ (v : ℕ). Coded v (step u) (Ended f) words words′ o′) (e ∙ in-tasks z) c in
+        let k = subst (λ (v : ℕ). Coded v (step u) (answered untried (reportOf f)) words words′ o′) (e ∙ in-tasks z) c in
         (notes-step z (k .who) (k .noted-here), ended u z (f .answer) (k .words-here) (k .fits-here))
 
   pub marks-on : {n : ℕ} {whole : List Mark} {words words′ : List ℕ} {o′ : Notes} {rest : List Action} {s′ : State} {p′ : List ℕ} {u : Said} (a : Action) (t : ℕ)
-      → Marking n whole (s, p) o words (a ∷ rest) → leaving s′ p′ u ≡ does s p a → t ≡ slot (taskOf a) (s .tasks) → Coded t a u words words′ o′ → Marking n whole (s′, p′) o′ words′ rest
+      → Marking n whole (s, p) o words (a ∷ rest) → leaving s′ p′ u ≡ does s p a → t ≡ slot (taskOf a) (s .tasks) → Coded t a (eventOf untried u) words words′ o′ → Marking n whole (s′, p′) o′ words′ rest
   marks-on {n} {whole} {words} {words′} {o′} {rest} a t m e q c =
       subst (λ (y : After). Marking n whole (y .state, y .pool) o′ words′ rest) (sym e) here
     where
@@ -158,7 +155,7 @@ module _ (s : State) (p : List ℕ) (records : length (s .records) ≡ 32) (task
       x = triedBy s p a
 
       k : (o′ ≡ note pool seesPool o (s, p) a (eventOf x (y .outcome))) × Listed words′ (marked (noting pool seesPool) (names pool seesPool) ((s, p), o) (m .calls) a (eventOf x (y .outcome)) ++ m .found)
-      k = next (m .calls) (m .found) (m .begun) words words′ o′ (m .listed) x a y t (did s p a) q (subst (λ (v : After). Coded t a (v .outcome) words words′ o′) e c)
+      k = next (m .calls) (m .found) (m .begun) words words′ o′ (m .listed) x a y t (did s p a) q (subst (λ (v : After). Coded t a (eventOf untried (v .outcome)) words words′ o′) e c)
 
       here : Marking n whole (y .state, y .pool) o′ words′ rest
       here = record {

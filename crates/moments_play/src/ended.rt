@@ -12,8 +12,10 @@ ghost use lib.ListN.{length, take, drop};
 ghost use Rattle.lines.specs.Answers.{answerOf};
 ghost use Rattle.lines.specs.Record.{opOf};
 ghost use Rattle.cells.specs.Answers.{said};
+ghost use Rattle.cells.specs.Events.{eventOf};
+ghost use Rattle.history.specs.History.{untried};
 ghost use Rattle.moments_notes.specs.Words.{markWord, insertWord, SortedWords};
-ghost use Rattle.moments_notes.specs.Loop.{endingSpot, endedWords, endedCount, EndFits};
+ghost use Rattle.moments_notes.specs.Loop.{endingSpot, endedWords, EndFits};
 
 // The word of task t's call, which ends with that answer. The words behind are as they were.
 fn end_with(list: &mut [u32], n: usize, a: Answer, r: Record, x: Sight, o: Own, i: u16, t: u32)
@@ -40,9 +42,9 @@ pub fn end_call(
 ) -> usize
     requires { ⌜ (n < length (now list)) × SortedWords (take n (now list)) ⌝ }
     requires { ⌜ (t < 32) × (r .cell < 16) ⌝ }
-    ensures { λ m. ⌜ (m ≡ endedCount (said outcome) n) × (m ≤ n + 1) ⌝ }
-    ensures { λ m. ⌜ take m (now (list .exit)) ≡ endedWords (endingSpot i o r x) (opOf r) t (said outcome) (take n (now (list .entry))) ⌝ }
-    ensures { λ _. ⌜ EndFits (endingSpot i o r x) (said outcome) ⌝ }
+    ensures { λ m. ⌜ m ≤ n + 1 ⌝ }
+    ensures { λ m. ⌜ take m (now (list .exit)) ≡ endedWords (endingSpot i o r x) (opOf r) t (eventOf untried (said outcome)) (take n (now (list .entry))) ⌝ }
+    ensures { λ _. ⌜ EndFits (endingSpot i o r x) (eventOf untried (said outcome)) ⌝ }
     ensures { λ m. ⌜ drop m (now (list .exit)) ≡ drop m (now (list .entry)) ⌝ }
 {
     match outcome {

@@ -9,7 +9,8 @@ use Rattle.lines.specs.Record.{idle}
 use Rattle.pool.specs.Words.{recordsOf}
 use Rattle.questions.specs.declared.State.{State}
 use Rattle.cells.specs.Answers.{said, actOf}
-use Rattle.history.specs.History.{Action}
+use Rattle.cells.specs.Events.{eventOf}
+use Rattle.history.specs.History.{Action, untried}
 use Rattle.refinement.specs.Reached.{Reached}
 use Rattle.refinement.proofs.Reaching.{reached-fit, reached-arrays}
 use Rattle.session_reading.specs.Reading.{actAt}
@@ -108,10 +109,10 @@ loop-again c =
     let f = c .note .ensures in
     let m = subst (Marking a.tasks (allMarks a.tasks (a.first, a.pool.now) (map (actAt a.forms.now) a.kept.now)) (s, l.pool) (notesOf l.i l.loaded l.stored l.active l.inactive l.decided l.replaced) (take l.n l.list)) (action-then (actAt a.forms.now) a.kept.now l.i h ∙ ap (λ (y : Action). y ∷ drop (l.i + 1) (map (actAt a.forms.now) a.kept.now)) (sym (c .before .before .before .before .before .before .before .before .before .before .before .before .before .before .before .before .before .before .before .before .before .before .before .before .before .before .before .before .before .before .before .before .before .before .before .before .before .before .before .action-at .ensures))) (l .inv .0) in (
       marks-on s l.pool (records-length 32 l.records) few l.i l.loaded l.stored l.active l.inactive l.decided l.replaced x t m d (c .before .before .before .before .before .before .before .before .before .before .before .before .before .before .before .before .before .before .before .before .before .before .before .before .before .before .before .before .before .before .before .before .before .before .before .before .before .slot .ensures ∙ ap (λ (n : ℕ). slot n (s .tasks)) (c .before .before .before .before .before .before .before .before .before .before .before .before .before .before .before .before .before .before .before .before .before .before .before .before .before .before .before .before .before .before .before .before .before .before .before .before .before .before .task-of .ensures))
-          (coded s l.pool (records-length 32 l.records) few l.i l.loaded l.stored l.active l.inactive l.decided l.replaced t x (said (c .before .before .before .before .before .before .before .before .before .before .before .before .before .before .before .before .before .before .before .before .before .before .before .before .advance .result .outcome)) (take l.n l.list) _ _ (c .before .before .before .before .before .before .before .before .before .before .before .before .before .before .before .before .before .before .before .before .before .before .before .before .before .before .before .before .before .holders .result) (c .before .before .before .before .before .before .before .before .before .before .before .before .before .before .before .before .before .before .before .before .before .before .before .before .before .before .before .before .before .before .before .before .before .before .before .record-at .ensures) (c .before .before .before .before .before .before .before .before .before .before .before .before .before .before .before .before .before .before .before .before .before .before .before .before .before .before .before .before .before .before .before .before .see-cell .ensures) (c .before .before .before .before .before .before .before .before .before .before .before .before .before .own-notes .ensures) (c .before .before .noted-line .ensures) (c .before .before .before .before .before .before .before .before .before .before .before .before .before .before .before .before .before .before .before .before .before .before .before .before .before .before .before .before .before .before .spreads .ensures) (c .before .before .before .before .before .before .before .before .before .before .before .before .before .before .before .before .before .before .before .before .before .before .before .before .before .before .before .before .before .holders .ensures .0) (c .before .before .before .before .before .before .before .before .before .before .before .before .before .before .before .before .before .before .before .before .before .before .before .before .before .before .before .before .before .holders .ensures .1 .0) (f .1 .0) (e .1 .0) (e .1 .1 .0)),
+          (coded s l.pool (records-length 32 l.records) few l.i l.loaded l.stored l.active l.inactive l.decided l.replaced t x (eventOf untried (said (c .before .before .before .before .before .before .before .before .before .before .before .before .before .before .before .before .before .before .before .before .before .before .before .before .advance .result .outcome))) (take l.n l.list) _ _ (c .before .before .before .before .before .before .before .before .before .before .before .before .before .before .before .before .before .before .before .before .before .before .before .before .before .before .before .before .before .holders .result) (c .before .before .before .before .before .before .before .before .before .before .before .before .before .before .before .before .before .before .before .before .before .before .before .before .before .before .before .before .before .before .before .before .before .before .before .record-at .ensures) (c .before .before .before .before .before .before .before .before .before .before .before .before .before .before .before .before .before .before .before .before .before .before .before .before .before .before .before .before .before .before .before .before .see-cell .ensures) (c .before .before .before .before .before .before .before .before .before .before .before .before .before .own-notes .ensures) (c .before .before .noted-line .ensures) (c .before .before .before .before .before .before .before .before .before .before .before .before .before .before .before .before .before .before .before .before .before .before .before .before .before .before .before .before .before .before .spreads .ensures) (c .before .before .before .before .before .before .before .before .before .before .before .before .before .before .before .before .before .before .before .before .before .before .before .before .before .before .before .before .before .holders .ensures .0) (c .before .before .before .before .before .before .before .before .before .before .before .before .before .before .before .before .before .before .before .before .before .before .before .before .before .before .before .before .before .holders .ensures .1 .0) (f .1 .0) (e .1 .0) (e .1 .1 .0)),
       f .0,
       omega (arith, h),
-      omega (arith, l .inv .3, e .0 .1),
+      omega (arith, l .inv .3, e .0),
       omega (arith, l .inv .4, c .before .before .before .before .before .before .before .before .before .before .before .end-call .kept),
       omega (arith, l .inv .5, c .before .before .before .before .before .before .before .before .before .before .before .before .before .before .before .before .before .before .before .before .before .before .before .before .advance .kept),
       reached-then z x d,

@@ -28,10 +28,10 @@ returns c =
     let e = c .before .before .before .before .before .before .timed .ensures in
     let k = call-known (timesOf (a .w)) (c .before .before .before .before .before .before .before .before .before .before .pre .0 .2) (getD a.finished.now a.task 0) (a.task, reportOf (result (a .f))) e in
     let p = c .before .before .before .put-call .ensures in
-    let ends = c .before .before .before .before .before .before .before .before .before .before .pre .1 .2 in
+    let ends = c .before .before .before .before .before .before .before .before .before .before .pre .1 in
     let task = ap (λ (x : Timed). x .task) e in
     let number = ap (λ (x : Timed). x .earlier) e in
-    (text-as (ap callLine e) (p .0), (c .add-call .ensures ∙ ap (addCall (sumsIn (a .z))) e, (search needs, p .1 (omega (arith, task, ends .0), omega (arith, number, ends .1), k .0, k .1))))
+    (text-as (ap callLine e) (p .0), (c .add-call .ensures ∙ ap (addCall (sumsIn (a .z))) e, (search needs, p .1 (omega (arith, task, ends .2), omega (arith, number, ends .3), k .0, k .1))))
 
 pub end-call-spec : {M : Type 1} → statement M
 end-call-spec =

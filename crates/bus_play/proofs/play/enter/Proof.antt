@@ -6,16 +6,16 @@ use Rattle.bus_play.proofs.play.enter.Statement.{statement}
 use Rattle.bus_play.proofs.play.enter.Tie as tie
 
 end-call-requires : tie.Need-end-call-requires
-end-call-requires c κs = let e = rw (c .before .before .before .outcome .given .1) at (c .before .before .before .before .before .before .before .pre .1 .2) in (search needs, (c .before .before .before .before .before .before .before .pre .1 .0, c .before .before .before .before .before .before .before .pre .1 .1, e))
+end-call-requires c κs = let p = c .before .before .before .before .before .before .before .before .pre .1 in let e = rw (c .before .before .before .before .outcome .given .1) at (p .2) in (search needs, rw (c .task-of .ensures) (p .0, p .1, e .0, e .1))
 
 returns : tie.Need-returns
-returns c = rw (c .enum-told .given .1) (nothing _ _, (refl, (refl, omega arith)))
+returns c = rw (c .enum-told .given .1) ((nothing _ _, refl, refl), omega arith)
 
 returns-2 : tie.Need-returns-2
-returns-2 c = rw (c .enum-told2 .given .1) (nothing _ _, (refl, (refl, omega arith)))
+returns-2 c = rw (c .enum-told2 .given .1) ((nothing _ _, refl, refl), omega arith)
 
 returns-3 : tie.Need-returns-3
-returns-3 c = rw (c .before .before .before .before .before .before .before .before .outcome .given .1) (c .before .before .before .before .end-call .ensures)
+returns-3 c = let e = rw (c .before .before .before .before .before .task-of .ensures) at (c .before .before .before .before .end-call .ensures) in rw (c .before .before .before .before .before .before .before .before .before .outcome .given .1) ((e .0, e .1 .0, e .1 .1 .0), e .1 .1 .1)
 
 pub enter-spec : {M : Type 1} → statement M
 enter-spec =
@@ -24,6 +24,7 @@ enter-spec =
     (λ c. search needs)
     (λ c. search needs)
     (λ c. search needs)
+    (λ c κs. search needs)
     end-call-requires
     returns
     returns-2

@@ -20,16 +20,16 @@ add-result : tie.Need-add-result
 add-result c = search needs
 
 returns : tie.Need-returns
-returns c = rw (c .enum-told .given .1) ((refl, omega arith), (refl, (tt, refl)))
+returns c = rw (c .enum-told .given .1) (omega arith, (refl, (tt, refl)))
 
 returns-2 : tie.Need-returns-2
-returns-2 c = rw (c .enum-told2 .given .1) ((refl, omega arith), (refl, (tt, refl)))
+returns-2 c = rw (c .enum-told2 .given .1) (omega arith, (refl, (tt, refl)))
 
 same-length : tie.Need-same-length
 same-length c = search needs
 
 returns-3 : tie.Need-returns-3
-returns-3 c = rw (c .before .before .before .before .before .outcome .given .1) ((refl, omega arith), c .before .before .end-with .ensures)
+returns-3 c = rw (c .before .before .before .before .before .outcome .given .1) (omega arith, c .before .before .end-with .ensures)
 
 pub end-call-spec : {M : Type 1} → statement M
 end-call-spec =
