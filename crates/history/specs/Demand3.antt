@@ -51,8 +51,8 @@ NoHardware Clear b = (c : Call) (n : ℕ) → CallOf b c n → Clear (c .start .
 abbrev pub clearAfter : {S : Type 0} → (S → Action → S × Event) → S → (S → ℕ → Type 0) → List Action → ℕ → Type 0
 clearAfter machine start clear l k = clear (run machine start l) k
 
--- DEMAND 3. It speaks of histories alone. A machine that refuses every begin meets it, and so does one that acts at once and then idles:
--- demand 1 ties refusals to the questions, and demand 2 each step to a line. What an event says of a hardware CAS is the machine's own word: in
+-- DEMAND 3. It speaks of histories alone. A machine that refuses or accepts begins as it likes can meet it, whatever tasks and values they
+-- name, and so can one that acts at once and then idles: demand 1 ties refusals to the questions, and demand 2 each step to a line. What an event says of a hardware CAS is the machine's own word: in
 -- `pool` and `figure` it is read off the access of the step's line and memory's answer.
 
 -- of the calls alone
