@@ -1,4 +1,4 @@
-"""Cases of calls: the table's paths, the shop's cases, halts, the pool, meetings, rates, contention."""
+"""Cases of calls: the table's paths, the paper's cases, halts, the pool, meetings, rates, contention."""
 
 import cells
 import draw
@@ -138,7 +138,7 @@ def path_cases(cases):
     assert taken == set(cells.PATHS) - {cells.UNREACHED}
 
 
-# ------------------------------------------------------ cases from the shop
+# ----------------------------------------------------- cases from the paper
 
 P_START = ["(open 2 1 5 (5))", "(swap 0 0 5 7)", "(swap 1 0 5 9)",
            "(again 2 (step 0))", "(again 7 (step 1))"]
@@ -151,23 +151,23 @@ P10 = P_START + ["(again 5 (step 0))", "(again 14 (step 1))",
                  "(again 6 (step 0))"]
 
 
-def shop_cases(cases):
-    cases.accepted("shop_p1", P1)
-    cases.accepted("shop_p2_n_32", ["(open 32 1 65 (5))"])
-    cases.refused("shop_p2_n_33", ["(open 33 1 67 (5))"], 1)
-    cases.accepted("shop_p3_b_4", ["(open 2 1 4 (5))"])
-    cases.refused("shop_p3_b_3", ["(open 2 1 3 (5))"], 3)
-    cases.accepted("shop_p4_most", ["(open 2 1 5 (4294967294))"])
-    cases.refused("shop_p4_none", ["(open 2 1 5 (4294967295))"], 5)
-    cases.accepted("shop_p5", ["(open 2 1 5 (5))", "(swap 0 0 5 5)",
-                               "(again 3 (step 0))"])
-    cases.accepted("shop_p6", ["(open 2 1 5 (5))", "(swap 0 0 4 6)",
-                               "(again 8 (step 0))"])
-    cases.refused("shop_p7", ["(open 2 1 5 (5))", "(step 0)"], 11)
-    cases.refused("shop_p8", ["(open 2 1 5 (5))", "(read 2 1)",
-                              "(swap 2 1 5 7)"], 7, 7)
-    cases.accepted("shop_p9", P9)
-    cases.accepted("shop_p10", P10)
+def paper_cases(cases):
+    cases.accepted("p1", P1)
+    cases.accepted("p2_n_32", ["(open 32 1 65 (5))"])
+    cases.refused("p2_n_33", ["(open 33 1 67 (5))"], 1)
+    cases.accepted("p3_b_4", ["(open 2 1 4 (5))"])
+    cases.refused("p3_b_3", ["(open 2 1 3 (5))"], 3)
+    cases.accepted("p4_most", ["(open 2 1 5 (4294967294))"])
+    cases.refused("p4_none", ["(open 2 1 5 (4294967295))"], 5)
+    cases.accepted("p5", ["(open 2 1 5 (5))", "(swap 0 0 5 5)",
+                          "(again 3 (step 0))"])
+    cases.accepted("p6", ["(open 2 1 5 (5))", "(swap 0 0 4 6)",
+                          "(again 8 (step 0))"])
+    cases.refused("p7", ["(open 2 1 5 (5))", "(step 0)"], 11)
+    cases.refused("p8", ["(open 2 1 5 (5))", "(read 2 1)",
+                         "(swap 2 1 5 7)"], 7, 7)
+    cases.accepted("p9", P9)
+    cases.accepted("p10", P10)
 
 
 # ------------------------------------------------------------- halted tasks

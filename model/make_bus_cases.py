@@ -129,7 +129,7 @@ def seen_in(trace, times, data):
 
 # ---------------------------------------------------------------- the rows
 
-def shop_cases(cases):
+def paper_cases(cases):
     for name, lines in (("p1", P1), ("p9", P9), ("p10", P10),
                         ("p5", ["(open 2 1 5 (5))", "(swap 0 0 5 5)",
                                 "(again 3 (step 0))"]),
@@ -138,7 +138,7 @@ def shop_cases(cases):
         for times_name, times in (("counts", COUNTS), ("range", RANGE),
                                   ("one_point", ONE_POINT), ("wide", WIDE),
                                   ("all_most", ALL_MOST), ("zero", (0,) * 6)):
-            cases.timed("shop_%s_%s" % (name, times_name), times, lines)
+            cases.timed("%s_%s" % (name, times_name), times, lines)
 
 
 def row_cases(cases):
@@ -241,9 +241,9 @@ def list_cases(cases):
     cases.timed("left_p10", COUNTS, lines)
     cases.timed("left_p10_before", COUNTS, P10[:-2] + ["(again 3 (step 0))"])
     between = ["(step 2)", "(read 0 0)", "(read 9 0)", "(swap 1 0 1 4294967295)"]
-    for name, shop in (("p1", P1), ("p9", P9), ("p10", P10)):
-        cases.bus("refused_between_%s" % name, COUNTS, shop[:1] + [
-            more for line in shop[1:] for more in (line, *between)])
+    for name, case in (("p1", P1), ("p9", P9), ("p10", P10)):
+        cases.bus("refused_between_%s" % name, COUNTS, case[:1] + [
+            more for line in case[1:] for more in (line, *between)])
     cases.timed("again", RANGE, [
         "(open 2 1 5 (5))", "(again 12 (read 0 0) (again 3 (step 0))"
         " (swap 1 0 5 5) (again 3 (step 1)))"])
@@ -347,7 +347,7 @@ def drawn_cases(cases):
 
 def make():
     cases = Cases()
-    shop_cases(cases)
+    paper_cases(cases)
     row_cases(cases)
     rounding_cases(cases)
     longest_cases(cases)

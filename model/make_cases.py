@@ -16,7 +16,7 @@ import draw
 import session
 from cases_attempts import attempt_cases
 from cases_calls import (contention_cases, halt_cases, meeting_cases,
-                         path_cases, pool_cases, rate_cases, shop_cases)
+                         paper_cases, path_cases, pool_cases, rate_cases)
 from cases_fill import fill_cases
 from cases_files import again_cases, bracket_cases, form_cases
 from cases_refusals import (action_refusals, file_refusals, open_edges,
@@ -59,7 +59,7 @@ class Cases:
 
 def make():
     cases = Cases()
-    shop_cases(cases)
+    paper_cases(cases)
     path_cases(cases)
     open_refusals(cases)
     open_edges(cases)

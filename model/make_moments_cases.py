@@ -11,9 +11,9 @@ import cells
 import make_cases
 import moments
 from cases_moments import (again_cases, drawn_cases, early_cases, halt_cases,
-                           lives_cases, long_cases, observer_cases, path_cases,
-                           refusal_cases, shared_cases, shop_cases,
-                           store_cases, unfinished_cases)
+                           lives_cases, long_cases, observer_cases,
+                           paper_cases, path_cases, refusal_cases,
+                           shared_cases, store_cases, unfinished_cases)
 
 # The kept sessions stay below this many bytes, and so does what one prints.
 MOST_DATA = 400000
@@ -139,7 +139,7 @@ def seen_in(trace):
 
 def make():
     cases = Cases()
-    shop_cases(cases)
+    paper_cases(cases)
     path_cases(cases)
     observer_cases(cases)
     store_cases(cases)

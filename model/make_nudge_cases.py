@@ -134,13 +134,13 @@ def seen_in(trace, n, opening):
 
 # ------------------------------------------------------- written by hand
 
-def shop_cases(cases):
+def paper_cases(cases):
     for name, lines in (("p1", P1), ("p9", P9), ("p10", P10)):
-        cases.all_named("shop_%s" % name, lines)
-    cases.named("shop_p5", ["(open 2 1 5 (5))", "(swap 0 0 5 5)",
-                            "(again 3 (step 0))"], (0, 0))
-    cases.named("shop_p6", ["(open 2 1 5 (5))", "(swap 0 0 4 6)",
-                            "(again 8 (step 0))"], (0, 0))
+        cases.all_named(name, lines)
+    cases.named("p5", ["(open 2 1 5 (5))", "(swap 0 0 5 5)",
+                       "(again 3 (step 0))"], (0, 0))
+    cases.named("p6", ["(open 2 1 5 (5))", "(swap 0 0 4 6)",
+                       "(again 8 (step 0))"], (0, 0))
 
 
 def race_cases(cases):
@@ -455,7 +455,7 @@ def drawn_cases(cases):
 
 def make():
     cases = Cases()
-    shop_cases(cases)
+    paper_cases(cases)
     race_cases(cases)
     last_cases(cases)
     grid_cases(cases)

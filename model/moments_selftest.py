@@ -51,7 +51,7 @@ def printed(lines):
     return moments.run(draw.text(lines)).decode().split("\n")[:-1]
 
 
-def cases_from_the_shop():
+def cases_from_the_paper():
     # swap at 0, its lines 15 to 21 at 1 to 7, line 23 at 8; read at 11, lines
     # 10 to 12 at 12 to 14
     check("P1", printed(P1), ["(at 8 itself 0 swap 0 C4)",
@@ -359,7 +359,7 @@ def wrong_readings_are_told(sessions, texts):
 
 def main():
     count = int(sys.argv[1]) if len(sys.argv) > 1 else 400
-    cases_from_the_shop()
+    cases_from_the_paper()
     sessions = list(drawn_sessions(count))
     listed = sum(judged("drawn session %d" % number, data)
                  for number, data in enumerate(sessions))

@@ -36,9 +36,9 @@ def printed(text):
     return session.run(data, ask_fit=True).decode().split("\n")[:-1]
 
 
-# ------------------------------------------------------ cases from the shop
+# ----------------------------------------------------- cases from the paper
 
-def cases_from_the_shop():
+def cases_from_the_paper():
     check("P1", printed("""(open 2 1 5 (5))
                            (swap 0 0 5 7)
                            (again 10 (step 0))
@@ -788,7 +788,7 @@ def tellings_are_judged():
 
 
 def main():
-    cases_from_the_shop()
+    cases_from_the_paper()
     rates_two_ways()
     session_file_questions()
     question_13_two_ways(3000)

@@ -1,7 +1,7 @@
 -- The machine: from a state of which everything holds, every move gives an event that it may give, and everything holds again.
 use mathlib.Core.Path.{_≡_, refl, sym, ap, subst, _∙_, fun-ext}
 use mathlib.Core.Logic.{_≢_, _⊎_, inl, inr}
-use mathlib.Core.Bool.{Bool, true, false, not, _||_}
+use mathlib.Core.Bool.{Bool, true, false, not, or-true}
 use mathlib.Core.Option.{Option, none, some}
 use mathlib.Core.List.{List}
 use Prim.Native.Nat.{ℕ, _≤_, _<_}
@@ -9,8 +9,7 @@ use native.Mathlib.Omega.{arith}
 use lib.Dec.{eqb, T}
 use lib.ListN.{length, getD, set, length-set}
 use lib.Seq.{getD-set-same, getD-set-other}
-use borrow.Author.Tests.{eqb-true, ltb-true, lt-ltb, le-leb}
-use Rattle.lines.specs.Basics.{ands}
+use borrow.Author.Tests.{eqb-true, not-true, ltb-true, lt-ltb, le-leb}
 use Rattle.lines.specs.Record.{noValue}
 use Rattle.questions.specs.Questions.{Question, refusal, tasksOk, cellsOk}
 use Rattle.questions.proofs.Tests.{yes-to, all-from, within-true}
@@ -21,7 +20,7 @@ use Rattle.consensus.specs.declared.OnceCell.{OnceCell}
 use Rattle.consensus.specs.declared.Offer.{Offer}
 use Rattle.consensus.specs.declared.OnceState.{OnceState}
 use Rattle.consensus.specs.Figure.{stageOf, GoesOn, idleOffer, Leaves, withStep, leaves}
-use Rattle.consensus.specs.Questions.{offerAt, freshCell, onceAt, hasOffered, isIdleOffer, isStep, offerTests, offerFit, offersFit, onceFit, offerQuestions, turnQuestions}
+use Rattle.consensus.specs.Questions.{offerAt, freshCell, onceAt, hasOffered, isIdleOffer, isStep, offerFit, offersFit, onceFit, offerQuestions, turnQuestions}
 use Rattle.consensus.specs.Entries.{OnceAfter, onceAfter, orRefused, replaced, offerNoted, firstOffer, offerBegun, storedBack, onceStepped}
 use Rattle.consensus.specs.History.{Move, offer, step, MoveEvent, admitted, offerEvent, stepEvent, onceMachine, OnceCall, OnceCalls, onceTallied, tally}
 use Rattle.consensus.specs.Consensus.{May}
@@ -46,10 +45,6 @@ T-true : (b : Bool) → T b → b ≡ true
 T-true true x = refl
 T-true false x = absurd x
 
-not-true : (x : Bool) → not x ≡ true → x ≡ false
-not-true true e = sym e
-not-true false e = refl
-
 is-not : (n : ℕ) → n ≢ I.none → not (eqb n noValue) ≡ true
 unfolding I.none
 is-not n h = go (eqb n noValue) refl
@@ -67,12 +62,7 @@ module _ (s : OnceState) (b : OnceCalls) (S : Stands s b) where
       let is-busy : T (busy (stageOf r)) = way-busy (stageOf r) (c .done) (P .way) in
       let at : stageOf (on (offerAt s) (r .cell) t) ≡ stageOf r = ap stageOf (on-in (λ (r : Offer). r .cell) idleOffer (offerAt s) (r .cell) t refl) in
       let some-value : r .value ≢ I.none = subst (λ q. q .value ≢ I.none) (on-in (λ (r : Offer). r .cell) idleOffer (offerAt s) (r .cell) t refl) (S .sound .each-cell (r .cell) .inv .tasks t .values .some-value (rw at is-busy)) in
-      or-right (isIdleOffer r) (ands (offerTests r (s .cells)))
-      (rw (lt-ltb (r .cell) (s .cells) (P .low-cell), T-true (isStep (stageOf r)) (lies-in busy isStep tt (stageOf r) is-busy), is-not (r .value) some-value, le-leb (r .steps) 9 (omega (arith, P .all-steps, way-short (stageOf r) (c .done) (P .way)))) refl)
-    where
-      or-right : (x y : Bool) → y ≡ true → (x || y) ≡ true
-      or-right true y e = refl
-      or-right false y e = e
+      rw (lt-ltb (r .cell) (s .cells) (P .low-cell), T-true (isStep (stageOf r)) (lies-in busy isStep tt (stageOf r) is-busy), is-not (r .value) some-value, le-leb (r .steps) 9 (omega (arith, P .all-steps, way-short (stageOf r) (c .done) (P .way)))) (or-true (isIdleOffer r))
 
   pub is-fit : onceFit s ≡ true
   unfolding onceFit offersFit

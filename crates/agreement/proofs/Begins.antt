@@ -10,7 +10,7 @@ use lib.ListN.{length-set}
 use lib.Seq.{getD-set-same, getD-set-other}
 use borrow.Author.Tests.{eqb-true}
 use Rattle.history.specs.Basics.{upd, _∈_}
-use Rattle.history.proofs.Basics.{either, upd-at, upd-off}
+use Rattle.history.proofs.Basics.{either, upd-at, upd-off, no-eq, no-T}
 use Rattle.history.proofs.OnCell.{on-changed, on-elsewhere}
 use Rattle.consensus.specs.declared.OnceCell.{OnceCell}
 use Rattle.consensus.specs.declared.Offer.{Offer}
@@ -20,7 +20,7 @@ use Rattle.consensus.specs.Entries.{firstOffer, offerNoted}
 use Rattle.consensus.specs.History.{offer, admitted, OnceId, OnceCall, OnceCalls, idOf, tally}
 use Rattle.consensus.proofs.Invariant as I
 use Rattle.consensus.proofs.Invariant.{Inv, finish}
-use Rattle.consensus.proofs.Keeping.{no-eq, no-T, no-winner}
+use Rattle.consensus.proofs.Keeping.{no-winner}
 use Rattle.consensus.proofs.Lone.{Company, nobody, first, settled, crowded, joined, company-begin}
 use Rattle.agreement.proofs.Sound.{on, OfferedOn, CallsOn, CellSound, Pends, Doing, Sound, grow, begins-elsewhere}
 

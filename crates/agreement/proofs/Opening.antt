@@ -3,11 +3,10 @@ use mathlib.Core.Path.{_≡_, refl, ap}
 use mathlib.Core.Bool.{false}
 use mathlib.Core.Option as Maybe
 use mathlib.Core.List.{[]}
-use Prim.Native.Nat.{ℕ, zero, suc}
-use lib.ListN.{getD, replicate}
+use Prim.Native.Nat.{ℕ}
 use Rattle.lines.specs.Record.{noValue}
 use Rattle.history.proofs.OnCell.{on-idle}
-use Rattle.history.proofs.Basics.{clash}
+use Rattle.history.proofs.Basics.{no-eq, clash, replicate-at}
 use Rattle.consensus.specs.declared.Offer.{Offer}
 use Rattle.consensus.specs.Figure.{nowhere, stageOf, idleOffer}
 use Rattle.consensus.specs.Questions.{offerAt, freshCell, onceAt}
@@ -15,15 +14,9 @@ use Rattle.consensus.specs.Entries.{onceStart}
 use Rattle.consensus.specs.History.{noOffers}
 use Rattle.consensus.proofs.Invariant as I
 use Rattle.consensus.proofs.Invariant.{Task}
-use Rattle.consensus.proofs.Keeping.{no-eq, no-winner}
+use Rattle.consensus.proofs.Keeping.{no-winner}
 use Rattle.consensus.proofs.Lone.{nobody}
 use Rattle.agreement.proofs.Sound.{on, OfferedOn, CellSound, Sound}
-
-all-alike : {A : Type 0} (a : A) (n k : ℕ) → getD (replicate n a) k a ≡ a
-all-alike a zero zero = refl
-all-alike a zero (suc k) = refl
-all-alike a (suc n) zero = refl
-all-alike a (suc n) (suc k) = all-alike a n k
 
 fresh-is : noValue ≡ I.none
 unfolding I.none
@@ -54,8 +47,8 @@ module _ (task : ℕ → Offer) (idle : (u : ℕ) → stageOf (task u) ≡ nowhe
 
 pub opening-sound : (n v : ℕ) → Sound n v (onceAt (onceStart n v)) (offerAt (onceStart n v)) noOffers
 opening-sound n v = record {
-  each-cell = λ k. rw (all-alike freshCell 16 k) (fresh-cell (on (offerAt (onceStart n v)) k) (λ u. ap stageOf (on-idle (λ (r : Offer). r .cell) idleOffer (offerAt (onceStart n v)) k u (all-alike idleOffer 32 u))) k);
-  each-task = λ t. all-alike idleOffer 32 t;
+  each-cell = λ k. rw (replicate-at freshCell 16 k) (fresh-cell (on (offerAt (onceStart n v)) k) (λ u. ap stageOf (on-idle (λ (r : Offer). r .cell) idleOffer (offerAt (onceStart n v)) k u (replicate-at idleOffer 32 u))) k);
+  each-task = λ t. replicate-at idleOffer 32 t;
   each-end = λ f x. absurd x;
   begun-before = λ i x. absurd x;
   one-offer = λ i j x. absurd x;

@@ -10,7 +10,7 @@ use native.Mathlib.Omega.{arith}
 use native.Mathlib.Decide.{decLe}
 use lib.Dec.{eqb, leb, ltb}
 use lib.ListN.{getD, length}
-use borrow.Author.Tests.{eqb-true, eqb-false, eq-eqb, ne-eqb, ltb-true, le-leb, lt-ltb}
+use borrow.Author.Tests.{eqb-true, eqb-false, not-true, eq-eqb, ne-eqb, ltb-true, le-leb, lt-ltb}
 use Rattle.lines.specs.declared.Record.{Record}
 use Rattle.questions.specs.declared.State.{State}
 use Rattle.lines.specs.Basics.{sumFrom, anyFrom}
@@ -150,10 +150,6 @@ module _ (s : State) (x : ℕ) (l : x < s .blocks) (e : used s x ≡ false) wher
       go (yes m) = inl (m, omega arith)
       go (no m) = inr (omega arith, omega arith)
 
-unless-not : (x : Bool) → not x ≡ true → x ≡ false
-unless-not true h = absurd (false≢true h)
-unless-not false h = refl
-
 -- by a task, of a block that no cell names
 record-claims : (s : State) (r : Record) (b : ℕ) → isCurrent s b ≡ false
     → eqb (holderOf s r b + takerOf r b) 0 ≡ not (usesBlock r b)
@@ -190,7 +186,7 @@ none-claims s b =
 free : (s : State) (t : ℕ) → Spare s → s .cells + 2 * s .tasks ≤ s .blocks + 1 → t < s .tasks → recordAt (s .records) t .line ≡ 4 → (b : ℕ) × (b < s .blocks) × (used s b ≡ false)
 free s t (w, l, e) enough own g =
     let z = gap (claims s) 0 (s .blocks) (omega (arith, few-claims s (s .blocks) w t l e own g)) in
-    (z .0, omega (arith, z .1), unless-not (used s (z .0)) (sym (none-claims s (z .0)) ∙ eq-eqb _ _ (z .2)))
+    (z .0, omega (arith, z .1), not-true (used s (z .0)) (sym (none-claims s (z .0)) ∙ eq-eqb _ _ (z .2)))
 
 again : (s : State) (o q : Option ℕ) → o ≡ q → Found s q → Found s o
 again s o q e h = rw e h

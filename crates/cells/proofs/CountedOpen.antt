@@ -16,6 +16,7 @@ use Rattle.lines.specs.Record.{idle, recordAt, firstRead, firstSwap}
 use Rattle.questions.specs.Questions.{refusal, answers, recordUses, uses, countsTrue, openQuestions, fit, beginQuestions, swapQuestions}
 use Rattle.blocks.specs.Blocks.{unused}
 use Rattle.history.specs.History.{read, swap, Action, begin, step}
+use Rattle.history.proofs.Basics.{replicate-at}
 use Rattle.cells.specs.Answers.{Acted, acts}
 use Rattle.cells.specs.Open.{After, leaving, unless, openState, openPool, opened}
 use Rattle.cells.specs.Begin.{started, readBegun, swapBegun}
@@ -28,18 +29,13 @@ use Rattle.cells.proofs.Recount.{length-recounted}
 use Rattle.cells.proofs.Counted.{Arrays}
 
 -- ones, then zeros
-zeros : (m b : ℕ) → _≡_ {A = ℕ} (getD (replicate m 0) b 0) 0
-zeros zero b = refl
-zeros (suc m) zero = refl
-zeros (suc m) (suc b) = zeros m b
-
 ones : (v m b : ℕ) → b < v → _≡_ {A = ℕ} (getD (replicate v 1 ++ replicate m 0) b 0) 1
 ones zero m b h = absurd (omega arith)
 ones (suc v) m zero h = refl
 ones (suc v) m (suc b) h = ones v m b (omega arith)
 
 past : (v m b : ℕ) → v ≤ b → _≡_ {A = ℕ} (getD (replicate v 1 ++ replicate m 0) b 0) 0
-past zero m b h = zeros m b
+past zero m b h = replicate-at 0 m b
 past (suc v) m zero h = absurd (omega arith)
 past (suc v) m (suc b) h = past v m b (omega arith)
 

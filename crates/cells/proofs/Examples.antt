@@ -13,7 +13,7 @@ use Rattle.lines.specs.declared.Answer.{Answer}
 use Rattle.lines.specs.declared.Answer.the-variants as code
 use Rattle.questions.specs.declared.State.{State}
 use Rattle.lines.specs.Record.{idle, recordAt, firstRead, firstSwap}
-use Rattle.history.specs.History.{Op, read, swap, Action, begin, step, Kind, aRead, aSwap, Response, Value, Yes, No, Report, Attempt, success, failure, untried, Event, refused, accepted, answered, history}
+use Rattle.history.specs.History.{read, swap, Action, begin, step, Kind, aRead, aSwap, Response, Value, Yes, No, Report, Attempt, success, failure, untried, Event, refused, accepted, answered, history}
 use Rattle.cells.specs.declared.Outcome.the-variants as outcome
 use Rattle.cells.specs.Answers.{Refused, said}
 use Rattle.cells.specs.Events.{eventOf}
@@ -105,13 +105,10 @@ finds-none = (refl, refl, refl)
 
 -- ONE BLOCK FEWER STILL
 
-abbrev firstOf : Op → Record
-firstOf (read k) = firstRead k
-firstOf (swap k e n) = firstSwap k e n
-
 -- what an action does, and no question is asked
 abbrev unasked : Pool → Action → Pool
-unasked (s, p) (begin t op) = let r = started s p t (firstOf op) in (r .state, r .pool)
+unasked (s, p) (begin t (read k)) = let r = started s p t (firstRead k) in (r .state, r .pool)
+unasked (s, p) (begin t (swap k e n)) = let r = started s p t (firstSwap k e n) in (r .state, r .pool)
 unasked (s, p) (step t) = let r = ran s p t (recordAt (s .records) t) in (r .state, r .pool)
 
 abbrev runs : Pool → List Action → Pool

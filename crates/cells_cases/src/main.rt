@@ -44,7 +44,8 @@ struct Numbers {
     lost: u32,
 }
 
-fn unfinished(number: u32) -> Numbers {
+// Of an outcome without a finished call.
+fn number_alone(number: u32) -> Numbers {
     Numbers {
         number,
         yes: 0,
@@ -55,7 +56,7 @@ fn unfinished(number: u32) -> Numbers {
 }
 
 fn finished(f: Finished) -> Numbers {
-    let mut d = unfinished(200);
+    let mut d = number_alone(200);
     d.steps = f.steps;
     d.won = f.won;
     d.lost = f.lost;
@@ -72,8 +73,8 @@ fn finished(f: Finished) -> Numbers {
 
 fn numbers_of(o: Outcome) -> Numbers {
     match o {
-        Outcome::Refused(n) => unfinished(n),
-        Outcome::Acted => unfinished(100),
+        Outcome::Refused(n) => number_alone(n),
+        Outcome::Acted => number_alone(100),
         Outcome::Ended(f) => finished(f),
     }
 }

@@ -11,7 +11,7 @@ use borrow.Author.Tests.{eqb-true, eqb-false}
 use Rattle.lines.specs.Record.{noValue}
 use Rattle.history.specs.Basics.{upd}
 use Rattle.history.proofs.ListTests.{by-test}
-use Rattle.history.proofs.Basics.{clash, some-inj}
+use Rattle.history.proofs.Basics.{no-eq, no-T, clash, some-inj}
 use Rattle.consensus.specs.declared.OnceCell.{OnceCell}
 use Rattle.consensus.specs.declared.Offer.{Offer}
 use Rattle.consensus.specs.Figure.{Stage, writeX, readY, writeY, readX, storeV, readC, storeD, setC, testV, loadV, lookD, casD, readD, nowhere, stageAt, stageOf, Given, Refuses, GoesOn, Ends, idleOffer, Leaves, putD, goOn, agree, stageDoes, withStep}
@@ -30,12 +30,6 @@ pub record Kept (O : ℕ → Type 0) (m : OnceCell) (task : ℕ → Offer) (p : 
   pub inv : Inv O (x .cell) (upd task p (x .offer)) winner fast
   pub same-d : m .d ≢ none → x .cell .d ≡ m .d
   pub answers : Decision (x .gives) (x .cell .d)
-
-pub no-eq : (a b : ℕ) → ⊥ → a ≡ b
-no-eq a b x = absurd x
-
-pub no-T : (b : Bool) → ⊥ → T b
-no-T b x = absurd x
 
 pub no-winner : (a b : Option ℕ) → ⊥ → a ≡ b
 no-winner a b x = absurd x

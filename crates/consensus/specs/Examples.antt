@@ -10,10 +10,11 @@ use Rattle.history.specs.Basics as Basics
 use Rattle.history.specs.Basics.{_∈_}
 use Rattle.history.specs.History.{history}
 use Rattle.history.proofs.Basics.{clash}
-use Rattle.consensus.specs.Figure.{Stage, writeX, readY, writeY, readX, storeV, readC, storeD, setC, testV, loadV, lookD, casD, readD}
+use Rattle.consensus.specs.Figure.{Stage, writeX, readY, writeY, readX, storeV, readC, storeD, setC, testV, lookD, casD, readD}
 use Rattle.consensus.specs.Questions.{offerFit, offersFit, onceFit}
 use Rattle.consensus.specs.Entries.{onceStart, offerBegun, onceStepped}
 use Rattle.consensus.specs.History.{Move, offer, step, MoveEvent, refused, admitted, did, ended, onceMachine, OnceId, finished}
+use Rattle.consensus.specs.Paths.{byY, wonSplitter, withV}
 use Rattle.consensus.specs.Consensus.{RightOnce}
 
 -- CALLS WRITTEN OUT
@@ -26,18 +27,15 @@ did-all t (ℓ ∷ l) = (step t, did ℓ) ∷ did-all t l
 abbrev pub call : (t k w : ℕ) → List Stage → Stage → (value steps hard : ℕ) → List (Move × MoveEvent)
 call t k w l z v n h = ((offer t k w, admitted) ∷ did-all t l) ++ ((step t, ended z (record { cell = k; value = v; steps = n; hard = h })) ∷ [])
 
-abbrev pub alone : List Stage
-alone = writeX ∷ readY ∷ writeY ∷ readX ∷ storeV ∷ readC ∷ []
-
 abbrev pub losing : List Stage
-losing = writeX ∷ readY ∷ setC ∷ testV ∷ loadV ∷ []
+losing = byY ++ withV
 
 abbrev pub moves : List (Move × MoveEvent) → List Move
 moves h = map (λ x. x .0) h
 
--- RIGHT: one call alone, then another that finds D; the cells give exactly this
+-- RIGHT: one call wonSplitter, then another that finds D; the cells give exactly this
 abbrev pub right : List (Move × MoveEvent)
-right = call 0 0 7 alone storeD 7 7 0 ++ call 1 0 9 losing lookD 7 6 0
+right = call 0 0 7 wonSplitter storeD 7 7 0 ++ call 1 0 9 losing lookD 7 6 0
 
 pub is-right : history onceMachine (onceStart 2 1) (moves right) ≡ right
 unfolding offerBegun onceStepped onceFit offersFit offerFit
@@ -46,12 +44,12 @@ is-right = refl
 -- WRONG, each by one fact
 
 -- two values on one cell
-pub two-values : RightOnce 1 (call 0 0 7 alone storeD 7 7 0 ++ call 1 0 9 losing lookD 9 6 0) → ⊥
+pub two-values : RightOnce 1 (call 0 0 7 wonSplitter storeD 7 7 0 ++ call 1 0 9 losing lookD 9 6 0) → ⊥
 unfolding Basics.upd
 two-values r = let e : _≡_ {A = ℕ} 9 7 = r .calls .agreement _ _ (inl refl) (inr (inl refl)) refl in omega arith
 
 -- a value that nobody offered
-pub never-offered : RightOnce 1 (call 0 0 7 alone storeD 8 7 0) → ⊥
+pub never-offered : RightOnce 1 (call 0 0 7 wonSplitter storeD 8 7 0) → ⊥
 unfolding Basics.upd
 never-offered r = go (r .calls .validity _ (inl refl) .is-begun) (r .calls .validity _ (inl refl) .offers)
   where
@@ -60,7 +58,7 @@ never-offered r = go (r .calls .validity _ (inl refl) .is-begun) (r .calls .vali
     go (inr x) z = x
 
 -- a value that was offered on another cell
-pub offered-elsewhere : RightOnce 2 ((offer 1 1 9, admitted) ∷ call 0 0 7 alone storeD 9 7 0) → ⊥
+pub offered-elsewhere : RightOnce 2 ((offer 1 1 9, admitted) ∷ call 0 0 7 wonSplitter storeD 9 7 0) → ⊥
 unfolding Basics.upd
 offered-elsewhere r = go (r .calls .validity _ (inl refl) .is-begun) (r .calls .validity _ (inl refl) .there) (r .calls .validity _ (inl refl) .offers)
   where
@@ -70,7 +68,7 @@ offered-elsewhere r = go (r .calls .validity _ (inl refl) .is-begun) (r .calls .
     go (inr (inr x)) c z = x
 
 -- a value that is offered only after the answer
-pub offered-later : RightOnce 1 (call 0 0 7 alone storeD 9 7 0 ++ call 1 0 9 losing lookD 9 6 0) → ⊥
+pub offered-later : RightOnce 1 (call 0 0 7 wonSplitter storeD 9 7 0 ++ call 1 0 9 losing lookD 9 6 0) → ⊥
 unfolding Basics.upd
 offered-later r = go (r .calls .validity _ (inr (inl refl)) .is-begun) (r .calls .validity _ (inr (inl refl)) .offers) (r .calls .validity _ (inr (inl refl)) .in-time)
   where
@@ -80,7 +78,7 @@ offered-later r = go (r .calls .validity _ (inr (inl refl)) .is-begun) (r .calls
     go (inr (inr x)) z l = x
 
 -- a hardware CAS after a lone call
-pub attempt-after-lone-call : RightOnce 1 (call 0 0 7 alone storeD 7 7 0 ++ call 1 0 9 (losing ++ (lookD ∷ casD ∷ [])) readD 7 8 1) → ⊥
+pub attempt-after-lone-call : RightOnce 1 (call 0 0 7 wonSplitter storeD 7 7 0 ++ call 1 0 9 (losing ++ (lookD ∷ casD ∷ [])) readD 7 8 1) → ⊥
 unfolding Basics.upd
 attempt-after-lone-call r = let e : _≡_ {A = ℕ} 1 0 = r .calls .no-hardware _ (inr (inl refl)) lone _ (finished _ (inl refl)) refl in omega arith
   where
@@ -90,12 +88,12 @@ attempt-after-lone-call r = let e : _≡_ {A = ℕ} 1 0 = r .calls .no-hardware 
     lone i (inr (inr x)) c n = absurd x
 
 -- counts that are not the steps done
-pub invented-count : RightOnce 1 (call 0 0 7 alone storeD 7 6 0) → ⊥
+pub invented-count : RightOnce 1 (call 0 0 7 wonSplitter storeD 7 6 0) → ⊥
 unfolding Basics.upd
 invented-count r = let e : _≡_ {A = ℕ} 6 7 = r .calls .reported _ (inl refl) .all-steps in omega arith
 
 -- a second offer of a task on a cell
-pub second-offer : RightOnce 1 (call 0 0 7 alone storeD 7 7 0 ++ ((offer 0 0 7, admitted) ∷ [])) → ⊥
+pub second-offer : RightOnce 1 (call 0 0 7 wonSplitter storeD 7 7 0 ++ ((offer 0 0 7, admitted) ∷ [])) → ⊥
 unfolding Basics.upd
 second-offer r = let e : _≡_ {A = ℕ} 8 0 = ap (λ (i : OnceId). i .at) (r .calls .one-offer _ _ (inl refl) (inr (inl refl)) refl refl) in omega arith
 
@@ -122,7 +120,7 @@ all l = map did l
 abbrev cases : List Case
 cases =
     -- an offer of none by a task that has offered there is refused by 16, since that is asked first
-    record { tasks = 1; cells = 1; list = (offer 0 0 7 ∷ replicate 7 (step 0)) ++ (offer 0 0 noValue ∷ []); events = (admitted ∷ all alone) ++ (ended storeD (record { cell = 0; value = 7; steps = 7; hard = 0 }) ∷ refused 16 ∷ []) } ∷
+    record { tasks = 1; cells = 1; list = (offer 0 0 7 ∷ replicate 7 (step 0)) ++ (offer 0 0 noValue ∷ []); events = (admitted ∷ all wonSplitter) ++ (ended storeD (record { cell = 0; value = 7; steps = 7; hard = 0 }) ∷ refused 16 ∷ []) } ∷
     -- every refusal, in the order of the questions
     record { tasks = 1; cells = 1; list = offer 1 1 noValue ∷ offer 0 1 noValue ∷ offer 0 0 noValue ∷ step 1 ∷ step 0 ∷ offer 0 0 7 ∷ offer 0 0 noValue ∷ []; events = refused 7 ∷ refused 8 ∷ refused 10 ∷ refused 7 ∷ refused 11 ∷ admitted ∷ refused 9 ∷ [] } ∷
     -- two collide: the loser decides before the winner stores V, and the winner follows it

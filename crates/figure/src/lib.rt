@@ -1,1 +1,1 @@
-// Figure 2 with a new block each time, its invariant and its simulation: theory only.
+// Figure 2 with a new block each time, its invariant, paths and counts: theory only.

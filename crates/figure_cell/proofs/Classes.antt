@@ -4,46 +4,12 @@ use mathlib.Core.List.{[], _∷_}
 use Prim.Native.Nat.{ℕ}
 use lib.Dec.{eqb, T, not-T}
 use Rattle.lines.specs.Basics.{within}
-use Rattle.lines.specs.Lines.{Wanted, for13, for25, for28, Line, l1, l2, l3, l4, l5, l6, l7, l8, l10, l11, l12, l15, l16, l17, l18, l19, l20, l21, l22, l23, l24, l26, l27, l30, nowhere}
+use Rattle.lines.specs.Lines.{Line, l10, l15, nowhere}
 use Rattle.questions.specs.Questions.{ofKind}
 use Rattle.history.specs.Basics.{_∈_}
 use Rattle.questions.proofs.Numbers.{number}
 use Rattle.history.proofs.ListTests.{every, has, has-in, implies, excludes}
-use Rattle.figure_cell.proofs.LineLaws.{every-line, lines, same, same-is}
-use Rattle.figure_cell.proofs.LineLaws as Laws
-
-abbrev pub wantedBy : Wanted → ℕ
-wantedBy for13 = 13
-wantedBy for25 = 25
-wantedBy for28 = 28
-
--- the number of the line that wanted the decision
-abbrev pub decisionFor : Line → ℕ
-decisionFor (l1 w) = wantedBy w
-decisionFor (l2 w) = wantedBy w
-decisionFor (l3 w) = wantedBy w
-decisionFor l4 = 0
-decisionFor l5 = 0
-decisionFor l6 = 0
-decisionFor l7 = 0
-decisionFor l8 = 0
-decisionFor l10 = 0
-decisionFor l11 = 0
-decisionFor l12 = 0
-decisionFor l15 = 0
-decisionFor l16 = 0
-decisionFor l17 = 0
-decisionFor l18 = 0
-decisionFor l19 = 0
-decisionFor l20 = 0
-decisionFor l21 = 0
-decisionFor l22 = 0
-decisionFor l23 = 0
-decisionFor l24 = 0
-decisionFor l26 = 0
-decisionFor l27 = 0
-decisionFor l30 = 0
-decisionFor nowhere = 0
+use Rattle.figure_cell.proofs.LineLaws.{every-line, lines, same, same-is, wantedBy}
 
 -- CLASSES
 
@@ -52,7 +18,7 @@ is n ℓ = eqb (number ℓ) n
 
 -- its number in the figure's own list, where the line that wanted the decision stands for the deciding part
 abbrev pub figureLine : Line → ℕ
-figureLine ℓ = cond (within (number ℓ) 1 3) (Laws.wantedBy ℓ) (number ℓ)
+figureLine ℓ = cond (within (number ℓ) 1 3) (wantedBy ℓ) (number ℓ)
 
 abbrev pub busy : Line → Bool
 busy ℓ = not (is 0 ℓ)
@@ -71,14 +37,14 @@ racing ℓ = within (number ℓ) 18 19
 
 -- has won the splitter and has not reset it
 abbrev pub won : Line → Bool
-won ℓ = within (number ℓ) 20 24 || (is 26 ℓ || eqb (decisionFor ℓ) 25)
+won ℓ = within (number ℓ) 20 24 || (is 26 ℓ || eqb (wantedBy ℓ) 25)
 
 -- has won and loaded, and has not stored yet; has stored its new value
 abbrev pub loaded : Line → Bool
 loaded ℓ = within (number ℓ) 21 23
 
 abbrev pub stored : Line → Bool
-stored ℓ = is 24 ℓ || (is 26 ℓ || eqb (decisionFor ℓ) 25)
+stored ℓ = is 24 ℓ || (is 26 ℓ || eqb (wantedBy ℓ) 25)
 
 -- has found its block active after its load, and may yet take effect, or did
 abbrev pub storing : Line → Bool

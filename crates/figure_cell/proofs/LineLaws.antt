@@ -11,12 +11,12 @@ use Rattle.lines.specs.declared.Record.{Record}
 use Rattle.lines.specs.declared.Access.{Access}
 use Rattle.lines.specs.Answers.{Next, Go}
 use Rattle.lines.specs.Record.{idle, opOf}
-use Rattle.lines.specs.Lines.{Line, for13, for25, for28, l1, l2, l3, l4, l5, l6, l7, l8, l10, l11, l12, l15, l16, l17, l18, l19, l20, l21, l22, l23, l24, l26, l27, l30, nowhere, lineAt, lineOf, accessAt, loads, stores, hardware, at, answer, readAnswer, nextAt}
+use Rattle.lines.specs.Lines.{Line, Wanted, for13, for25, for28, l1, l2, l3, l4, l5, l6, l7, l8, l10, l11, l12, l15, l16, l17, l18, l19, l20, l21, l22, l23, l24, l26, l27, l30, nowhere, lineAt, lineOf, accessAt, loads, stores, hardware, at, answer, readAnswer, nextAt}
 use Rattle.questions.specs.Questions.{ofKind, reads, swaps}
 use Rattle.history.specs.Basics.{_∈_}
 use Rattle.history.proofs.ListTests.{every, has, both, every-in, every-at, by-test, has-in}
 use Rattle.history.specs.History.{Op, read, swap, Response, Value, Yes, No}
-use Rattle.figure_cell.specs.Paths.{decision, readPaths, paths, by25, pathsOf}
+use Rattle.figure_cell.specs.Paths.{readPaths, paths, by25, pathsOf}
 use Rattle.figure_cell.proofs.AsBegun.{swap-op, Reads, read-op}
 
 -- THE LIST OF ALL LINES
@@ -139,9 +139,38 @@ on-read-paths k No x m = absurd m
 abbrev pub MayEnd : Line → Record → Response → Type 0
 MayEnd l r a = T (extends l (waysOf (opOf r) a))
 
+abbrev wantingLine : Wanted → ℕ
+wantingLine for13 = 13
+wantingLine for25 = 25
+wantingLine for28 = 28
+
 -- the number of the line that wanted the decision; 0 outside the deciding part
 abbrev pub wantedBy : Line → ℕ
-wantedBy l = cond (has same (decision for13) l) 13 (cond (has same (decision for25) l) 25 (cond (has same (decision for28) l) 28 0))
+wantedBy (l1 w) = wantingLine w
+wantedBy (l2 w) = wantingLine w
+wantedBy (l3 w) = wantingLine w
+wantedBy l4 = 0
+wantedBy l5 = 0
+wantedBy l6 = 0
+wantedBy l7 = 0
+wantedBy l8 = 0
+wantedBy l10 = 0
+wantedBy l11 = 0
+wantedBy l12 = 0
+wantedBy l15 = 0
+wantedBy l16 = 0
+wantedBy l17 = 0
+wantedBy l18 = 0
+wantedBy l19 = 0
+wantedBy l20 = 0
+wantedBy l21 = 0
+wantedBy l22 = 0
+wantedBy l23 = 0
+wantedBy l24 = 0
+wantedBy l26 = 0
+wantedBy l27 = 0
+wantedBy l30 = 0
+wantedBy nowhere = 0
 
 abbrev pub suits : ℕ → Line → Bool
 suits w l = eqb (wantedBy l) 0 || eqb w (wantedBy l)

@@ -7,6 +7,7 @@ use native.Mathlib.Omega.{arith}
 use lib.Dec.{T}
 use Rattle.lines.specs.declared.Record.{Record}
 use Rattle.history.specs.History.{Attempt}
+use Rattle.history.proofs.Basics.{no-eq, no-T}
 use Rattle.lines.specs.Lines.{Wanted, for13, for25, for28, Line, l1, l2, l3, l4, l10, l11, l12, l15, l16, l17, l18, l19, l20, l21, l22, l23, l24, l26, l27, nowhere, at, counted}
 use Rattle.linearizing.proofs.Simulation.{Phase, settled, frozen, late}
 use Rattle.figure_cell.proofs.Classes.{holding, racing, won, loaded, stored, taking}
@@ -14,12 +15,6 @@ use Rattle.figure_cell.proofs.Invariant.{none, View, Knowledge, Fresh, 
 use Rattle.figure_cell.proofs.Frame.{Mine, Unheld, undecided, active-undecided, active-current}
 
 -- NOTHING FOLLOWS FROM A LINE THAT IS NOT THERE: `search` closes each fact whose line it is not
-
-pub no-eq : (a b : ℕ) → ⊥ → a ≡ b
-no-eq a b x = absurd x
-
-pub no-T : (b : Bool) → ⊥ → T b
-no-T b x = absurd x
 
 pub no-lt : (a b : ℕ) → ⊥ → a < b
 no-lt a b x = absurd x

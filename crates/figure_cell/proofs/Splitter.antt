@@ -36,21 +36,11 @@ module _ (s : View) (κ : Knowledge) (t : ℕ) (r : Rest s κ t) where
     current = r .current;
     apart = r .apart;
     unheld = r .unheld;
-    tasks = λ u ne. let k = r .tasks u ne in record {
-      self = k .self;
-      value = k .value;
-      decided = k .decided;
-      store = k .store;
-      seen = k .seen;
-      planned = k .planned;
-      fresh = k .fresh;
-      early = k .early;
-      owner = k .owner;
-      split = record {
-        about-to-win = λ a. upd-cases (λ x. x ≡ u → m .y (held s u) ≢ 0) (m .x) b t (held s u) (λ h e. absurd (ne (sym e))) (λ h. k .split .about-to-win a);
-        kept = k .split .kept;
-      };
-    };
+    tasks = λ u ne.
+        let k = r .tasks u ne in
+        let x : T (is 19 (line s u)) → upd (m .x) b t (held s u) ≡ u → m .y (held s u) ≢ 0
+        = λ a. upd-cases (λ x. x ≡ u → m .y (held s u) ≢ 0) (m .x) b t (held s u) (λ h e. absurd (ne (sym e))) (λ h. k .split .about-to-win a) in
+        search k;
     rivals = λ u w ne ne′ n h. let k = r .rivals u w ne ne′ n h in record {
       one-won = k .one-won;
       no-race = λ a c. upd-cases (λ x. x ≡ w → ⊥) (m .x) b t (held s w) (λ z x. ne′ (sym x)) (λ z. k .no-race a c);
@@ -65,18 +55,7 @@ module _ (s : View) (κ : Knowledge) (t : ℕ) (r : Rest s κ t) where
       apart = r .apart;
       unheld = r .unheld;
       rivals = r .rivals;
-      tasks = λ u ne. let k = r .tasks u ne in record {
-        self = k .self;
-        value = k .value;
-        decided = k .decided;
-        store = k .store;
-        seen = k .seen;
-        planned = k .planned;
-        early = k .early;
-        owner = k .owner;
-        split = split u ne;
-        fresh = λ a. rw (upd-off (m .y) b n (s .task u .taken) (far u ne a)) (k .fresh a);
-      };
+      tasks = λ u ne. let k = r .tasks u ne in let y = split u ne in search (k .fresh, far u ne, upd-off (m .y) b n (s .task u .taken));
     }
 
     -- C is set, and the phase changes in nothing that concerns a late store

@@ -1,5 +1,5 @@
 -- Line 23: the winner stores its new value. In an active block the swap takes effect at once; in an inactive one it comes late.
-use mathlib.Core.Path.{_≡_, refl, sym, ap, _∙_}
+use mathlib.Core.Path.{_≡_, sym, ap, _∙_}
 use mathlib.Core.Logic.{_≢_}
 use mathlib.Core.Bool.{true, not}
 use Prim.Native.Nat.{ℕ}
@@ -14,7 +14,7 @@ use Rattle.linearizing.proofs.Simulation.{Phase, settled, late}
 use Rattle.figure_cell.specs.Memory.{store}
 use Rattle.figure_cell.proofs.Classes.{is, holding, won, loaded, stored, contended, taking, lies-in, are-apart}
 use Rattle.figure_cell.proofs.Invariant.{none, View, Knowledge, Value, Fresh, Owner, Rival, PhaseIs, line, held, Inv}
-use Rattle.figure_cell.proofs.Frame.{moved, Rest, Mine, finish, was, undecided, active-undecided, active-current, one-winner, decided-with}
+use Rattle.figure_cell.proofs.Frame.{moved, Rest, Mine, finish, was, undecided, active-undecided, active-current, one-winner}
 use Rattle.figure_cell.proofs.Looking.{off, same-wins, same-loses, active-settled, active-value}
 
 module _ (s : View) (κ : Knowledge) (t : ℕ) (i : Inv s κ) (e : line s t ≡ l23) (a : Attempt) (n w : ℕ) where
@@ -108,21 +108,15 @@ module _ (s : View) (κ : Knowledge) (t : ℕ) (i : Inv s κ) (e : line s t ≡ 
         decision = λ d. absurd (d (rw is-L at open-d));
         phase-is = rw live-settled (λ d. (rw is-L at c, upd-at (s .cell .v) (q .held) (q .new) L (sym is-L)));
       };
-      tasks = λ u ne. let k = i .tasks u in rw (upd-off (s .placed) t true u ne) record {
-        self = k .self;
-        split = k .split;
-        value = value′ u ne;
-        store = k .store;
-        seen = k .seen;
-        fresh = fresh′ u;
-        early = k .early;
-        decided = let r = k .decided in decided-with r (λ z. z) (λ b. refl) (r .replaced-decided) (λ b z d. absurd (none-stored u ne b d)) (r .late-phase);
-        planned = record {
-          plan-some = k .planned .plan-some;
-          plan = λ b d. absurd (k .decided .inactive (lies-in (is 2) contended tt (line s u) b) (ap (s .cell .c) (undecided s κ i u (lies-in (is 2) holding tt (line s u) b) d ∙ sym is-L) ∙ c));
-        };
-        owner = λ z. absurd (none-awaited is-L u z);
-      };
+      tasks = λ u ne.
+          let k = i .tasks u in
+          let v = value′ u ne in
+          let f = fresh′ u in
+          let d = none-stored u ne in
+          let o = none-awaited is-L u in
+          let p : T (is 2 (line s u)) → s .cell .d (held s u) ≡ none → ⊥
+          = λ b d. k .decided .inactive (lies-in (is 2) contended tt (line s u) b) (ap (s .cell .c) (undecided s κ i u (lies-in (is 2) holding tt (line s u) b) d ∙ sym is-L) ∙ c) in
+          rw (upd-off (s .placed) t true u ne) (search (off, k));
     }
 
     mine-live : T (κ .storedActive t) → Mine live κ t l24 next
@@ -152,24 +146,17 @@ module _ (s : View) (κ : Knowledge) (t : ℕ) (i : Inv s κ) (e : line s t ≡ 
       apart = λ u w ne ne′. i .apart u w;
       unheld = λ u w ne ne′. i .unheld u w;
       current = let k = i .current in record { low = k .low; P-some = k .P-some; v-some = v-some′; decided-inactive = k .decided-inactive; decision = k .decision; phase-is = is-p };
-      tasks = λ u ne. let k = i .tasks u in record {
-        self = k .self;
-        split = k .split;
-        value = value′ u ne;
-        store = k .store;
-        seen = k .seen;
-        fresh = fresh′ u;
-        early = k .early;
-        decided = let r = k .decided in decided-with r (λ z. z) (λ b. refl) (r .replaced-decided) (r .placed-value) (λ b z d. lates u ne .0 (r .late-phase b z d));
-        planned = record {
-          plan-some = k .planned .plan-some;
-          plan = λ b d z. upd-cases (λ x. x ≡ s .task u .loaded) (s .cell .v) (q .held) (q .new) L
-              (λ h. let z′ = k .planned .plan b d z in absurd (z (sym z′ ∙ plan-p (rw (undecided s κ i u (lies-in (is 2) holding tt (line s u) b) d) at d) (sym h))))
-              (λ h. k .planned .plan b d z);
-        };
-        owner = λ z. let x = lates u ne .1 z in let o = k .owner (x .0) in record
-            { has-stored = o .has-stored; here = o .here; not-placed = o .not-placed; expected-is = o .expected-is; new-is = o .new-is ∙ sym (upd-off (s .cell .v) (q .held) (q .new) L (x .1)) };
-      };
+      tasks = λ u ne.
+          let k = i .tasks u in
+          let v = value′ u ne in
+          let f = fresh′ u in
+          let l = lates u ne .0 in
+          let x : T (is 2 (line s u)) → s .cell .d (held s u) ≡ none → s .task u .loaded ≢ s .value → V′ L ≡ s .task u .loaded
+          = λ b d z. let r = k .planned .plan b d z in upd-cases (λ x. x ≡ s .task u .loaded) (s .cell .v) (q .held) (q .new) L
+          (λ h. absurd (z (sym r ∙ plan-p (rw (undecided s κ i u (lies-in (is 2) holding tt (line s u) b) d) at d) (sym h)))) (λ h. r) in
+          let o : p ≡ late u → Owner (line s u) (s .task u) (s .placed u) L (s .value) (V′ L)
+          = λ z. let r = lates u ne .1 z in rw (upd-off (s .cell .v) (q .held) (q .new) L (r .1)) (k .owner (r .0)) in
+          search (k .decided .late-phase);
     }
 
     mine-delayed : T (not (κ .storedActive t)) → Mine delayed κ t l24 next

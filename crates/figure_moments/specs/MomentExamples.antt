@@ -46,7 +46,7 @@ pub moments-hold :
     Holds (
     -- P1: a swap that is alone, and a read after it
     (alone 0 (swap 0 5 7) 10 ++ alone 1 (read 0) 3, entry 8 itself 0 C4 ∷ entry 13 itself 1 R1 ∷ []) ∷
-    -- an unfinished read is not listed, though its task's swap before it stored in an active block
+    -- a pending read is not listed, though its task's swap before it stored in an active block
     (alone 0 (swap 0 5 7) 10 ++ alone 0 (read 0) 2, entry 8 itself 0 C4 ∷ []) ∷
     -- P5 and P6: a swap of equal values, at its line 11; one that expects another value, at its line 20. A refused action has its number too.
     (step 0 ∷ alone 0 (swap 0 5 5) 3 ++ alone 0 (swap 0 4 6) 8, entry 3 itself 0 C1 ∷ entry 11 itself 0 C2 ∷ []) ∷

@@ -10,11 +10,7 @@ use Rattle.history.specs.Basics.{_∈_}
 use Rattle.history.specs.History.{Action, step, Event, refused, accepted, answered, history, run, Call, FinishedCall, Calls, noCalls, advance, advanced, closed, enter, enterAll, callsOf}
 use Rattle.history.specs.History.{Allowed, WellFormed}
 use Rattle.history.specs.Demand3.{most, Meets, Finishes}
-use Rattle.history.proofs.Basics.{upd-same, clash, history-append}
-
-calls-snoc : (b : Calls) (h : List (Action × Event)) (x : Action × Event) → enterAll b (h ++ (x ∷ [])) ≡ enter (enterAll b h) (x .0) (x .1)
-calls-snoc b [] x = refl
-calls-snoc b (y ∷ h) x = calls-snoc (enter b (y .0) (y .1)) h x
+use Rattle.history.proofs.Basics.{upd-same, clash, history-append, enter-append}
 
 last-allowed : (size : ℕ) (b : Calls) (h : List (Action × Event)) (x : Action × Event) → WellFormed size b (h ++ (x ∷ [])) → Allowed size (enterAll b h) (x .0) (x .1)
 last-allowed size b [] x w = w .0
@@ -29,7 +25,7 @@ module _ {S : Type 0} (machine : S → Action → S × Event) (start : S) where
     within : (k : ℕ) (l : List Action) (t : ℕ) (c : Call) → callsAfter l .pending t ≡ some c → most (c .start .op) ≤ c .steps + k → Finishes machine start l t c k
     within zero l t c h m = absurd (omega (arith, meets l .calls .bounds .unended t c h .0))
     within (suc k) l t c h m = go (machine (run machine start l) (step t) .1)
-        (ap callsOf (history-append machine start l (step t ∷ [])) ∙ calls-snoc noCalls (history machine start l) (step t, machine (run machine start l) (step t) .1))
+        (ap callsOf (history-append machine start l (step t ∷ [])) ∙ enter-append noCalls (history machine start l) ((step t, machine (run machine start l) (step t) .1) ∷ []))
         (last-allowed size noCalls (history machine start l) (step t, machine (run machine start l) (step t) .1)
         (subst (λ h. WellFormed size noCalls h) (history-append machine start l (step t ∷ [])) (meets (l ++ (step t ∷ [])) .well-formed)))
         (within k (l ++ (step t ∷ [])) t)

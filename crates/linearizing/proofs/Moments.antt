@@ -11,7 +11,7 @@ use Rattle.history.specs.Basics.{_∈_, Once}
 use Rattle.history.specs.History.{Action, Event, history, run, Response, Yes, Call, FinishedCall, Calls, noCalls, callsOf, pending, finished}
 use Rattle.history.specs.Linearization.{Point, replies, Placed, Linearizes}
 use Rattle.history.specs.Moments.{before, itself, Spot, Mark, pointOf, replyOf, Names, beside, markOfPending, pendingMarks, sort, linearized}
-use Rattle.history.proofs.Basics.{either, clash, some-inj, point}
+use Rattle.history.proofs.Basics.{either, clash, some-inj, mem-append, point}
 use Rattle.linearizing.proofs.Simulation.{Knowledge, Sided, Simulation}
 use Rattle.linearizing.proofs.Tracks.{tallied, tallyOf}
 use Rattle.linearizing.proofs.MovesOne.{Dated}
@@ -25,15 +25,6 @@ use Rattle.linearizing.proofs.EveryAction.{Good, AtEnd, at-end}
 
 -- LISTS
 
-mem-or : (a b : List Mark) (m : Mark) → m ∈ (a ++ b) → (m ∈ a) ⊎ (m ∈ b)
-mem-or [] b m i = inr i
-mem-or (x ∷ a) b m (inl e) = inl (inl e)
-mem-or (x ∷ a) b m (inr i) = go (mem-or a b m i)
-  where
-    go : (m ∈ a) ⊎ (m ∈ b) → (m ∈ (x ∷ a)) ⊎ (m ∈ b)
-    go (inl j) = inl (inr j)
-    go (inr j) = inr j
-
 mem-left : (a b : List Mark) (m : Mark) → m ∈ a → m ∈ (a ++ b)
 mem-left (x ∷ a) b m (inl e) = inl e
 mem-left (x ∷ a) b m (inr i) = inr (mem-left a b m i)
@@ -44,7 +35,7 @@ mem-right (x ∷ a) b m i = inr (mem-right a b m i)
 
 once-both : (a b : List Mark) → Once (begins a) → Once (begins b) → ((m : Mark) → m ∈ a → ¬ (m .call .at ∈ begins b)) → Once (begins (a ++ b))
 once-both [] b o p d = p
-once-both (x ∷ a) b o p d = ((λ i. let m = from-begins (a ++ b) (x .call .at) i in go (m .0) (m .2) (mem-or a b (m .0) (m .1))), once-both a b (o .1) p (λ m i. d m (inr i)))
+once-both (x ∷ a) b o p d = ((λ i. let m = from-begins (a ++ b) (x .call .at) i in go (m .0) (m .2) (mem-append a b (m .0) (m .1))), once-both a b (o .1) p (λ m i. d m (inr i)))
   where
     go : (m : Mark) → x .call .at ≡ m .call .at → (m ∈ a) ⊎ (m ∈ b) → ⊥
     go m e (inl j) = o .0 (rw e (to-begins a m j))
@@ -94,7 +85,7 @@ module _ {S : Type 0} (machine : S → Action → S × Event) (names : Names S) 
 
   listed-in : (n : ℕ) (m : Mark) → m ∈ pendingMarks machine names s b n → (t : ℕ) × (t < n) × Listed t m
   listed-in zero m i = absurd i
-  listed-in (suc t) m i = go (listed-in t m) (mem-or (markOfPending machine names (names .standing s t) (b .pending t)) (pendingMarks machine names s b t) m i)
+  listed-in (suc t) m i = go (listed-in t m) (mem-append (markOfPending machine names (names .standing s t) (b .pending t)) (pendingMarks machine names s b t) m i)
     where
       go : (m ∈ pendingMarks machine names s b t → (u : ℕ) × (u < t) × Listed u m) → (m ∈ markOfPending machine names (names .standing s t) (b .pending t)) ⊎ (m ∈ pendingMarks machine names s b t) → (u : ℕ) × (u < suc t) × Listed u m
       go r (inl j) = (t, omega arith, one t (names .standing s t) (b .pending t) refl refl m j)
@@ -180,11 +171,11 @@ module _ {S N : Type 0} {machine : S → Action → S × Event} {note : N → S 
 
   all-marks : Marks E (waiting ++ r .finished)
   all-marks = record {
-    theirs = λ w i. theirs w (mem-or waiting (r .finished) w i);
+    theirs = λ w i. theirs w (mem-append waiting (r .finished) w i);
     all = all;
     once = once-both waiting (r .finished) (pending-once (beside machine note) names x b (G .dated) tasks) (subst Once (sym same) (G .distinct .once))
         (λ w i j. let y = waits w i .2 in G .distinct .apart _ (y .call) (y .busy) (subst (λ n. n ∈ callBegins (b .finished)) (ap (λ (w : Mark). w .call .at) (y .is)) (subst (λ k. w .call .at ∈ k) same j)));
-    sided = λ w i. sided w (mem-or waiting (r .finished) w i);
+    sided = λ w i. sided w (mem-append waiting (r .finished) w i);
   }
     where
       same : begins (r .finished) ≡ callBegins (b .finished)
@@ -233,7 +224,7 @@ module _ {S N : Type 0} {machine : S → Action → S × Event} {note : N → S 
   linearizes : Linearizes values b (map pointOf sorted)
   linearizes = record {
     sorted = sorted-points (m .kept .line) all-marks;
-    placed = λ e i. let w = points-in sorted e i in subst (Placed b) (sym (w .2)) (placed (w .0) (mem-or waiting (r .finished) (w .0) (sort-in (waiting ++ r .finished) (w .0) (w .1))));
+    placed = λ e i. let w = points-in sorted e i in subst (Placed b) (sym (w .2)) (placed (w .0) (mem-append waiting (r .finished) (w .0) (sort-in (waiting ++ r .finished) (w .0) (w .1))));
     once = subst Once (sym (point-begins sorted)) (sort-once (waiting ++ r .finished) (all-marks .once));
     answers = λ f i. let w = mark-of (b .finished) (r .finished) (m .kept .marked) f i in (
       pointOf (w .0),

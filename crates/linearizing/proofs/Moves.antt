@@ -14,7 +14,7 @@ use Rattle.history.specs.Moments.{Spot, Mark, pointOf, Names}
 use Rattle.history.proofs.Basics.{either, upd-at, upd-same, upd-off, upd-cases, clash, some-inj, point}
 use Rattle.linearizing.proofs.Simulation.{Phase, settled, frozen, late, Ghost, Knowledge, Move, still, act, freeze, store, settle, land, freezes, takesEffect, inPhase, shift, unplaced, Tally, May, Sided, Why, acts, acted, observes}
 use Rattle.linearizing.proofs.Tracks.{call-of, Tracks}
-use Rattle.linearizing.proofs.MovesOne.{Onward, Dated, MovesOne, same-begin, going-pending, steps-on, goes-on, ended-finished, ended-idle, leaves, starts-on, passes-on}
+use Rattle.linearizing.proofs.MovesOne.{onward, Dated, MovesOne, same-begin, going-pending, steps-on, goes-on, ended-finished, ended-idle, leaves, starts-on, passes-on}
 use Rattle.linearizing.proofs.Timeline.{cell, Timeline}
 use Rattle.linearizing.proofs.Growing.{Joins, regarded, observed, since-other, since-before}
 use Rattle.linearizing.proofs.Kept.{cell-of, Entry, of-finished, of-pending, Late, Kept, settled-late, calls-kept, phases-kept, past⁺, effect-kept}
@@ -54,9 +54,6 @@ knows b past was = record {
   saw = λ u m v. (c : Call) × (b .pending u ≡ some c) × Seen past was (c .start) m v;
   early = λ u. (c : Call) × (b .pending u ≡ some c) × (c .start .at < was (cell-of c));
 }
-
-onward : (c : Call) → Onward c c
-onward c = record { start = refl; last = omega arith }
 
 module _ {values : ℕ → ℕ} (g : Ghost) {b : Calls} {past : ℕ → ℕ → ℕ} {ms : List Mark} (k : Kept values g b past (firm g (b .now)) ms) (dated : Dated b) where
   abbrev n : ℕ

@@ -16,8 +16,8 @@ pub record Onward (c d : Call) : Type 0 where
   pub start : c .start ≡ d .start
   pub last : c .last ≤ d .last
 
-stays : (c : Call) → Onward c c
-stays c = record { start = refl; last = omega arith }
+pub onward : (c : Call) → Onward c c
+onward c = record { start = refl; last = omega arith }
 
 -- every call of b goes on in b', and ends at most so much earlier
 abbrev pub Continues : ℕ → Calls → Calls → Type 0
@@ -42,19 +42,19 @@ pub record MovesOne (slack t : ℕ) (b b' : Calls) : Type 0 where
 
 module _ {slack t : ℕ} {b b' : Calls} (m : MovesOne slack t b b') where
   pub continues : Continues slack b b'
-  continues c n (finished f i) = (f .call, f .call .last, finished f (m .kept f i), stays (f .call), omega arith)
+  continues c n (finished f i) = (f .call, f .call .last, finished f (m .kept f i), onward (f .call), omega arith)
   continues c n (pending u d h) = go (either u t)
     where
       go : (u ≡ t) ⊎ (u ≢ t) → (d : Call) × (k : ℕ) × CallOf b' d k × Onward c d × (b .now ≤ slack + k)
       go (inl e) = m .on c (subst (λ n. b .pending n ≡ some c) e h)
-      go (inr n) = (c, b' .now, pending u c (m .others u n ∙ h), stays c, omega (arith, m .later))
+      go (inr n) = (c, b' .now, pending u c (m .others u n ∙ h), onward c, omega (arith, m .later))
 
   pub from-where : (u : ℕ) (d : Call) → b' .pending u ≡ some d → From b u d
   from-where u d h = go (either u t)
     where
       go : (u ≡ t) ⊎ (u ≢ t) → From b u d
       go (inl e) = subst (λ n. From b n d) (sym e) (m .from d (subst (λ n. b' .pending n ≡ some d) e h) .2)
-      go (inr n) = inl (d, sym (m .others u n) ∙ h, stays d)
+      go (inr n) = inl (d, sym (m .others u n) ∙ h, onward d)
 
   -- a call pending before and after is the same call
   pub same-begin : (u : ℕ) (c d : Call) → b .pending u ≡ some c → b' .pending u ≡ some d → c .start ≡ d .start
@@ -144,7 +144,7 @@ module _ (b : Calls) (dated : Dated b) where
         later = omega arith;
         others = λ u q. upd-off (b .pending) t none u q ∙ sym (upd-off (b .pending) t (advanced b x (b .pending t)) u q);
         kept = ended-kept;
-        on = λ e i. (advance b x c, b .now, ended-last, rw (some-inj i going-pending) (stays (advance b x c)), omega arith);
+        on = λ e i. (advance b x c, b .now, ended-last, rw (some-inj i going-pending) (onward (advance b x c)), omega arith);
         from = λ d i. absurd (ended-idle d i);
       }
 
@@ -162,8 +162,8 @@ module _ (b : Calls) (dated : Dated b) where
     later = omega arith;
     others = λ u q. refl;
     kept = λ f i. i;
-    on = λ c h. (c, suc (b .now), pending t c h, stays c, omega arith);
-    from = λ d h. let p = dated .past t d h in (omega arith, omega arith, inl (d, h, stays d));
+    on = λ c h. (c, suc (b .now), pending t c h, onward c, omega arith);
+    from = λ d h. let p = dated .past t d h in (omega arith, omega arith, inl (d, h, onward d));
   }
 
   pub moves-one : {S : Type 0} {s s' : S} {a : Action} {e : Event} → Change s s' b a e → MovesOne 0 (taskOf a) b (enter b a e)

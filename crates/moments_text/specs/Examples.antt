@@ -32,7 +32,7 @@ prints :
     ("(open 2 1 5 (5))\n(swap 0 0 5 7)\n(swap 1 0 5 9)\n(again 2 (step 0))\n(again 7 (step 1))\n(again 5 (step 0))\n(again 14 (step 1))\n(again 6 (step 0))\n", "(at 29 itself 1 swap 0 C6)\n(at 29 after 0 swap 0 C6)\n") ∷
     -- three reads that go by one decision, made after their first loads: at one action lower tasks come first, in whatever order they finish
     ("(open 5 1 11 (5))\n(swap 0 0 5 7)\n(swap 1 0 5 9)\n(again 2 (step 0))\n(again 7 (step 1))\n(again 2 (step 0))\n(step 1)\n(read 4 0)\n(read 3 0)\n(read 2 0)\n(step 4)\n(step 3)\n(step 2)\n(again 2 (step 0))\n(again 5 (step 3))\n(again 5 (step 2))\n(again 5 (step 4))\n", "(at 12 itself 1 swap 0 C3)\n(at 21 itself 2 read 0 R2)\n(at 21 itself 3 read 0 R2)\n(at 21 itself 4 read 0 R2)\n") ∷
-    -- a late store on a block that is not decided is not listed, nor is an unfinished read
+    -- a late store on a block that is not decided is not listed, nor is a pending read
     ("(open 3 1 7 (5))\n(swap 0 0 5 7)\n(swap 1 0 5 9)\n(again 2 (step 0))\n(again 7 (step 1))\n(again 2 (step 0))\n(step 1)\n(step 0)\n(read 2 0)\n(again 3 (step 2))\n", "") ∷
     -- decided, it is
     ("(open 3 1 7 (5))\n(swap 0 0 5 7)\n(swap 1 0 5 9)\n(again 2 (step 0))\n(again 7 (step 1))\n(again 2 (step 0))\n(step 1)\n(again 2 (step 0))\n(read 2 0)\n(again 3 (step 2))\n", "(at 12 itself 1 swap 0 C3)\n") ∷

@@ -18,7 +18,7 @@ use Rattle.lines.specs.Record.{recordAt}
 use Rattle.cells.specs.Machine.{Pool, pool}
 use Rattle.history.specs.Basics.{_∈_}
 use Rattle.history.specs.History.{Action, begin, step, taskOf, Event, FinishedCall, Calls, noCalls, enter, enterAll, callsOf, history, run}
-use Rattle.history.proofs.Basics.{either, clash, some-inj, history-append}
+use Rattle.history.proofs.Basics.{either, clash, some-inj, history-append, enter-append}
 use Rattle.figure.specs.Figure.{World, figure, opening}
 use Rattle.figure.specs.Exchange.{ifAccepted, touches, Apart, ApartAt}
 use Rattle.refinement.specs.Terms.{start}
@@ -124,10 +124,6 @@ tasks-of act s [] who n h = tt
 tasks-of act s (a ∷ l) who n h =
     (ap who (sym (add-zero n)) ∙ h 0, tasks-of act (act s a .0) l who (suc n) (λ j. let e : suc n + j ≡ n + suc j = omega arith in ap who e ∙ h (suc j)))
 
-pub enter-all : (b : Calls) (g h : List (Action × Event)) → enterAll b (g ++ h) ≡ enterAll (enterAll b g) h
-enter-all b [] h = refl
-enter-all b (x ∷ g) h = enter-all (enter b (x .0) (x .1)) g h
-
 pub now-after : {S : Type 0} (act : S → Action → S × Event) (s : S) (l : List Action) (b : Calls) → enterAll b (history act s l) .now ≡ b .now + length l
 now-after act s [] b = sym (add-zero (b .now))
 now-after act s (a ∷ l) b = now-after act (act s a .0) l (enter b a (act s a .1)) ∙ omega (arith, entered-now b a (act s a .1))
@@ -152,7 +148,7 @@ module _ (old : State) (words : List ℕ) (tasks cells blocks : ℕ) (values : L
   between-at i m r e = between-on (history pool x₀ (take i l)) (subst (λ h. Between (whoOf m) cells noCalls h) (ap (history pool x₀) e ∙ history-append pool x₀ (take i l) r) (between m))
 
   all-calls : (i : ℕ) (r : List Action) → callsOf (history pool x₀ (take i l ++ r)) ≡ enterAll (before i) (history pool (there i) r)
-  all-calls i r = ap callsOf (history-append pool x₀ (take i l) r) ∙ enter-all noCalls (history pool x₀ (take i l)) (history pool (there i) r)
+  all-calls i r = ap callsOf (history-append pool x₀ (take i l) r) ∙ enter-append noCalls (history pool x₀ (take i l)) (history pool (there i) r)
 
   module _ (i : ℕ) (two : suc i < length l) where
     now-is : before i .now ≡ i

@@ -20,7 +20,7 @@ use Rattle.cells.specs.Open.{After, leaving}
 use Rattle.cells.specs.Events.{eventOf}
 use Rattle.cells.specs.Machine.{Pool, does, triedBy, pool}
 use Rattle.history.specs.History.{Action, step, Attempt, untried, Response, Event, Calls, noCalls, enter, enterAll, history, run}
-use Rattle.history.proofs.Basics.{clash, history-append}
+use Rattle.history.proofs.Basics.{clash, history-append, enter-append}
 use Rattle.linearizing.proofs.EveryAction.{run-snoc}
 use Rattle.places.proofs.Listed.{action-then, no-action}
 use Rattle.refinement.specs.Reached.{Reached}
@@ -33,7 +33,7 @@ use Rattle.nudge_calls.specs.declared.calls.Noted.the-variants as code
 use Rattle.nudge_calls.specs.Calls.{Summary, Note, noteOf, begunAfter, listing, calls, answerOfCall, noteIn, Summarizes}
 use Rattle.nudge_calls.specs.Exchange.{Fresh, touchedBy, collides, nudgesAt}
 use Rattle.nudge_calls.proofs.Following.{BegunAt, begun-next}
-use Rattle.nudge_calls.proofs.Exchanging.{exchanged-map, enter-all, now-after}
+use Rattle.nudge_calls.proofs.Exchanging.{exchanged-map, now-after}
 
 -- THE TASK'S CALLS
 
@@ -155,7 +155,7 @@ before-next {x₀} f l t i k {k′} {s} {p} {s′} {p′} {o} {a} n h ea ed en e
     calls-then =
         ap (λ (r : List Action). enterAll noCalls (history pool x₀ r)) more
         ∙ (ap (enterAll noCalls) (history-append pool x₀ (take i (map f l)) (a ∷ []))
-        ∙ (enter-all noCalls (history pool x₀ (take i (map f l))) (history pool (run pool x₀ (take i (map f l))) (a ∷ []))
+        ∙ (enter-append noCalls (history pool x₀ (take i (map f l))) (history pool (run pool x₀ (take i (map f l))) (a ∷ []))
         ∙ ap (λ (x : Pool). enter b a (pool x a .1)) (sym (B .state))))
 
 pub reached-before : {s : State} {p : List ℕ} (l : List Action) (t i : ℕ) {s′ : State} {p′ : List ℕ} {k : ℕ} → Fresh s p → Before (s, p) l t i (s′, p′) k → Reached (s .tasks) (s .cells) s′ p′

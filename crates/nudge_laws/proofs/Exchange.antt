@@ -37,7 +37,7 @@ figure-answers i m l w p = ap (answerAt (movedTo i m)) (exchanged-history i l w 
 -- IN THE POOL, from an opening that is not refused
 
 module _ (old : State) (words : List ℕ) (tasks cells blocks : ℕ) (values : List ℕ) (allowed : refusal (openQuestions (length words) tasks cells blocks values) ≡ none) (actions : List Action) where
-  -- Two neighbours of different tasks that do not touch the same cell: exchanged, every call answers as before, or is unfinished as before.
+  -- Two neighbours of different tasks that do not touch the same cell: exchanged, every call answers as before, or is pending as before.
   pub apart-answers : (i m : ℕ) → ApartAt (opening tasks cells values) i actions
       → answerAt (movedTo i m) (history pool (start old words tasks cells blocks values) (exchanged i actions)) ≡ answerAt m (history pool (start old words tasks cells blocks values) actions)
   apart-answers i m p =

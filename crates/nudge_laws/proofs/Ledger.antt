@@ -303,6 +303,6 @@ exchange-in i zero (x ∷ y ∷ h) b E d q =
     (subst (λ i. Moved i (enter (enter b (x .0) (x .1)) (y .0) (y .1)) (enter (enter b (y .0) (y .1)) (x .0) (x .1))) z (exchange b E (x .0) (y .0) (x .1) (y .1) d))
 exchange-in i (suc j) (x ∷ h) b E d q = exchange-in i j h (enter b (x .0) (x .1)) (early-next b (x .0) (x .1) E) d (rw (entered-now b (x .0) (x .1)) (omega (arith, q)))
 
--- The call begun at m answers, followed to its new place, as before; or is unfinished as before.
+-- The call begun at m answers, followed to its new place, as before; or is pending as before.
 pub same-answer : (i m : ℕ) (h : List (Action × Event)) → TwoTasks i h → answerAt (movedTo i m) (exchanged i h) ≡ answerAt m h
 same-answer i m h d = exchange-in i i h noCalls early-start d (omega arith) .same-answers m

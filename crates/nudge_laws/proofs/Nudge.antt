@@ -3,7 +3,7 @@ use mathlib.Core.Path.{_≡_, refl, sym, ap, _∙_}
 use mathlib.Core.Logic.{_⊎_, inl, inr}
 use mathlib.Core.Bool.{Bool, true, false, not, _&&_, cond}
 use mathlib.Core.Option.{none, some}
-use mathlib.Core.List.{List, [], _∷_, _++_}
+use mathlib.Core.List.{List, [], _∷_}
 use Prim.Native.Nat.{ℕ, zero, suc, _+_, _≤_, _<_}
 use lib.Dec.{eqb, ltb}
 use lib.ListN.{length}
@@ -14,7 +14,7 @@ use Rattle.questions.specs.Questions.{refusal, openQuestions}
 use Rattle.cells.specs.Machine.{Pool, pool}
 use Rattle.history.specs.Basics.{_∈_}
 use Rattle.history.specs.History.{Action, Response, Value, Yes, No, Event, FinishedCall, history, callsOf}
-use Rattle.history.proofs.Basics.{either, clash, some-inj}
+use Rattle.history.proofs.Basics.{either, clash, some-inj, mem-append}
 use Rattle.figure.specs.Figure.{opening}
 use Rattle.figure.specs.Exchange.{ApartAt}
 use Rattle.refinement.specs.Terms.{start}
@@ -30,18 +30,9 @@ after-in n [] a h = absurd (clash refl h)
 after-in zero (x ∷ l) a h = inl (sym (some-inj refl h))
 after-in (suc n) (x ∷ l) a h = inr (after-in n l a h)
 
-in-either : {A : Type 0} (l m : List A) (a : A) → a ∈ (l ++ m) → (a ∈ l) ⊎ (a ∈ m)
-in-either [] m a i = inr i
-in-either (x ∷ l) m a (inl e) = inl (inl e)
-in-either (x ∷ l) m a (inr i) = go (in-either l m a i)
-  where
-    go : (a ∈ l) ⊎ (a ∈ m) → ((a ≡ x) ⊎ (a ∈ l)) ⊎ (a ∈ m)
-    go (inl i) = inl (inr i)
-    go (inr i) = inr i
-
 of-task : (t : ℕ) (l : List FinishedCall) (f : FinishedCall) → f ∈ finishedBy t l → (f ∈ l) × (f .call .start .task ≡ t)
 of-task t [] f i = absurd i
-of-task t (x ∷ l) f i = go (in-either (finishedBy t l) (cond (eqb (x .call .start .task) t) (x ∷ []) []) f i) (of-task t l f)
+of-task t (x ∷ l) f i = go (mem-append (finishedBy t l) (cond (eqb (x .call .start .task) t) (x ∷ []) []) f i) (of-task t l f)
   where
     last : (c : Bool) → eqb (x .call .start .task) t ≡ c → f ∈ cond c (x ∷ []) [] → (f ∈ (x ∷ l)) × (f .call .start .task ≡ t)
     last true q (inl e) = (inl e, ap (λ (f : FinishedCall). f .call .start .task) e ∙ eqb-true (x .call .start .task) t q)

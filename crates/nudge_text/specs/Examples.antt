@@ -34,7 +34,7 @@ prints :
     -- does not finish: exchanged, actions 4 and 5 leave the other task in X, and the swap has more than its ten steps to do
     ((1, 0), ("(open 2 1 5 (5))\n(swap 1 0 5 7)\n(step 1)\n(swap 0 0 5 9)\n(again 2 (step 0))\n(again 9 (step 1))\n", "(nudge 4)\n")) ∷
     -- is not begun: no exchange with another task's action has a begin refused, but one before it may leave the same task's call before it
-    -- unfinished, and then it is refused with 9
+    -- pending, and then it is refused with 9
     ((1, 1), ("(open 2 1 5 (5))\n(swap 1 0 5 7)\n(step 1)\n(swap 0 0 5 9)\n(again 2 (step 0))\n(again 9 (step 1))\n(read 1 0)\n(again 3 (step 1))\n", "(nudge 4)\n")) ∷
     -- none: exchanged, action 12 has the read take three steps more, to the same answer; answers are compared, not counts
     ((2, 0), ("(open 3 1 7 (5))\n(swap 1 0 5 7)\n(again 4 (step 1))\n(swap 0 0 5 9)\n(again 3 (step 0))\n(read 2 0)\n(again 3 (step 2))\n(step 0)\n(again 3 (step 2))\n", "(nudge none)\n")) ∷

@@ -1,1 +1,1 @@
-// What a session file is: definitions alone, in specs/.
+// What a session file is, defined in specs/; that a written one is read back is proved in proofs/: theory only.

@@ -115,8 +115,8 @@ fn finish(
     ensures { λ r. ⌜ Appended (now (out .entry)) (now (out .exit)) at r (endText tasks cells (totalsOf z) s (now (pool .entry))) ⌝ }
 {
     let a = put_cells(out, at, s, pool, cells);
-    let unfinished = pending(s, tasks as usize);
-    printing::put_end(out, a, z.finished, unfinished, z.hard)
+    let busy = pending(s, tasks as usize);
+    printing::put_end(out, a, z.finished, busy, z.hard)
 }
 
 // Every action, and what is printed after the last. What is left in pool and records is open: they are the session's own.

@@ -98,15 +98,15 @@ pub fn put_done(out: &mut [u8], at: usize, task: u32, f: Finished) -> usize
     text::put(out, b, b")\n")
 }
 
-pub fn put_end(out: &mut [u8], at: usize, finished: u32, unfinished: u64, hard: u32) -> usize
+pub fn put_end(out: &mut [u8], at: usize, finished: u32, pending: u64, hard: u32) -> usize
     requires { ⌜ at + 90 ≤ length (now out) ⌝ }
-    ensures { λ r. ⌜ Appended (now (out .entry)) (now (out .exit)) at r (endLine finished unfinished hard) ⌝ }
+    ensures { λ r. ⌜ Appended (now (out .entry)) (now (out .exit)) at r (endLine finished pending hard) ⌝ }
 {
     let rate = lisqotay_rate(hard, finished);
     put_line(
         out,
         at,
         b"(end",
-        &[wide(finished), unfinished, wide(hard), rate],
+        &[wide(finished), pending, wide(hard), rate],
     )
 }

@@ -49,7 +49,7 @@ prints :
     ("(open 2 1 5 (5))\n(swap 0 0 5 7)\n(swap 1 0 5 9)\n(again 2 (step 0))\n(again 7 (step 1))\n(again 5 (step 0))\n(again 14 (step 1))\n(again 6 (step 0))\n", "(done 1 swap 0 yes 21 1 2)\n(done 0 swap 0 no 13 1 1)\n(cell 0 9)\n(end 2 0 5 2500)\n") ∷
     -- P10 and a read: a rate that is rounded up
     ("(open 2 1 5 (5))\n(swap 0 0 5 7)\n(swap 1 0 5 9)\n(again 2 (step 0))\n(again 7 (step 1))\n(again 5 (step 0))\n(again 14 (step 1))\n(again 6 (step 0))\n(read 0 0)\n(again 3 (step 0))\n", "(done 1 swap 0 yes 21 1 2)\n(done 0 swap 0 no 13 1 1)\n(done 0 read 0 9 3 0 0)\n(cell 0 9)\n(end 3 0 5 1667)\n") ∷
-    -- a file that is none, a refused action and an unfinished call
+    -- a file that is none, a refused action and a pending call
     ("(open 2 1 5 (5))", "(bad 13)\n") ∷
     ("(open 2 1 5 (5))\n(read 1 0)\n(step 0)\n(step 1)\n", "(no 1 11)\n(cell 0 5)\n(end 0 1 0 0)\n") ∷
     []

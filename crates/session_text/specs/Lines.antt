@@ -35,8 +35,8 @@ eventLine i t (refused n) = noLine i n
 eventLine i t (accepted x) = []
 eventLine i t (answered x r) = doneLine t r
 
-abbrev pub endLine : (finished unfinished hard : ℕ) → List ℕ
-endLine f u h = line (bytes "(end") (f ∷ u ∷ h ∷ rate h f ∷ [])
+abbrev pub endLine : (finished pending hard : ℕ) → List ℕ
+endLine f p h = line (bytes "(end") (f ∷ p ∷ h ∷ rate h f ∷ [])
 
 -- HOW LONG THE LINE OF AN EVENT IS
 

@@ -7,6 +7,7 @@ use Prim.Native.Nat.{ℕ, zero, suc, _+_, _*_, _≤_, _<_}
 use borrow.Author.Tests.{le-leb, eq-eqb}
 use lib.Dec.{eqb}
 use lib.ListN.{length, getD, replicate, length-replicate}
+use Rattle.history.proofs.Basics.{replicate-at}
 use Rattle.lines.specs.Basics.{within, anyFrom}
 use Rattle.lines.specs.Record.{noValue}
 use Rattle.questions.specs.Questions.{refusal, answers, tasksOk, cellsOk, blocksOk, hasNone, openQuestions}
@@ -22,18 +23,13 @@ use Rattle.refinement.proofs.Reaching.{reached-open}
 
 -- ZEROS ARE NOT NONE
 
-zero-at : (m k : ℕ) → getD {A = ℕ} (replicate m 0) k 0 ≡ 0
-zero-at zero k = refl
-zero-at (suc m) zero = refl
-zero-at (suc m) (suc k) = zero-at m k
-
 never : (f : ℕ → Bool) (i k : ℕ) → ((j : ℕ) → f j ≡ false) → anyFrom f i k ≡ false
 never f i zero h = refl
 never f i (suc k) h = rw (h i) (never f (i + 1) k h)
 
 no-none : (m : ℕ) → hasNone (replicate m 0) ≡ false
 unfolding hasNone
-no-none m = never (λ k. eqb (getD (replicate m 0) k 0) noValue) 0 (length {A = ℕ} (replicate m 0)) (λ j. rw (zero-at m j))
+no-none m = never (λ k. eqb (getD (replicate m 0) k 0) noValue) 0 (length {A = ℕ} (replicate m 0)) (λ j. rw (replicate-at {A = ℕ} 0 m j))
 
 -- THE QUESTIONS
 

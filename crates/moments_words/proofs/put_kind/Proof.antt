@@ -4,26 +4,8 @@ use borrow.Author.Tests.{eq-eqb, ne-eqb}
 use Rattle.moments_words.proofs.put_kind.Statement.{statement}
 use Rattle.moments_words.proofs.put_kind.Tie as tie
 
-slice-aggregate-put : tie.Need-slice-aggregate-put
-slice-aggregate-put c = search needs
-
-put-requires : tie.Need-put-requires
-put-requires c κs = search needs
-
-same-length : tie.Need-same-length
-same-length c = search needs
-
 returns : tie.Need-returns
 returns c = (rw (eq-eqb _ _ (c .before .before .before .before .before .if1 .taken)) (c .before .before .put .ensures), omega (arith, c .before .before .put .ensures .stored .next))
-
-slice-aggregate-put-2 : tie.Need-slice-aggregate-put-2
-slice-aggregate-put-2 c = search needs
-
-put-requires-2 : tie.Need-put-requires-2
-put-requires-2 c κs = search needs
-
-same-length-2 : tie.Need-same-length-2
-same-length-2 c = search needs
 
 returns-2 : tie.Need-returns-2
 returns-2 c = (rw (ne-eqb _ _ (c .before .before .before .before .before .if1 .left)) (c .before .before .put2 .ensures), omega (arith, c .before .before .put2 .ensures .stored .next))
@@ -32,11 +14,11 @@ pub put-kind-spec : {M : Type 1} → statement M
 put-kind-spec =
     tie.close
     (tie.spec
-    slice-aggregate-put
-    put-requires
-    same-length
+    (λ c. search needs)
+    (λ c κs. search needs)
+    (λ c. search needs)
     returns
-    slice-aggregate-put-2
-    put-requires-2
-    same-length-2
+    (λ c. search needs)
+    (λ c κs. search needs)
+    (λ c. search needs)
     returns-2)

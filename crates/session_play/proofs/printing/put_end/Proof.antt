@@ -11,7 +11,7 @@ put-line-requires c κs =
     let f = c .before .before .wide .result in
     let h = c .before .wide2 .result in
     let r = c .before .before .before .before .before .lisqotay-rate .result in
-    omega (arith, line-4 (bytes "(end") f a.unfinished h r (omega arith) (omega arith) (omega arith) (omega arith))
+    omega (arith, line-4 (bytes "(end") f a.pending h r (omega arith) (omega arith) (omega arith) (omega arith))
 
 returns : tie.Need-returns
 returns c =
