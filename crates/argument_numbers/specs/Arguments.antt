@@ -6,7 +6,7 @@ use mathlib.Core.List.{List, [], _∷_, _++_}
 use mathlib.Core.Option.{Option, none, some}
 use Prim.Native.Nat.{ℕ}
 use Rattle.text.specs.Bytes.{bytes}
-use Rattle.text.specs.Readers.{Reader, pure, _>>=_, _>>_, literal, digitsAfter, number, several, overwritten, stored}
+use Rattle.text.specs.Readers.{Reader, pure, _>>=_, _>>_, literal, digitsAfter, number, several, stored}
 
 -- a number by question 14's rule, and the byte that ends it
 abbrev pub endedBy : (end : ℕ) → Reader ℕ

@@ -13,7 +13,7 @@ use Rattle.lines.specs.declared.Record.{Record}
 use Rattle.questions.specs.declared.State.{State}
 use Rattle.lines.specs.Basics.{ands}
 use Rattle.lines.specs.Record.{isIdle, recordAt, firstRead, firstSwap}
-use Rattle.questions.specs.Questions.{Question, refusal, answers, recordUses, uses, countsTrue, recordFit, recordsFit, fit, fitTests, beginQuestions, swapQuestions, poolStepQuestions}
+use Rattle.questions.specs.Questions.{refusal, answers, recordUses, uses, countsTrue, recordFit, recordsFit, fit, fitTests, beginQuestions, swapQuestions, poolStepQuestions}
 use Rattle.blocks.specs.Blocks.{unused, isFound}
 use Rattle.history.specs.History.{read, swap, Action, begin, step}
 use Rattle.cells.specs.Answers.{acts}

@@ -7,11 +7,11 @@ use mathlib.Core.List.{List, _∷_}
 use Prim.Native.Nat.{ℕ, _*_, _≤_, _<_}
 use native.Mathlib.Omega.{arith}
 use lib.Dec.{ltb}
-use lib.ListN.{getD, length}
+use lib.ListN.{length}
 use borrow.Author.Tests.{ltb-true, eqb-true}
 use Rattle.lines.specs.declared.Record.{Record}
 use Rattle.questions.specs.declared.State.{State}
-use Rattle.questions.specs.Questions.{Question, refusal, fit, openQuestions, answers}
+use Rattle.questions.specs.Questions.{Question, refusal, fit, openQuestions}
 use Rattle.questions.proofs.Tests.{within-true, blocks-true, yes-at}
 use Rattle.questions.proofs.Fits.{sizes}
 

@@ -24,7 +24,7 @@ use Rattle.figure.proofs.Records.{Pending, OnPath, AllOnPath, Accepted,
 use Rattle.figure_cell.proofs.AsBegun.{cell-of}
 use Rattle.figure.proofs.Tallies.{tally, tallyOf, doing}
 use Rattle.figure_cell.proofs.Classes.{busy, swapping, marking, lies-in, holding, uncontended}
-use Rattle.figure_cell.proofs.Invariant.{none, Knowledge, line}
+use Rattle.figure_cell.proofs.Invariant.{Knowledge, line}
 use Rattle.figure.proofs.Views.{on, on-in, on-it, on-changed, on-elsewhere, view, on-others}
 use Rattle.figure.proofs.Operations.{busy-line, busy-doing, is-unequal}
 use Rattle.figure.proofs.Worlds.{Good, cellAfter, nextAfter, stepAfter, pending-at, was-idle, idle-to, its-cell}

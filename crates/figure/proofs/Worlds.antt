@@ -1,20 +1,20 @@
 -- All cells together: what the proof keeps of them, who is at a line of which cell, and what the next line of a task makes of them.
-use mathlib.Core.Path.{_≡_, refl, sym, ap, subst, _∙_}
+use mathlib.Core.Path.{_≡_, refl, sym, subst, _∙_}
 use mathlib.Core.Logic.{inl, inr}
-use mathlib.Core.Bool.{Bool, true, not, _||_, false, false≢true}
+use mathlib.Core.Bool.{Bool, not, _||_, false≢true}
 use mathlib.Core.Option.{some}
 use mathlib.Core.List.{List}
 use Prim.Native.Nat.{ℕ, _<_}
 use lib.Dec.{T}
 use Rattle.lines.specs.declared.Record.{Record}
 use Rattle.lines.specs.Answers.{Next}
-use Rattle.lines.specs.Record.{idle, first}
+use Rattle.lines.specs.Record.{idle}
 use Rattle.lines.specs.Lines.{Line, lineOf, accessOf, nextOf}
 use Rattle.history.specs.History.{Op, cellOf, read, swap}
 use Rattle.linearizing.proofs.Simulation.{settled, Ghost, Tally}
 use Rattle.figure_cell.specs.Memory.{Cell, accessCell}
 use Rattle.cells.specs.Turn.{recordAfter}
-use Rattle.figure.specs.Figure.{World, withBoth, figure, firstOf}
+use Rattle.figure.specs.Figure.{World, withBoth, firstOf}
 use Rattle.history.proofs.ListTests.{every}
 use Rattle.figure_cell.proofs.LineLaws.{lines}
 use Rattle.figure.proofs.Records.{Pending, AllOnPath, OnPath, Accepted, not-idle}

@@ -17,7 +17,7 @@ use Rattle.history.proofs.Basics.{either, clash, upd-same, upd-off}
 use Rattle.linearizing.proofs.Simulation.{late, Ghost, unplaced, Grown}
 use Rattle.figure.specs.Figure.{World, withTask, opening, figure, firstOf}
 use Rattle.figure_moments.specs.Moments.{Notes, nothingNoted, names, sees}
-use Rattle.figure.proofs.Records.{AllOnPath, OnPath, Accepted, opening-on-path}
+use Rattle.figure.proofs.Records.{AllOnPath, Accepted, opening-on-path}
 use Rattle.figure.proofs.Tallies.{tallyOf}
 use Rattle.figure_cell.proofs.Classes.{busy, stored, lies-in}
 use Rattle.figure_cell.proofs.Invariant.{none, View, Knowledge, line, Inv}

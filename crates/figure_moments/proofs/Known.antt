@@ -1,7 +1,7 @@
 -- What the tasks know by what is noted: every action of the figure keeps the invariant, makes a move of the sequential cells, and answers with a reason.
 use mathlib.Core.Path.{_≡_, refl, sym, ap, subst, _∙_}
 use mathlib.Core.Logic.{_≢_, _⊎_, inl, inr}
-use mathlib.Core.Bool.{true, not}
+use mathlib.Core.Bool.{true}
 use mathlib.Core.Option.{Option, some}
 use mathlib.Core.List.{List}
 use Prim.Native.Nat.{ℕ}
@@ -12,12 +12,11 @@ use Rattle.lines.specs.Lines.{Line, lineOf, accessOf, nextOf}
 use Rattle.history.specs.Basics.{upd}
 use Rattle.history.specs.History.{Op, cellOf, Yes}
 use Rattle.history.specs.Linearization.{reply, apply}
-use Rattle.history.proofs.Basics.{either, upd-at, upd-same, upd-off}
+use Rattle.history.proofs.Basics.{either, upd-at, upd-off}
 use Rattle.linearizing.proofs.Simulation.{Phase, settled, frozen, late, Ghost, Tally, Move, shift, Grown, May}
 use Rattle.figure_cell.specs.Memory.{Cell, accessCell}
 use Rattle.figure.specs.Figure.{World, withBoth, figure}
 use Rattle.figure_moments.specs.Moments.{Notes, noted, names, sees}
-use Rattle.history.proofs.ListTests.{every}
 use Rattle.figure.proofs.Records.{Pending, AllOnPath, cell-there, cell-elsewhere}
 use Rattle.figure_cell.proofs.AsBegun.{cell-of}
 use Rattle.figure.proofs.Tallies.{tally, tallyOf, doing}

@@ -188,7 +188,7 @@ module _ (tasks cells : ℕ) (values : List ℕ) (some-values : (cell : ℕ) →
   pub figure-meets-demand-3 : Meets figure (opening tasks cells values) (clearAfter figure (opening tasks cells values) clear) cells (λ k. getD values k 0)
   figure-meets-demand-3 = meets simulation
 
-  -- The source's linearization points, in their order, are a linearization: of every finished call, and of exactly the listed pending swaps.
+  -- The source's linearization points, in their order, are a linearization: of every finished call, and of the listed pending swaps.
   pub moments-linearize : (actions : List Action) → Linearizes (λ k. getD values k 0) (callsOf (history figure (opening tasks cells values) actions)) (map pointOf (moments tasks cells values actions))
   moments-linearize = marks-linearize simulation
 

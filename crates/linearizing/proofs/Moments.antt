@@ -1,4 +1,4 @@
--- The marks of any machine with a simulation, in their order, are a linearization: of all finished calls and of exactly the listed pending swaps.
+-- The marks of any machine with a simulation, in their order, are a linearization: of all finished calls and of the listed pending swaps.
 use mathlib.Core.Path.{_≡_, refl, sym, ap, _∙_, subst}
 use mathlib.Core.Logic.{_≢_, _⊎_, inl, inr}
 use mathlib.Core.Bool.{Bool, true, false}

@@ -27,7 +27,7 @@ use Rattle.moments_notes.specs.Words.{markWord, insertWord, Listed}
 use Rattle.moments_notes.specs.Notes.{slot, sightIn, holdsWith, sightOf, notesOf, ownOf}
 use Rattle.moments_notes.specs.Loop.{endingSpot, endedWords, EndFits, notedLine, spreads, standWords, StandFits, closing, Closing}
 use Rattle.moments_notes.proofs.Encoding.{none-listed, one-listed}
-use Rattle.moments_notes.proofs.Noting.{zeros-at}
+use Rattle.history.proofs.Basics.{replicate-at}
 use Rattle.moments_play.proofs.Doing.{Steps, Did, refuses, begins, moves, ends, did, AllBegun, begun-next}
 use Rattle.moments_play.proofs.Seeing.{Who, same-noted}
 
@@ -174,7 +174,7 @@ idle-at (suc n) zero = refl
 idle-at (suc n) (suc t) = idle-at n t
 
 no-notes : notesOf 0 (replicate 32 0) (replicate 32 0) (replicate 32 0) (replicate 32 0) (replicate 32 0) (replicate 32 0) ≡ noNotes
-no-notes = λ j. record { now = 0; loaded = λ u. zeros-at 32 u j; stored = λ u. zeros-at 32 u j; storedActive = λ u. eqb (zeros-at 32 u j) 1; inactive = λ u. zeros-at 32 u j; decided = λ u. zeros-at 32 u j; replaced = λ u. zeros-at 32 u j }
+no-notes = λ j. record { now = 0; loaded = λ u. replicate-at {A = ℕ} 0 32 u j; stored = λ u. replicate-at {A = ℕ} 0 32 u j; storedActive = λ u. eqb (replicate-at {A = ℕ} 0 32 u j) 1; inactive = λ u. replicate-at {A = ℕ} 0 32 u j; decided = λ u. replicate-at {A = ℕ} 0 32 u j; replaced = λ u. replicate-at {A = ℕ} 0 32 u j }
 
 pub marks-start : (n : ℕ) (s : State) (p : List ℕ) (l : List Action) → s .records ≡ replicate 32 idle
     → Marking n (left n (s, p) noNotes noCalls [] l) (s, p) (notesOf 0 (replicate 32 0) (replicate 32 0) (replicate 32 0) (replicate 32 0) (replicate 32 0) (replicate 32 0)) [] l

@@ -1,6 +1,6 @@
 -- What the code sees of a task's block before a step that is done is what the definition sees; so it notes the same.
 use mathlib.Core.Path.{_≡_, refl}
-use mathlib.Core.Bool.{Bool, true, false, _&&_, _||_, cond, false≢true}
+use mathlib.Core.Bool.{Bool, true, false, _&&_, _||_, cond, false≢true, or-true}
 use mathlib.Core.List.{List}
 use Prim.Native.Nat.{ℕ, suc, _≤_, _<_}
 use native.Mathlib.Omega.{arith}
@@ -24,13 +24,6 @@ first-true false b e = absurd (false≢true e)
 second-true : (a b : Bool) → (a && b) ≡ true → b ≡ true
 second-true true b e = e
 second-true false b e = absurd (false≢true e)
-
-or-first : (a b : Bool) → a ≡ true → (a || b) ≡ true
-or-first a b e = rw e
-
-or-second : (a b : Bool) → b ≡ true → (a || b) ≡ true
-or-second true b e = refl
-or-second false b e = e
 
 module _ (s : State) (p : List ℕ) (t : ℕ) where
   abbrev r : Record
@@ -75,9 +68,9 @@ module _ (s : State) (p : List ℕ) (t : ℕ) where
 
     pub same-noted : (o : Notes) → noted o t (sightOf (r .line) idle x w) ≡ noted o t (seesPool (s, p) t)
     same-noted o =
-        let g27 = guard at27 (λ e. or-second at2 (at27 || at30) (or-first at27 at30 e)) (held (eqb (r .line) 27) _) in
-        let g2 = guard at2 (λ e. or-first at2 (at27 || at30) e) (held (eqb (r .line) 2) _) in
-        let g30 = guard at30 (λ e. or-second at2 (at27 || at30) (or-second at27 at30 e)) (held (eqb (r .line) 30) _) in
+        let g27 = guard at27 (λ e. rw e (or-true at2)) (held (eqb (r .line) 27) _) in
+        let g2 = guard at2 (λ e. rw e) (held (eqb (r .line) 2) _) in
+        let g30 = guard at30 (λ e. rw (e, or-true at27) (or-true at2)) (held (eqb (r .line) 30) _) in
         let y = noted o t (seesPool (s, p) t) in
         λ j. record {
           now = suc (o .now);

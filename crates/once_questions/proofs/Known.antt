@@ -6,9 +6,8 @@ use mathlib.Core.List.{List, [], _∷_}
 use Prim.Native.Nat.{ℕ, _<_}
 use native.Mathlib.Omega.{arith}
 use lib.Dec.{ltb}
-use lib.ListN.{getD}
 use borrow.Author.Tests.{ltb-true}
-use Rattle.questions.specs.Questions.{Question, refusal, answers}
+use Rattle.questions.specs.Questions.{Question, refusal}
 use Rattle.questions.proofs.Tests.{yes-at}
 use Rattle.consensus.specs.declared.OnceState.{OnceState}
 use Rattle.consensus.specs.Questions.{onceFit}

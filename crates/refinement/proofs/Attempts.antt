@@ -1,12 +1,9 @@
 -- Of an accepted step, in any state: its hardware CAS is won or lost by the memory before it.
 use mathlib.Core.Path.{_≡_, refl}
-use mathlib.Core.Bool.{Bool, true, false, cond}
 use mathlib.Core.Option.{none}
 use mathlib.Core.List.{List}
 use Prim.Native.Nat.{ℕ}
-use lib.Dec.{eqb}
-use Rattle.lines.specs.declared.Field.the-variants.{D}
-use Rattle.lines.specs.Record.{noValue, recordAt}
+use Rattle.lines.specs.Record.{recordAt}
 use Rattle.questions.specs.declared.State.{State}
 use Rattle.questions.specs.Questions.{refusal}
 use Rattle.pool.specs.Pool.{word}

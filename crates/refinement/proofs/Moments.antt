@@ -182,7 +182,7 @@ module _ (old : State) (words : List ℕ) (tasks cells blocks : ℕ) (values : L
   same-moments = ap sort (same-marks actions (start old words tasks cells blocks values) (opening tasks cells values) noNotes noNotes (together old words tasks cells blocks values allowed) (λ u m. refl) noCalls [])
 
   -- The source's linearization points, beside the pool and in their order, are a linearization of the cells' calls: of every finished call,
-  -- and of exactly the listed pending swaps.
+  -- and of the listed pending swaps.
   pub cell-moments-linearize : Linearizes (λ k. getD values k 0) (callsOf (history pool (start old words tasks cells blocks values) actions)) (map pointOf (poolMoments tasks (start old words tasks cells blocks values) actions))
   cell-moments-linearize = subst (λ (m : List Mark). Linearizes (λ k. getD values k 0) (callsOf (history pool (start old words tasks cells blocks values) actions)) (map pointOf m)) (sym same-moments)
       (subst (λ (h : List (Action × Event)). Linearizes (λ k. getD values k 0) (callsOf h) (map pointOf (moments tasks cells values actions))) (sym (same-history old words tasks cells blocks values allowed actions)) (moments-linearize tasks cells values (starting-values old words tasks cells blocks values allowed) actions))

@@ -2,7 +2,7 @@
 use mathlib.Core.Path.{_≡_, refl, sym, ap, subst, _∙_}
 use mathlib.Core.Logic.{_≢_, _⊎_, inl, inr}
 use mathlib.Core.Bool.{Bool, true, false}
-use mathlib.Core.Option.{Option, none, some}
+use mathlib.Core.Option.{Option, none}
 use mathlib.Core.List.{List, []}
 use Prim.Native.Nat.{ℕ, _<_}
 use native.Mathlib.Omega.{arith}
@@ -12,10 +12,8 @@ use lib.Seq.{getD-set-same}
 use Rattle.lines.specs.declared.Record.{Record}
 use Rattle.questions.specs.declared.State.{State}
 use Rattle.lines.specs.declared.Access.{Access}
-use Rattle.lines.specs.declared.Access.the-variants.{LoadCell, Load, Store, DecideCas, InstallCas, Allocate, Nothing}
-use Rattle.lines.specs.declared.Field.the-variants.{X, D}
-use Rattle.lines.specs.Record.{noValue, recordAt}
-use Rattle.pool.specs.Pool.{word, setWord}
+use Rattle.lines.specs.declared.Field.the-variants.{X}
+use Rattle.lines.specs.Record.{recordAt}
 use Rattle.lines.specs.Lines.{l30, lineOf, accessAt, nextAt, found, counted}
 use Rattle.questions.proofs.Numbers.{number}
 use Rattle.blocks.specs.Blocks.{unused}

@@ -10,7 +10,7 @@ use Rattle.text.specs.Lines.{numbers as spaced}
 use Rattle.text.specs.Readers.{literal, digitsAfter, number, several}
 use Rattle.history.specs.History.{read, swap, Action, begin, step}
 use Rattle.session_shape.specs.Shape.{fits, deeper, shapedAfter}
-use Rattle.session_file.specs.Session.{Form, act, again, empty, with, Verdict, bad, session, short, severalItems, manyWithin, values, readOpening, keyword, head, body, form, readLine, count, times, actions, formed, asked15, asked14, verdict}
+use Rattle.session_file.specs.Session.{Form, act, again, empty, with, Verdict, bad, session, short, manyWithin, values, readOpening, keyword, head, body, form, readLine, count, times, actions, formed, asked15, asked14, verdict}
 use Rattle.session_file.specs.Written.{written, writtenValues, openingLine, formLines, fileText}
 
 -- P1: its opening and 15 actions

@@ -12,7 +12,8 @@ use Rattle.lines.specs.declared.Record.{Record}
 use Rattle.lines.specs.Record.{recordAt}
 use Rattle.pool.specs.Words.{recordsOf}
 use Rattle.moments_notes.specs.Notes.{holdsWith}
-use Rattle.moments_notes.proofs.Noting.{Spread, spread-start, spread-yes, spread-no, spread-below, is-flag, zeros-at, none-noted, asked-noted}
+use Rattle.history.proofs.Basics.{replicate-at}
+use Rattle.moments_notes.proofs.Noting.{Spread, spread-start, spread-yes, spread-no, spread-below, is-flag, none-noted, asked-noted}
 use Rattle.moments_notes.proofs.notes.holders.Statement.{statement}
 use Rattle.moments_notes.proofs.notes.holders.Tie as tie
 
@@ -26,7 +27,7 @@ abbrev μ-loop : tie.MeasureT-loop
 μ-loop records r asked w₀ u₀ w u = 32 - u
 
 returns : tie.Need-returns Inv-loop μ-loop
-returns c = let a = c .before .before .args in (λ e. absurd (false≢true (sym (not-true _ (c .if1 .taken)) ∙ e)), (refl, λ u h. zeros-at 32 u ∙ none-noted a.asked (held a.records.now a.r u) 1 0 (not-true _ (c .if1 .taken))))
+returns c = let a = c .before .before .args in (λ e. absurd (false≢true (sym (not-true _ (c .if1 .taken)) ∙ e)), (refl, λ u h. replicate-at {A = ℕ} 0 32 u ∙ none-noted a.asked (held a.records.now a.r u) 1 0 (not-true _ (c .if1 .taken))))
 
 loop-again : tie.Need-loop-again Inv-loop μ-loop
 loop-again c =
@@ -38,7 +39,7 @@ returns-2 : tie.Need-returns-2 Inv-loop μ-loop
 returns-2 c =
     let l = c .before .loop in
     let a = c .before .before .before .before .args in
-    (λ e u h. ap (λ (n : ℕ). eqb n 1) (spread-below (l .inv .0) u (omega (arith, h, c .loop-test .left)) ∙ ap (λ (z : ℕ). cond (held a.records.now a.r u) 1 z) (zeros-at 32 u)) ∙ is-flag (held a.records.now a.r u), (l .inv .0 .same ∙ refl, λ u h. spread-below (l .inv .0) u (omega (arith, h, c .loop-test .left)) ∙ ap (λ (z : ℕ). cond (held a.records.now a.r u) 1 z) (zeros-at 32 u) ∙ asked-noted a.asked (held a.records.now a.r u) 1 0 (c .before .before .if1 .left)))
+    (λ e u h. ap (λ (n : ℕ). eqb n 1) (spread-below (l .inv .0) u (omega (arith, h, c .loop-test .left)) ∙ ap (λ (z : ℕ). cond (held a.records.now a.r u) 1 z) (replicate-at {A = ℕ} 0 32 u)) ∙ is-flag (held a.records.now a.r u), (l .inv .0 .same ∙ refl, λ u h. spread-below (l .inv .0) u (omega (arith, h, c .loop-test .left)) ∙ ap (λ (z : ℕ). cond (held a.records.now a.r u) 1 z) (replicate-at {A = ℕ} 0 32 u) ∙ asked-noted a.asked (held a.records.now a.r u) 1 0 (c .before .before .if1 .left)))
 
 pub holders-spec : {M : Type 1} → statement M
 holders-spec =
