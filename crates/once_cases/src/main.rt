@@ -247,8 +247,8 @@ fn play_part(s: &[u8], line: &mut [u8], before: SoFar, kept: usize) -> Played
 }
 
 // A last line may have no end, and is then no form.
-fn end_input(p: SoFar, line: &[u8]) {
-    if line.len() > 0 {
+fn end_input(p: SoFar, held: usize) {
+    if held > 0 {
         play(p, bad());
     }
 }
@@ -270,7 +270,7 @@ fn run(fd: i32, name: &[u8]) {
             return;
         }
         if n < buf.len() {
-            end_input(p, &line[..held]);
+            end_input(p, held);
             return;
         }
         parts -= 1;

@@ -1,9 +1,7 @@
-use lib.Seq.{length-take-le}
-use mathlib.Core.Path.{_≡_, sym}
+use mathlib.Core.Path.{_≡_}
 use Prim.Native.Nat.{_≤_, _-_}
 use lib.ListN.{length}
 use borrow.Author.Needs.{needs}
-use native.Mathlib.Omega.{arith}
 use Rattle.once_cases.proofs.run.Statement.{statement}
 use Rattle.once_cases.proofs.run.Tie as tie
 
@@ -12,9 +10,6 @@ Inv-loop fd name buf₀ line₀ p₀ held₀ parts₀ buf line p held parts = (h
 
 abbrev μ-loop : tie.MeasureT-loop
 μ-loop fd name buf₀ line₀ p₀ held₀ parts₀ buf line p held parts = parts
-
-slice-aggregate-end-input : tie.Need-slice-aggregate-end-input Inv-loop μ-loop
-slice-aggregate-end-input c = sym (length-take-le _ _ (omega arith))
 
 pub run-spec : {M : Type 1} → statement M
 run-spec =
@@ -32,8 +27,6 @@ run-spec =
     (λ c. search needs)
     (λ c κs. search needs)
     (λ c. search needs)
-    (λ c. search needs)
-    slice-aggregate-end-input
     (λ c κs. search needs)
     (λ c. search needs)
     (λ c. search needs)
