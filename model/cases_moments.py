@@ -5,7 +5,7 @@ import cells
 import draw
 import shaker
 from cases_attempts import inactive, to_23
-from cases_calls import P1, P9, P10, PLACES, REACH, path_scripts
+from cases_calls import PLACES, REACH, path_scripts
 from cases_refusals import padded
 from script import Script, contend, turn_blocks
 
@@ -28,25 +28,6 @@ THREES = [
 
 
 # ----------------------------------------------------- finished, by each rule
-
-def paper_cases(cases):
-    cases.accepted("p1", P1)
-    cases.accepted("p2_n_32", ["(open 32 1 65 (5))"])
-    cases.refused("p2_n_33", ["(open 33 1 67 (5))"], 1)
-    cases.accepted("p3_b_4", ["(open 2 1 4 (5))"])
-    cases.refused("p3_b_3", ["(open 2 1 3 (5))"], 3)
-    cases.accepted("p4_most", ["(open 2 1 5 (4294967294))"])
-    cases.refused("p4_none", ["(open 2 1 5 (4294967295))"], 5)
-    cases.accepted("p5", ["(open 2 1 5 (5))", "(swap 0 0 5 5)",
-                          "(again 3 (step 0))"])
-    cases.accepted("p6", ["(open 2 1 5 (5))", "(swap 0 0 4 6)",
-                          "(again 8 (step 0))"])
-    cases.refused("p7", ["(open 2 1 5 (5))", "(step 0)"], 11)
-    cases.refused("p8", ["(open 2 1 5 (5))", "(read 2 1)",
-                         "(swap 2 1 5 7)"], 7, 7)
-    cases.accepted("p9", P9)
-    cases.accepted("p10", P10)
-
 
 def path_cases(cases):
     """Each of the table's paths; then the other task's call is run out."""

@@ -10,10 +10,11 @@ from collections import Counter
 import cells
 import make_cases
 import moments
+from cases_calls import paper_cases
 from cases_moments import (again_cases, drawn_cases, early_cases, halt_cases,
-                           lives_cases, long_cases, observer_cases,
-                           paper_cases, path_cases, refusal_cases,
-                           shared_cases, store_cases, unfinished_cases)
+                           lives_cases, long_cases, observer_cases, path_cases,
+                           refusal_cases, shared_cases, store_cases,
+                           unfinished_cases)
 
 # The kept sessions stay below this many bytes, and so does what one prints.
 MOST_DATA = 400000
