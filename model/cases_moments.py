@@ -5,7 +5,7 @@ import cells
 import draw
 import shaker
 from cases_attempts import inactive, to_23
-from cases_calls import PLACES, REACH, path_scripts
+from cases_calls import P1, P9, P10, PLACES, REACH, path_scripts
 from cases_refusals import padded
 from script import Script, contend, turn_blocks
 
