@@ -3,9 +3,8 @@ use mathlib.Core.Path.{_≡_, refl, sym, ap, _∙_}
 use mathlib.Core.List.{List, [], _∷_, _++_, append-assoc}
 use Prim.Native.Nat.{ℕ, zero, suc, _+_, _-_, _*_, _≤_, _<_}
 use native.Mathlib.Omega.{arith}
-use native.Mathlib.Numerals.{add-one}
-use lib.ListN.{length, take, drop, set, getD, replicate, length-append, length-drop, length-replicate}
-use lib.Seq.{length-take-le, take-at, drop-at, take-add, drop-drop, take-all, take-suc, take-suc-set}
+use lib.ListN.{length, take, drop, set, replicate, length-append, length-drop, length-replicate}
+use lib.Seq.{length-take-le, take-at, drop-at, take-add, drop-drop, take-all}
 use Rattle.lines.specs.declared.Record.{Record}
 use Rattle.lines.specs.Record.{idle, recordAt}
 use Rattle.pool.specs.Words.{recordOf, recordsOf}
@@ -65,10 +64,6 @@ records-length (suc n) w = ap suc (records-length n (drop 12 w))
 pub same-size : (w ys : List ℕ) (a e : ℕ) → a ≤ e → e ≤ length w → length ys ≡ e - a → length (take a w ++ (ys ++ drop (e - a) (drop a w))) ≡ length w
 same-size w ys a e h k l =
     omega (arith, length-append (take a w) (ys ++ drop (e - a) (drop a w)), length-append ys (drop (e - a) (drop a w)), length-take-le a w (omega arith), length-drop (e - a) (drop a w), length-drop a w)
-
--- copied one by one
-pub one-more : {A : Type 0} (d : A) (l m : List A) (t : ℕ) (x : A) → t < length l → t < length m → take t l ≡ take t m → x ≡ getD m t d → take (t + 1) (set l t x) ≡ take (t + 1) m
-one-more {A} d l m t x h k e f = rw add-one (take-suc-set l t x h ∙ ap (λ (y : List A). y ++ (x ∷ [])) e ∙ ap (λ (y : A). take t m ++ (y ∷ [])) f ∙ sym (take-suc m t d k))
 
 pub all-copied : {A : Type 0} (l m : List A) (t : ℕ) → length l ≤ t → length m ≤ t → take t l ≡ take t m → l ≡ m
 all-copied l m t h k e = sym (take-all t l h) ∙ e ∙ take-all t m k

@@ -7,7 +7,8 @@ use Rattle.lines.specs.declared.Record.{Record}
 use Rattle.lines.specs.Record.{idle}
 use Rattle.pool.specs.Words.{recordsOf}
 use Rattle.questions.specs.declared.State.{State}
-use Rattle.places.proofs.Placing.{records-length, one-more, all-copied}
+use Rattle.buffers.proofs.Copied.{one-more}
+use Rattle.places.proofs.Placing.{records-length, all-copied}
 use borrow.Author.Needs.{needs}
 use Rattle.machine.proofs.whole.with_records.Statement.{statement}
 use Rattle.machine.proofs.whole.with_records.Tie as tie

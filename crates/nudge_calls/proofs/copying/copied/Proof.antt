@@ -5,7 +5,7 @@ use native.Mathlib.Omega.{arith}
 use lib.ListN.{length, take, drop, set, replicate, length-set}
 use lib.Seq.{take-all, drop-set-lt, drop-drop}
 use borrow.Author.Needs.{needs}
-use Rattle.places.proofs.Placing.{one-more}
+use Rattle.buffers.proofs.Copied.{one-more}
 use Rattle.nudge_calls.proofs.copying.copied.Statement.{statement}
 use Rattle.nudge_calls.proofs.copying.copied.Tie as tie
 
