@@ -2,9 +2,9 @@
 """What the program cells_cases must print: entries handed wrong numbers, unfit
 states and pools of another length.
 
-    python3 model/cells_cases.py < crates/cells_cases/stdin
+    python3 model/cells_cases.py < crates/test_cells/stdin
 
-writes crates/cells_cases/stdout.  Each line of the input is a case: a letter
+writes crates/test_cells/stdout.  Each line of the input is a case: a letter
 and a number for each word that is not as in the plain case, a colon and the
 case's name.  A case with x prints `NAME N`, what open answers.  The others
 print `NAME R S T no N` or `NAME R S T shows V`: what begin a read, begin a

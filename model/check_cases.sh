@@ -1,7 +1,7 @@
 #!/bin/sh
 # Makes the cases of the tools on sessions and of the once-only cells anew from the
-# model and compares them with the ones kept in crates/tool_cases and
-# crates/once_cases, and likewise what crates/cells_cases, crates/bench_cells and the
+# model and compares them with the ones kept in crates/test_tools and
+# crates/test_once, and likewise what crates/test_cells, crates/bench_cells and the
 # programs shake, session, moments, nudge and bus print and the pairs in examples/c.
 # Ends with 1, naming the first difference, if data, args, a stdin, a stdout or
 # the pairs differ.
@@ -42,8 +42,8 @@ compare() {
     fi
 }
 
-compare make_tool_cases.py tool_cases
-compare make_once_cases.py once_cases
+compare make_tool_cases.py test_tools
+compare make_once_cases.py test_once
 
 # printed MODEL CRATE: what CRATE keeps as printed for its stored arguments and
 # standard input
@@ -76,11 +76,11 @@ fi
 
 # what the entries answer to wrong numbers and unfit states
 made=$all/cells
-kept=$here/../crates/cells_cases
+kept=$here/../crates/test_cells
 python3 -B "$here/cells_cases.py" <"$kept/stdin" >"$made" || exit 1
 if ! cmp -s "$made" "$kept/stdout"; then
     if [ ! -f "$kept/stdout" ]; then
-        echo "check_cases: there is no stdout of cells_cases"
+        echo "check_cases: there is no stdout of test_cells"
         exit 1
     fi
     # the first line after those that are the same
@@ -88,7 +88,7 @@ if ! cmp -s "$made" "$kept/stdout"; then
                 same == n || made[same + 1] != $0 { exit }
                 { same++ }
                 END { print same + 1 }' "$made" "$kept/stdout")
-    echo "check_cases: stdout of cells_cases differs at line $line"
+    echo "check_cases: stdout of test_cells differs at line $line"
     echo "  model: $(sed -n "${line}p" "$made")"
     echo "  kept:  $(sed -n "${line}p" "$kept/stdout")"
     exit 1

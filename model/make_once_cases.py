@@ -2,7 +2,7 @@
 """Writes the cases of the once-only cells: inputs, their names and what the
 model prints.
 
-    make_once_cases.py [FOLDER]    (FOLDER is ../crates/once_cases if left out)
+    make_once_cases.py [FOLDER]    (FOLDER is ../crates/test_once if left out)
 
 The layout is make_cases.py's; standard input has the eleven paths.  An input with a good end holds several lists,
 one after another; each bad line has an input of its own, since nothing is
@@ -653,7 +653,7 @@ def make():
 
 def main():
     cases = make()
-    make_cases.main(cases, "once_cases")
+    make_cases.main(cases, "test_once")
     print("%d lists, %d finished calls, %d refusals" % (
         cases.seen.lists, len(cases.seen.calls),
         sum(cases.seen.refusals.values())))

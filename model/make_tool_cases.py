@@ -2,7 +2,7 @@
 """Writes the cases of the tools on sessions: files, their names and what the
 model prints.
 
-    make_tool_cases.py [FOLDER]    (FOLDER is ../crates/tool_cases if left out)
+    make_tool_cases.py [FOLDER]    (FOLDER is ../crates/test_tools if left out)
 
 The layout is make_cases.py's; each tool's cases stand in a folder of data, and
 their names begin with it.  Everything is the same on every run.
@@ -69,7 +69,7 @@ def make():
 
 def main():
     cases, said = make()
-    make_cases.main(cases, "tool_cases")
+    make_cases.main(cases, "test_tools")
     print("\n".join(said))
 
 

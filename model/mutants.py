@@ -486,7 +486,7 @@ WIDE_MISREADINGS = [
 ]
 
 # The same of questions 6 and 20, which no session breaks: each must print
-# something else for a line of crates/cells_cases/stdin.
+# something else for a line of crates/test_cells/stdin.
 FIT = "open_refusal(self.n, self.v, self.b, self.pool, None)"
 UNFIT_LINE = "elif record.line not in lines:"
 HELD = "if record.holds_a_block and record.held >= self.b:"
@@ -981,7 +981,7 @@ def main():
     resource.setrlimit(resource.RLIMIT_AS, (1 << 30, 1 << 30))
     cases = make_cases.make()
     sessions = by_size(cases.files)
-    with open(os.path.join(HERE, "../crates/cells_cases/stdin")) as file:
+    with open(os.path.join(HERE, "../crates/test_cells/stdin")) as file:
         lines = {line: line for line in file.read().splitlines()}
     answers = {line: cells_cases.run(line) for line in lines}
 

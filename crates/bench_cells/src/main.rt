@@ -1,11 +1,11 @@
 // Steps 32 tasks on 16 cells 60,000 times by a fixed random schedule, and prints one line of totals. bench/cells has the
 // same loop in plain Rust.
-use cells::Outcome;
+use cells::opening_state::open_state;
+use cells_spec::Outcome;
+use cells_spec::State;
+use figure_lines::Answer;
+use figure_lines::Finished;
 use libc::STDOUT_FILENO;
-use lines::Answer;
-use lines::Finished;
-use opening_state::open_state;
-use questions::State;
 use std::num::wrapping_add_u32;
 
 struct LoopTotals {
@@ -81,7 +81,7 @@ fn begin(s: State, pool: &[u32], task: u32, start: u32, t: LoopTotals) -> Round 
     let second = next_seed(first);
     let cell = second / 65536 % 16;
     if first / 65536 % 2 == 0 {
-        let reply = entries::begin_read(s, pool, task, cell);
+        let reply = cells::begin_read(s, pool, task, cell);
         let outcome = reply.outcome;
         let state = reply.state;
         return Round {
@@ -92,7 +92,7 @@ fn begin(s: State, pool: &[u32], task: u32, start: u32, t: LoopTotals) -> Round 
     }
     let third = next_seed(second);
     let fourth = next_seed(third);
-    let reply = entries::begin_swap(s, pool, task, cell, third / 65536 % 4, fourth / 65536 % 4);
+    let reply = cells::begin_swap(s, pool, task, cell, third / 65536 % 4, fourth / 65536 % 4);
     let outcome = reply.outcome;
     let state = reply.state;
     Round {
@@ -111,7 +111,7 @@ fn turn(s: State, pool: &mut [u32], start: u32, t: LoopTotals) -> Round {
     if r.line == 0 {
         return begin(s, pool, task, seed, t);
     }
-    let reply = entries::step(s, pool, task);
+    let reply = cells::step(s, pool, task);
     let outcome = reply.outcome;
     let state = reply.state;
     Round {
@@ -133,7 +133,7 @@ fn run(pool: &mut [u32], first: Round) -> LoopTotals {
 
 fn main() {
     let mut pool = [0u32; 400];
-    let opened = entries::open(open_state(1, 1, 3), &mut pool, 32, 16, 80, &[0; 16]);
+    let opened = cells::open(open_state(1, 1, 3), &mut pool, 32, 16, 80, &[0; 16]);
     let state = opened.state;
     let none = LoopTotals {
         finished: 0,

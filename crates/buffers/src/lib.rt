@@ -1,4 +1,7 @@
 // What every tool on a session needs room for.
+pub mod clearing;
+pub mod copying;
+
 ghost use mathlib.Core.Path.{_≡_};
 ghost use lib.ListN.{length, replicate};
 ghost use Rattle.buffers.specs.Space.{zeros};

@@ -8,9 +8,9 @@ use libc::STDOUT_FILENO;
 fn main() {
     let mut n = [0u32; 6];
     let mut line = io::buffer();
-    let given = arguments::gather(&mut line);
+    let given = program_io::arguments::gather(&mut line);
     let length = given.count;
-    if !arguments::take(
+    if !program_io::arguments::take(
         &line[..length],
         given.whole,
         &mut n,
@@ -20,14 +20,18 @@ fn main() {
         return;
     }
     let mut file = file_space();
-    let read = report::read_all(STDIN_FILENO, &mut file, b"bus: cannot read standard input");
+    let read = program_io::report::read_all(
+        STDIN_FILENO,
+        &mut file,
+        b"bus: cannot read standard input",
+    );
     if !read.whole {
         return;
     }
     let count = read.count;
     let mut out = lines_space();
-    let end = bus_runner::run_bus(n[0], n[1], n[2], n[3], n[4], n[5], &file[..count], &mut out);
-    report::write_all(
+    let end = bus_tool::run_bus(n[0], n[1], n[2], n[3], n[4], n[5], &file[..count], &mut out);
+    program_io::report::write_all(
         STDOUT_FILENO,
         &out[..end],
         b"bus: cannot write standard output",

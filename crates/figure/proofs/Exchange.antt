@@ -3,16 +3,16 @@ use mathlib.Core.Path.{_≡_, refl, sym, ap, ap₂, _∙_, subst, fun-ext}
 use mathlib.Core.Logic.{_≢_, _⊎_, inl, inr}
 use mathlib.Core.Option.{Option, none, some}
 use Prim.Native.Nat.{ℕ}
-use Rattle.lines.specs.declared.Record.{Record}
-use Rattle.lines.specs.Answers.{Next}
-use Rattle.lines.specs.Lines.{accessOf, nextOf}
-use Rattle.questions.specs.Questions.{refusal, beginQuestions, swapQuestions, stepQuestions}
-use Rattle.cells.specs.Answers.{Acted}
-use Rattle.cells.specs.Events.{eventOf, tried}
-use Rattle.history.specs.History.{Op, read, swap, Action, begin, step, taskOf, Event, untried}
-use Rattle.history.proofs.Basics.{either, upd-same, upd-off, clash, some-inj}
+use Rattle.figure_lines.specs.declared.Record.{Record}
+use Rattle.figure_lines.specs.Answers.{Next}
+use Rattle.figure_lines.specs.Lines.{accessOf, nextOf}
+use Rattle.cells_spec.specs.Questions.{refusal, beginQuestions, swapQuestions, stepQuestions}
+use Rattle.cells_spec.specs.Answers.{Acted}
+use Rattle.cells_spec.specs.Events.{eventOf, tried}
+use Rattle.history_spec.specs.History.{Op, read, swap, Action, begin, step, taskOf, Event, untried}
+use Rattle.history_spec.proofs.Basics.{either, upd-same, upd-off, clash, some-inj}
 use Rattle.figure_cell.specs.Memory.{Cell, accessCell}
-use Rattle.cells.specs.Turn.{recordAfter, outcomeOf}
+use Rattle.cells_spec.specs.Turn.{recordAfter, outcomeOf}
 use Rattle.figure.specs.Figure.{World, worldAfter, withTask, unlessRefused, firstOf, figureRan, figureStepped, figureBegun, triedIn, figure}
 use Rattle.figure.specs.Exchange.{ifAccepted, touches, Apart}
 use Rattle.figure.proofs.Records.{cell-at, cell-elsewhere}

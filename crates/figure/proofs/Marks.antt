@@ -5,16 +5,16 @@ use Prim.Native.Nat.{ℕ}
 use native.Mathlib.Omega.{arith}
 use lib.Dec.{eqb, T}
 use borrow.Author.Tests.{eqb-false}
-use Rattle.cells.specs.Turn.{recordAfter}
-use Rattle.lines.specs.declared.Record.{Record}
-use Rattle.lines.specs.declared.Field.the-variants.{Y, C, D}
-use Rattle.lines.specs.Answers.{Next}
-use Rattle.lines.specs.Record.{noValue}
-use Rattle.lines.specs.Lines.{for13, for25, for28, Line, l1, l2, l3, l4, l5, l6, l7, l8, l10, l11, l12, l15, l16, l17, l18, l19, l20, l21, l22, l23, l24, l26, l27, l30, nowhere, lineOf, accessAt, attempt, counted, nextAt}
-use Rattle.history.specs.Basics.{upd}
-use Rattle.history.proofs.Basics.{either, upd-same, upd-off, upd-cases}
+use Rattle.cells_spec.specs.Turn.{recordAfter}
+use Rattle.figure_lines.specs.declared.Record.{Record}
+use Rattle.figure_lines.specs.declared.Field.the-variants.{Y, C, D}
+use Rattle.figure_lines.specs.Answers.{Next}
+use Rattle.figure_lines.specs.Record.{noValue}
+use Rattle.figure_lines.specs.Lines.{for13, for25, for28, Line, l1, l2, l3, l4, l5, l6, l7, l8, l10, l11, l12, l15, l16, l17, l18, l19, l20, l21, l22, l23, l24, l26, l27, l30, nowhere, lineOf, accessAt, attempt, counted, nextAt}
+use Rattle.history_spec.specs.Basics.{upd}
+use Rattle.history_spec.proofs.Basics.{either, upd-same, upd-off, upd-cases}
 use Rattle.figure_cell.specs.Memory.{Cell, store, install, Accessed, accessed, accessCell}
-use Rattle.history.proofs.ListTests.{by-test}
+use Rattle.history_spec.proofs.ListTests.{by-test}
 use Rattle.figure_cell.proofs.Classes.{busy, contended, taking, marking}
 use Rattle.figure_cell.proofs.Invariant.{View, Knowledge, Inv, line, held}
 use Rattle.figure_cell.proofs.Frame.{was}

@@ -6,14 +6,14 @@ use mathlib.Core.Option.{some}
 use Prim.Native.Nat.{ℕ}
 use lib.Dec.{eqb, T}
 use borrow.Author.Tests.{eqb-true, eq-eqb, ne-eqb}
-use Rattle.lines.specs.declared.Record.{Record}
-use Rattle.lines.specs.Record.{isIdle, opOf}
-use Rattle.lines.specs.Lines.{lineAt, lineOf, readAnswer}
-use Rattle.questions.specs.Questions.{ofKind, reads, swaps, lineFit}
-use Rattle.history.specs.History.{Op, cellOf, Yes, No}
-use Rattle.history.specs.Linearization.{reply, valueLeft, apply}
-use Rattle.history.specs.Demand3.{Unequal}
-use Rattle.history.proofs.ListTests.{imp}
+use Rattle.figure_lines.specs.declared.Record.{Record}
+use Rattle.figure_lines.specs.Record.{isIdle, opOf}
+use Rattle.figure_lines.specs.Lines.{lineAt, lineOf, readAnswer}
+use Rattle.cells_spec.specs.Questions.{ofKind, reads, swaps, lineFit}
+use Rattle.history_spec.specs.History.{Op, cellOf, Yes, No}
+use Rattle.history_spec.specs.Linearization.{reply, valueLeft, apply}
+use Rattle.history_spec.specs.Demand3.{Unequal}
+use Rattle.history_spec.proofs.ListTests.{imp}
 use Rattle.figure_cell.proofs.LineLaws.{every-line}
 use Rattle.figure_cell.proofs.AsBegun.{swap-op, Reads, read-op}
 use Rattle.figure.proofs.Tallies.{tally, tallyOf}

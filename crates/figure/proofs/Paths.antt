@@ -5,20 +5,20 @@ use mathlib.Core.Bool.{cond}
 use mathlib.Core.List.{List, [], _∷_, _++_}
 use Prim.Native.Nat.{ℕ, _<_}
 use lib.Dec.{eqb, eqb→eq}
-use Rattle.lines.specs.declared.Record.{Record}
-use Rattle.lines.specs.Answers.{Next, Go, Done}
-use Rattle.lines.specs.Lines.{Line, for13, for25, for28, l2, l3, l30, nowhere, lineOf, accessAt, accessOf, counted, nextOf, hardware}
-use Rattle.lines.specs.Record.{firstSwap}
-use Rattle.history.specs.Basics.{_∈_}
-use Rattle.history.specs.History.{Op, Action, begin, step, untried, No}
+use Rattle.figure_lines.specs.declared.Record.{Record}
+use Rattle.figure_lines.specs.Answers.{Next, Go, Done}
+use Rattle.figure_lines.specs.Lines.{Line, for13, for25, for28, l2, l3, l30, nowhere, lineOf, accessAt, accessOf, counted, nextOf, hardware}
+use Rattle.figure_lines.specs.Record.{firstSwap}
+use Rattle.history_spec.specs.Basics.{_∈_}
+use Rattle.history_spec.specs.History.{Op, Action, begin, step, untried, No}
 use Rattle.figure_cell.specs.Memory.{accessCell}
-use Rattle.cells.specs.Turn.{outcomeOf}
+use Rattle.cells_spec.specs.Turn.{outcomeOf}
 use Rattle.figure.specs.Figure.{World, WorldAfter, figureRan, opening, figure, triedIn}
-use Rattle.cells.specs.Events.{eventOf}
-use Rattle.lines.specs.Paths.{table}
+use Rattle.cells_spec.specs.Events.{eventOf}
+use Rattle.figure_lines.specs.Paths.{table}
 use Rattle.figure_cell.specs.Paths.{paths, by25, pathCounts, countRows}
 use Rattle.figure.specs.Traces.{Traced, Trace, noTrace, enterLine, figureTraces}
-use Rattle.history.proofs.ListTests.{has}
+use Rattle.history_spec.proofs.ListTests.{has}
 use Rattle.figure_cell.proofs.LineLaws.{every-line, same, Leads, goes, done}
 use Rattle.figure.proofs.Records.{Pending, Complete, Then, led, one-line, Begun, starts, begin-cases, Stepped, runs, step-cases, Sound, its-op, with-first, act-sound}
 

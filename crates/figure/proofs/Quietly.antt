@@ -7,17 +7,17 @@ use mathlib.Core.List.{List}
 use Prim.Native.Nat.{ℕ}
 use lib.Dec.{eqb, T}
 use borrow.Author.Tests.{eqb-false}
-use Rattle.lines.specs.declared.Record.{Record}
-use Rattle.lines.specs.Answers.{Next, Go, Done}
-use Rattle.lines.specs.Record.{idle, opOf}
-use Rattle.lines.specs.Lines.{Line, l10, l15, lineAt, lineOf, accessOf, accessAt, nextOf, counted, attempt}
-use Rattle.history.specs.Basics.{upd}
-use Rattle.history.specs.History.{Op, read, swap, cellOf, untried}
-use Rattle.history.specs.Demand3.{Unequal}
-use Rattle.history.proofs.Basics.{either, clash, some-inj, upd-at, upd-same, upd-off}
-use Rattle.linearizing.proofs.Simulation.{Ghost, Tally, QuietStarts, QuietSteps, Free}
+use Rattle.figure_lines.specs.declared.Record.{Record}
+use Rattle.figure_lines.specs.Answers.{Next, Go, Done}
+use Rattle.figure_lines.specs.Record.{idle, opOf}
+use Rattle.figure_lines.specs.Lines.{Line, l10, l15, lineAt, lineOf, accessOf, accessAt, nextOf, counted, attempt}
+use Rattle.history_spec.specs.Basics.{upd}
+use Rattle.history_spec.specs.History.{Op, read, swap, cellOf, untried}
+use Rattle.history_spec.specs.Demand3.{Unequal}
+use Rattle.history_spec.proofs.Basics.{either, clash, some-inj, upd-at, upd-same, upd-off}
+use Rattle.history_linearization.proofs.Simulation.{Ghost, Tally, QuietStarts, QuietSteps, Free}
 use Rattle.figure_cell.specs.Memory.{Cell, accessCell}
-use Rattle.cells.specs.Turn.{recordAfter}
+use Rattle.cells_spec.specs.Turn.{recordAfter}
 use Rattle.figure.specs.Figure.{World, withTask, clear, figureAnswers, triedIn, firstOf}
 use Rattle.figure_cell.proofs.LineLaws.{Leads, goes, done}
 use Rattle.figure.proofs.Records.{Pending, OnPath, AllOnPath, Accepted, led, cell-there, cell-elsewhere}

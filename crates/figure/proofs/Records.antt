@@ -8,24 +8,24 @@ use Prim.Native.Nat.{ℕ, _+_, _≤_, _<_}
 use native.Mathlib.Omega.{arith}
 use lib.Dec.{leb, ltb, T, leb→le, ltb→lt}
 use borrow.Author.Tests.{ltb-true, lt-ltb, eq-eqb, ne-eqb}
-use Rattle.lines.specs.declared.Record.{Record}
-use Rattle.cells.specs.Answers.{Refused, Acted}
-use Rattle.lines.specs.Answers.{Next, Go, Done}
-use Rattle.lines.specs.Record.{idle, isIdle, opOf}
-use Rattle.lines.specs.Lines.{Line, lineAt, lineOf, accessAt, accessOf, attempt, counted, nextOf, hardware}
+use Rattle.figure_lines.specs.declared.Record.{Record}
+use Rattle.cells_spec.specs.Answers.{Refused, Acted}
+use Rattle.figure_lines.specs.Answers.{Next, Go, Done}
+use Rattle.figure_lines.specs.Record.{idle, isIdle, opOf}
+use Rattle.figure_lines.specs.Lines.{Line, lineAt, lineOf, accessAt, accessOf, attempt, counted, nextOf, hardware}
 use Rattle.figure_cell.proofs.Tries.{tries}
-use Rattle.questions.specs.Questions.{Question, refusal, ofKind, reads, swaps, lineFit, valuesFit, beginQuestions, swapQuestions, stepQuestions}
-use Rattle.history.specs.Basics.{upd, _∈_}
-use Rattle.history.specs.History.{Op, read, swap, cellOf, kindOf, Action, begin, step, Report, untried, wins, losses, run}
-use Rattle.history.proofs.Basics.{either, upd-at, upd-same, upd-off, upd-cases}
+use Rattle.cells_spec.specs.Questions.{Question, refusal, ofKind, reads, swaps, lineFit, valuesFit, beginQuestions, swapQuestions, stepQuestions}
+use Rattle.history_spec.specs.Basics.{upd, _∈_}
+use Rattle.history_spec.specs.History.{Op, read, swap, cellOf, kindOf, Action, begin, step, Report, untried, wins, losses, run}
+use Rattle.history_spec.proofs.Basics.{either, upd-at, upd-same, upd-off, upd-cases}
 use Rattle.figure_cell.specs.Memory.{Cell, accessCell}
-use Rattle.cells.specs.Turn.{recordAfter, outcomeOf}
+use Rattle.cells_spec.specs.Turn.{recordAfter, outcomeOf}
 use Rattle.figure.specs.Figure.{World, withTask, withBoth, WorldAfter, worldAfter, unlessRefused, figureRan, figureStepped, figureBegun, opening, figure, triedIn, firstOf}
-use Rattle.cells.specs.Events.{reportOf, eventOf}
+use Rattle.cells_spec.specs.Events.{reportOf, eventOf}
 use Rattle.figure_cell.specs.Paths.{accessCount}
 use Rattle.figure.specs.Traces.{Trace, didLine, enterLine}
 use Rattle.figure_cell.specs.Paths as Paths
-use Rattle.history.proofs.ListTests.{every, every-in, both, imp}
+use Rattle.history_spec.proofs.ListTests.{every, every-in, both, imp}
 use Rattle.figure_cell.proofs.AsBegun.{kind-of, cell-of}
 use Rattle.figure_cell.proofs.LineLaws.{every-line, lines, before, extends-in, waysOf, hardware-alike, Leads, goes, done, leads}
 

@@ -5,10 +5,10 @@ use Prim.Native.Nat.{ℕ}
 use native.Mathlib.Omega.{arith}
 use lib.ListN.{replicate}
 use borrow.Author.Tests.{ne-eqb}
-use Rattle.history.specs.Basics.{upd}
-use Rattle.history.specs.History.{read, swap, Action, begin, step}
-use Rattle.history.specs.Demand3.{Meets}
-use Rattle.history.proofs.Examples.{five, no-such-no}
+use Rattle.history_spec.specs.Basics.{upd}
+use Rattle.history_spec.specs.History.{read, swap, Action, begin, step}
+use Rattle.history_spec.specs.Demand3.{Meets}
+use Rattle.history_spec.proofs.Examples.{five, no-such-no}
 use Rattle.figure.specs.Figure.{opening, figureRan, figureStepped, figureBegun}
 use Rattle.figure.specs.StandIns.{denying, idling}
 

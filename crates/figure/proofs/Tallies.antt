@@ -8,21 +8,21 @@ use Prim.Native.Nat.{ℕ, _+_, _≤_, _<_}
 use native.Mathlib.Numerals.{add-one}
 use lib.Dec.{eqb, leb, leb→le}
 use borrow.Author.Tests.{eqb-true}
-use Rattle.lines.specs.declared.Record.{Record}
-use Rattle.lines.specs.Answers.{Next}
-use Rattle.lines.specs.Record.{idle, isIdle, opOf}
-use Rattle.lines.specs.Lines.{Line, lineOf, accessOf, counted, hardware}
-use Rattle.history.specs.Basics.{upd, _∈_}
-use Rattle.history.specs.History.{Op, read, swap, Action, begin, step, untried, Response}
-use Rattle.history.specs.Demand3.{most, mostHard}
-use Rattle.history.proofs.Basics.{either, clash, some-inj, upd-at, upd-off}
-use Rattle.linearizing.proofs.Simulation.{Tally, first, Follows}
+use Rattle.figure_lines.specs.declared.Record.{Record}
+use Rattle.figure_lines.specs.Answers.{Next}
+use Rattle.figure_lines.specs.Record.{idle, isIdle, opOf}
+use Rattle.figure_lines.specs.Lines.{Line, lineOf, accessOf, counted, hardware}
+use Rattle.history_spec.specs.Basics.{upd, _∈_}
+use Rattle.history_spec.specs.History.{Op, read, swap, Action, begin, step, untried, Response}
+use Rattle.history_spec.specs.Demand3.{most, mostHard}
+use Rattle.history_spec.proofs.Basics.{either, clash, some-inj, upd-at, upd-off}
+use Rattle.history_linearization.proofs.Simulation.{Tally, first, Follows}
 use Rattle.figure_cell.specs.Memory.{Cell, accessCell}
-use Rattle.cells.specs.Turn.{recordAfter, outcomeOf}
+use Rattle.cells_spec.specs.Turn.{recordAfter, outcomeOf}
 use Rattle.figure.specs.Figure.{World, WorldAfter, withBoth, figureRan, figure, triedIn, firstOf}
-use Rattle.cells.specs.Events.{eventOf}
+use Rattle.cells_spec.specs.Events.{eventOf}
 use Rattle.figure_cell.specs.Paths.{readPaths, paths, accessCount}
-use Rattle.history.proofs.ListTests.{every-in, by-test}
+use Rattle.history_spec.proofs.ListTests.{every-in, by-test}
 use Rattle.figure_cell.proofs.LineLaws.{waysOf, on-paths, on-read-paths, Leads, goes, done}
 use Rattle.figure.proofs.Records.{Pending, not-idle, led, Then, one-line, pending-bounds, read-bounds, Begun, starts, begin-cases, Stepped, runs, step-cases, OnPath, AllOnPath}
 

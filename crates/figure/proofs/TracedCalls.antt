@@ -3,10 +3,10 @@ use mathlib.Core.Path.{_≡_, refl}
 use mathlib.Core.Option.{Option, none, some}
 use mathlib.Core.List.{List, [], _∷_, map}
 use Prim.Native.Nat.{ℕ}
-use Rattle.lines.specs.Lines.{Line}
-use Rattle.history.specs.Basics.{upd}
-use Rattle.history.specs.History.{Op, Action, begin, step, Attempt, Event, refused, accepted, answered, history, Call, Calls, noCalls, called, advanced, closed, enter, enterAll, callsOf, IsBusy, Allowed, WellFormed}
-use Rattle.history.proofs.Basics.{upd-cases}
+use Rattle.figure_lines.specs.Lines.{Line}
+use Rattle.history_spec.specs.Basics.{upd}
+use Rattle.history_spec.specs.History.{Op, Action, begin, step, Attempt, Event, refused, accepted, answered, history, Call, Calls, noCalls, called, advanced, closed, enter, enterAll, callsOf, IsBusy, Allowed, WellFormed}
+use Rattle.history_spec.proofs.Basics.{upd-cases}
 use Rattle.figure.specs.Traces.{Trace, noTrace, enterLine, traces, finishedReport, tracedReport}
 use Rattle.figure.proofs.Records.{upd-both}
 

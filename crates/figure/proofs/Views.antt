@@ -4,13 +4,13 @@ use mathlib.Core.Logic.{_≢_, _⊎_, inl, inr}
 use mathlib.Core.Bool.{Bool, true, false, not}
 use Prim.Native.Nat.{ℕ}
 use lib.Dec.{T}
-use Rattle.lines.specs.declared.Record.{Record}
-use Rattle.lines.specs.Record.{idle}
-use Rattle.lines.specs.Lines.{Line, lineOf, nowhere}
-use Rattle.history.specs.Basics.{upd}
-use Rattle.history.proofs.Basics.{either}
-use Rattle.history.proofs.OnCell as OnCell
-use Rattle.linearizing.proofs.Simulation.{late, Ghost}
+use Rattle.figure_lines.specs.declared.Record.{Record}
+use Rattle.figure_lines.specs.Record.{idle}
+use Rattle.figure_lines.specs.Lines.{Line, lineOf, nowhere}
+use Rattle.history_spec.specs.Basics.{upd}
+use Rattle.history_spec.proofs.Basics.{either}
+use Rattle.history_spec.proofs.OnCell as OnCell
+use Rattle.history_linearization.proofs.Simulation.{late, Ghost}
 use Rattle.figure.specs.Figure.{World}
 use Rattle.figure_cell.proofs.LineLaws.{same, same-is}
 use Rattle.figure_cell.proofs.Classes.{busy, lies-in}

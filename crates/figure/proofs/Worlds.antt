@@ -6,16 +6,16 @@ use mathlib.Core.Option.{some}
 use mathlib.Core.List.{List}
 use Prim.Native.Nat.{ℕ, _<_}
 use lib.Dec.{T}
-use Rattle.lines.specs.declared.Record.{Record}
-use Rattle.lines.specs.Answers.{Next}
-use Rattle.lines.specs.Record.{idle}
-use Rattle.lines.specs.Lines.{Line, lineOf, accessOf, nextOf}
-use Rattle.history.specs.History.{Op, cellOf, read, swap}
-use Rattle.linearizing.proofs.Simulation.{settled, Ghost, Tally}
+use Rattle.figure_lines.specs.declared.Record.{Record}
+use Rattle.figure_lines.specs.Answers.{Next}
+use Rattle.figure_lines.specs.Record.{idle}
+use Rattle.figure_lines.specs.Lines.{Line, lineOf, accessOf, nextOf}
+use Rattle.history_spec.specs.History.{Op, cellOf, read, swap}
+use Rattle.history_linearization.proofs.Simulation.{settled, Ghost, Tally}
 use Rattle.figure_cell.specs.Memory.{Cell, accessCell}
-use Rattle.cells.specs.Turn.{recordAfter}
+use Rattle.cells_spec.specs.Turn.{recordAfter}
 use Rattle.figure.specs.Figure.{World, withBoth, firstOf}
-use Rattle.history.proofs.ListTests.{every}
+use Rattle.history_spec.proofs.ListTests.{every}
 use Rattle.figure_cell.proofs.LineLaws.{lines}
 use Rattle.figure.proofs.Records.{Pending, AllOnPath, OnPath, Accepted, not-idle}
 use Rattle.figure.proofs.Tallies.{tally, doing}

@@ -4,8 +4,8 @@ use mathlib.Core.Logic.{_≢_}
 use mathlib.Core.Option.{Option, none, some}
 use mathlib.Core.List.{List, [], _∷_}
 use Prim.Native.Nat.{ℕ, zero, suc}
-use Rattle.questions.specs.Questions.{refusal, stepQuestions}
-use Rattle.history.specs.History.{Action, begin, step, taskOf}
+use Rattle.cells_spec.specs.Questions.{refusal, stepQuestions}
+use Rattle.history_spec.specs.History.{Action, begin, step, taskOf}
 use Rattle.figure.specs.Figure.{World, figure}
 
 abbrev pub ifAccepted : (refusal : Option ℕ) → (cell : ℕ) → Option ℕ

@@ -4,21 +4,21 @@ use mathlib.Core.Option.{Option, none, some}
 use mathlib.Core.List.{List}
 use Prim.Native.Nat.{ℕ}
 use lib.ListN.{getD}
-use Rattle.lines.specs.declared.Record.{Record}
-use Rattle.cells.specs.Answers.{Said, Refused, Acted, Seen}
-use Rattle.lines.specs.declared.Field.{Field}
-use Rattle.lines.specs.declared.Field.the-variants.{X, Y, C, D}
-use Rattle.lines.specs.declared.Access.{Access}
-use Rattle.lines.specs.Record.{idle}
-use Rattle.lines.specs.Lines.{accessOf, nextOf}
-use Rattle.pool.specs.Pool.{fresh}
-use Rattle.questions.specs.Questions.{refusal, beginQuestions, swapQuestions, stepQuestions, lookQuestions}
-use Rattle.lines.specs.Record.{firstRead, firstSwap}
-use Rattle.cells.specs.Look.{shownValue, shown}
-use Rattle.cells.specs.Events.{eventOf, tried}
-use Rattle.cells.specs.Turn.{recordAfter, outcomeOf}
-use Rattle.history.specs.Basics.{upd}
-use Rattle.history.specs.History.{Op, read, swap, Action, begin, step, Attempt, untried, Event}
+use Rattle.figure_lines.specs.declared.Record.{Record}
+use Rattle.cells_spec.specs.Answers.{Said, Refused, Acted, Seen}
+use Rattle.figure_lines.specs.declared.Field.{Field}
+use Rattle.figure_lines.specs.declared.Field.the-variants.{X, Y, C, D}
+use Rattle.figure_lines.specs.declared.Access.{Access}
+use Rattle.figure_lines.specs.Record.{idle}
+use Rattle.figure_lines.specs.Lines.{accessOf, nextOf}
+use Rattle.cells_spec.specs.Pool.{fresh}
+use Rattle.cells_spec.specs.Questions.{refusal, beginQuestions, swapQuestions, stepQuestions, lookQuestions}
+use Rattle.figure_lines.specs.Record.{firstRead, firstSwap}
+use Rattle.cells_spec.specs.Look.{shownValue, shown}
+use Rattle.cells_spec.specs.Events.{eventOf, tried}
+use Rattle.cells_spec.specs.Turn.{recordAfter, outcomeOf}
+use Rattle.history_spec.specs.Basics.{upd}
+use Rattle.history_spec.specs.History.{Op, read, swap, Action, begin, step, Attempt, untried, Event}
 use Rattle.figure_cell.specs.Memory.{Cell, accessCell}
 
 pub record World : Type 0 where

@@ -1,5 +1,5 @@
 -- Two of the stand-ins that document 01 wants rejected by demand 3, made of the figure: each gives wrong events, or leaves a wrong world.
-use Rattle.history.specs.History.{Action, begin, step, No, Report, Event, refused, accepted, answered}
+use Rattle.history_spec.specs.History.{Action, begin, step, No, Report, Event, refused, accepted, answered}
 use Rattle.figure.specs.Figure.{World, figure}
 
 -- every call answers no

@@ -2,11 +2,11 @@
 use mathlib.Core.Path.{_≡_}
 use mathlib.Core.List.{List, [], _∷_, _++_}
 use Prim.Native.Nat.{ℕ, _+_}
-use Rattle.lines.specs.Paths.{table}
-use Rattle.lines.specs.Lines.{Line, lineOf, hardware}
-use Rattle.history.specs.Basics.{upd, _∈_}
+use Rattle.figure_lines.specs.Paths.{table}
+use Rattle.figure_lines.specs.Lines.{Line, lineOf, hardware}
+use Rattle.history_spec.specs.Basics.{upd, _∈_}
 use Rattle.figure.specs.Figure.{World, figure}
-use Rattle.history.specs.History.{Op, read, cellOf, kindOf, Action, begin, step, Report, Event, refused, accepted, answered, FinishedCall}
+use Rattle.history_spec.specs.History.{Op, read, cellOf, kindOf, Action, begin, step, Report, Event, refused, accepted, answered, FinishedCall}
 use Rattle.figure_cell.specs.Paths.{accessCount, pathCounts, pathsOf, reached, steps}
 
 -- a finished call: what it is as begun, its lines in order, and what its last step reported

@@ -4,10 +4,10 @@ use mathlib.Core.Logic.{_≢_, _⊎_, inl, inr}
 use mathlib.Core.Bool.{Bool, true, false, not, _&&_, _||_, cond, false≢true}
 use lib.Dec.{eqb}
 use borrow.Author.Tests.{eqb-true, eqb-false}
-use Rattle.lines.specs.declared.Record.{Record}
-use Rattle.lines.specs.Record.{opOf}
-use Rattle.questions.specs.Questions.{reads, swaps}
-use Rattle.history.specs.History.{read, swap, cellOf, aRead, aSwap, kindOf}
+use Rattle.figure_lines.specs.declared.Record.{Record}
+use Rattle.figure_lines.specs.Record.{opOf}
+use Rattle.cells_spec.specs.Questions.{reads, swaps}
+use Rattle.history_spec.specs.History.{read, swap, cellOf, aRead, aSwap, kindOf}
 
 module _ (q : Record) where
   -- kind and cell as a finished call reports them

@@ -3,12 +3,12 @@ use mathlib.Core.Bool.{Bool, true, false, not, _&&_, _||_, cond}
 use mathlib.Core.List.{[], _∷_}
 use Prim.Native.Nat.{ℕ}
 use lib.Dec.{eqb, T, not-T}
-use Rattle.lines.specs.Basics.{within}
-use Rattle.lines.specs.Lines.{Line, l10, l15, nowhere}
-use Rattle.questions.specs.Questions.{ofKind}
-use Rattle.history.specs.Basics.{_∈_}
-use Rattle.questions.proofs.Numbers.{number}
-use Rattle.history.proofs.ListTests.{every, has, has-in, implies, excludes}
+use Rattle.figure_lines.specs.Basics.{within}
+use Rattle.figure_lines.specs.Lines.{Line, l10, l15, nowhere}
+use Rattle.cells_spec.specs.Questions.{ofKind}
+use Rattle.history_spec.specs.Basics.{_∈_}
+use Rattle.cells_spec.proofs.Numbers.{number}
+use Rattle.history_spec.proofs.ListTests.{every, has, has-in, implies, excludes}
 use Rattle.figure_cell.proofs.LineLaws.{every-line, lines, same, same-is, wantedBy}
 
 -- CLASSES

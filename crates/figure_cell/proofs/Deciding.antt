@@ -4,13 +4,13 @@ use mathlib.Core.Logic.{_≢_}
 use mathlib.Core.Bool.{Bool, true, not}
 use Prim.Native.Nat.{ℕ}
 use lib.Dec.{T}
-use Rattle.lines.specs.declared.Record.{Record}
-use Rattle.lines.specs.declared.Field.the-variants.{D}
-use Rattle.lines.specs.Lines.{Wanted, l2, l3, lineOf, at, counted}
-use Rattle.history.specs.History.{Attempt}
-use Rattle.history.specs.Basics.{upd}
-use Rattle.history.proofs.Basics.{upd-at, upd-same, upd-off, upd-cases}
-use Rattle.linearizing.proofs.Simulation.{Phase, settled, frozen, late}
+use Rattle.figure_lines.specs.declared.Record.{Record}
+use Rattle.figure_lines.specs.declared.Field.the-variants.{D}
+use Rattle.figure_lines.specs.Lines.{Wanted, l2, l3, lineOf, at, counted}
+use Rattle.history_spec.specs.History.{Attempt}
+use Rattle.history_spec.specs.Basics.{upd}
+use Rattle.history_spec.proofs.Basics.{upd-at, upd-same, upd-off, upd-cases}
+use Rattle.history_linearization.proofs.Simulation.{Phase, settled, frozen, late}
 use Rattle.figure_cell.specs.Memory.{store}
 use Rattle.figure_cell.proofs.Classes.{is, busy, holding, swapping, won, loaded, stored, replacing, lies-in, are-apart}
 use Rattle.figure_cell.proofs.Invariant.{none, View, Knowledge, Decided, Seen, Store, Owner, TaskOf, PhaseIs, line, held, Inv}

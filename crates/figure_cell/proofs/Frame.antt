@@ -5,11 +5,11 @@ use mathlib.Core.Logic.{_≢_, _⊎_, inl, inr}
 use mathlib.Core.Bool.{Bool, not}
 use Prim.Native.Nat.{ℕ}
 use lib.Dec.{T}
-use Rattle.lines.specs.declared.Record.{Record}
-use Rattle.lines.specs.Lines.{Line, lineOf}
-use Rattle.history.specs.Basics.{upd}
-use Rattle.history.proofs.Basics.{either, upd-cases}
-use Rattle.linearizing.proofs.Simulation.{Phase, late}
+use Rattle.figure_lines.specs.declared.Record.{Record}
+use Rattle.figure_lines.specs.Lines.{Line, lineOf}
+use Rattle.history_spec.specs.Basics.{upd}
+use Rattle.history_spec.proofs.Basics.{either, upd-cases}
+use Rattle.history_linearization.proofs.Simulation.{Phase, late}
 use Rattle.figure_cell.proofs.Classes.{is, busy, holding, taking, stored, won, checking, viewing, lies-in}
 use Rattle.figure_cell.proofs.Invariant.{none, View, Knowledge, Decided, TaskOf, Rival, CurrentOf, line, held, RivalOf, Inv}
 

@@ -4,10 +4,10 @@ use mathlib.Core.Logic.{_≢_}
 use mathlib.Core.Bool.{Bool, not}
 use Prim.Native.Nat.{ℕ, _<_}
 use lib.Dec.{T}
-use Rattle.lines.specs.declared.Record.{Record}
-use Rattle.lines.specs.Lines.{Line, lineOf}
-use Rattle.lines.specs.Record as Reserved
-use Rattle.linearizing.proofs.Simulation.{Phase, settled, frozen, late}
+use Rattle.figure_lines.specs.declared.Record.{Record}
+use Rattle.figure_lines.specs.Lines.{Line, lineOf}
+use Rattle.figure_lines.specs.Record as Reserved
+use Rattle.history_linearization.proofs.Simulation.{Phase, settled, frozen, late}
 use Rattle.figure_cell.specs.Memory.{Cell}
 use Rattle.figure_cell.proofs.Classes.{is, busy, holding, swapping, racing, won, loaded, stored, contended, replacing, taking, filledY, filledC, filledD, checking}
 

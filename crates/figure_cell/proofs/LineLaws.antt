@@ -7,15 +7,15 @@ use Prim.Native.Nat.{ℕ}
 use lib.Dec.{eqb, T, eqb→eq}
 use lib.ListN.{getD}
 use borrow.Author.Tests.{eq-eqb, ne-eqb}
-use Rattle.lines.specs.declared.Record.{Record}
-use Rattle.lines.specs.declared.Access.{Access}
-use Rattle.lines.specs.Answers.{Next, Go}
-use Rattle.lines.specs.Record.{idle, opOf}
-use Rattle.lines.specs.Lines.{Line, Wanted, for13, for25, for28, l1, l2, l3, l4, l5, l6, l7, l8, l10, l11, l12, l15, l16, l17, l18, l19, l20, l21, l22, l23, l24, l26, l27, l30, nowhere, lineAt, lineOf, accessAt, loads, stores, hardware, at, answer, readAnswer, nextAt}
-use Rattle.questions.specs.Questions.{ofKind, reads, swaps}
-use Rattle.history.specs.Basics.{_∈_}
-use Rattle.history.proofs.ListTests.{every, has, both, every-in, every-at, by-test, has-in}
-use Rattle.history.specs.History.{Op, read, swap, Response, Value, Yes, No}
+use Rattle.figure_lines.specs.declared.Record.{Record}
+use Rattle.figure_lines.specs.declared.Access.{Access}
+use Rattle.figure_lines.specs.Answers.{Next, Go}
+use Rattle.figure_lines.specs.Record.{idle, opOf}
+use Rattle.figure_lines.specs.Lines.{Line, Wanted, for13, for25, for28, l1, l2, l3, l4, l5, l6, l7, l8, l10, l11, l12, l15, l16, l17, l18, l19, l20, l21, l22, l23, l24, l26, l27, l30, nowhere, lineAt, lineOf, accessAt, loads, stores, hardware, at, answer, readAnswer, nextAt}
+use Rattle.cells_spec.specs.Questions.{ofKind, reads, swaps}
+use Rattle.history_spec.specs.Basics.{_∈_}
+use Rattle.history_spec.proofs.ListTests.{every, has, both, every-in, every-at, by-test, has-in}
+use Rattle.history_spec.specs.History.{Op, read, swap, Response, Value, Yes, No}
 use Rattle.figure_cell.specs.Paths.{readPaths, paths, by25, pathsOf}
 use Rattle.figure_cell.proofs.AsBegun.{swap-op, Reads, read-op}
 

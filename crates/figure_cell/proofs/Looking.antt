@@ -5,11 +5,11 @@ use mathlib.Core.Bool.{Bool, true, false, not}
 use Prim.Native.Nat.{ℕ, _<_}
 use native.Mathlib.Omega.{arith}
 use lib.Dec.{T}
-use Rattle.lines.specs.declared.Record.{Record}
-use Rattle.history.specs.History.{Attempt}
-use Rattle.history.proofs.Basics.{no-eq, no-T}
-use Rattle.lines.specs.Lines.{Wanted, for13, for25, for28, Line, l1, l2, l3, l4, l10, l11, l12, l15, l16, l17, l18, l19, l20, l21, l22, l23, l24, l26, l27, nowhere, at, counted}
-use Rattle.linearizing.proofs.Simulation.{Phase, settled, frozen, late}
+use Rattle.figure_lines.specs.declared.Record.{Record}
+use Rattle.history_spec.specs.History.{Attempt}
+use Rattle.history_spec.proofs.Basics.{no-eq, no-T}
+use Rattle.figure_lines.specs.Lines.{Wanted, for13, for25, for28, Line, l1, l2, l3, l4, l10, l11, l12, l15, l16, l17, l18, l19, l20, l21, l22, l23, l24, l26, l27, nowhere, at, counted}
+use Rattle.history_linearization.proofs.Simulation.{Phase, settled, frozen, late}
 use Rattle.figure_cell.proofs.Classes.{holding, racing, won, loaded, stored, taking}
 use Rattle.figure_cell.proofs.Invariant.{none, View, Knowledge, Fresh, Owner, TaskOf, Rival, PhaseIs, line, held, Inv}
 use Rattle.figure_cell.proofs.Frame.{Mine, Unheld, undecided, active-undecided, active-current}

@@ -6,22 +6,22 @@ use mathlib.Core.Bool.{Bool, true, false, not}
 use Prim.Native.Nat.{ℕ}
 use lib.Dec.{eqb, T, not-T, eqb→eq}
 use borrow.Author.Tests.{eqb-false}
-use Rattle.lines.specs.declared.Record.{Record}
-use Rattle.lines.specs.declared.Field.{Field}
-use Rattle.lines.specs.declared.Field.the-variants.{X, Y, D}
-use Rattle.lines.specs.declared.Access.{Access}
-use Rattle.lines.specs.declared.Access.the-variants.{LoadCell, Load, Store, DecideCas, InstallCas, Allocate, Nothing}
-use Rattle.lines.specs.Answers.{Next, Go, Done}
-use Rattle.lines.specs.Basics.{within}
-use Rattle.lines.specs.Record.{noValue}
-use Rattle.lines.specs.Lines.{Line, l1, l2, l3, l4, l5, l6, l7, l8, l10, l11, l12, l15, l16, l17, l18, l19, l20, l21, l22, l23, l24, l26, l27, l30, nowhere, lineOf, accessAt, counted, nextAt, hardware, attempt}
+use Rattle.figure_lines.specs.declared.Record.{Record}
+use Rattle.figure_lines.specs.declared.Field.{Field}
+use Rattle.figure_lines.specs.declared.Field.the-variants.{X, Y, D}
+use Rattle.figure_lines.specs.declared.Access.{Access}
+use Rattle.figure_lines.specs.declared.Access.the-variants.{LoadCell, Load, Store, DecideCas, InstallCas, Allocate, Nothing}
+use Rattle.figure_lines.specs.Answers.{Next, Go, Done}
+use Rattle.figure_lines.specs.Basics.{within}
+use Rattle.figure_lines.specs.Record.{noValue}
+use Rattle.figure_lines.specs.Lines.{Line, l1, l2, l3, l4, l5, l6, l7, l8, l10, l11, l12, l15, l16, l17, l18, l19, l20, l21, l22, l23, l24, l26, l27, l30, nowhere, lineOf, accessAt, counted, nextAt, hardware, attempt}
 use Rattle.figure_cell.proofs.Tries.{none-tried}
-use Rattle.questions.proofs.Numbers.{number}
-use Rattle.history.specs.Basics.{upd}
-use Rattle.history.specs.History.{untried}
-use Rattle.history.proofs.Basics.{upd-at, upd-same, upd-off, upd-cases}
+use Rattle.cells_spec.proofs.Numbers.{number}
+use Rattle.history_spec.specs.Basics.{upd}
+use Rattle.history_spec.specs.History.{untried}
+use Rattle.history_spec.proofs.Basics.{upd-at, upd-same, upd-off, upd-cases}
 use Rattle.figure_cell.specs.Memory.{Cell, store, Accessed, accessed, accessCell}
-use Rattle.history.proofs.ListTests.{by-test}
+use Rattle.history_spec.proofs.ListTests.{by-test}
 use Rattle.figure_cell.proofs.Classes.{holding, swapping, uncontended, lies-in}
 
 -- has not set Y yet; has written X and not yet looked at it

@@ -6,14 +6,14 @@ use mathlib.Core.List.{[], _∷_}
 use Prim.Native.Nat.{ℕ, _≤_, _<_}
 use native.Mathlib.Omega.{arith}
 use lib.Dec.{T}
-use Rattle.lines.specs.declared.Record.{Record}
-use Rattle.lines.specs.declared.Field.{Field}
-use Rattle.lines.specs.declared.Field.the-variants.{X, Y, C, D}
-use Rattle.lines.specs.Lines.{Line, l4, l5, l6, l7, l8, l10, l15, l30, nowhere, lineOf, at, counted}
-use Rattle.history.specs.History.{Attempt}
-use Rattle.history.specs.Basics.{upd, _∈_}
-use Rattle.history.proofs.Basics.{either, upd-same, upd-off}
-use Rattle.linearizing.proofs.Simulation.{Phase, settled, late}
+use Rattle.figure_lines.specs.declared.Record.{Record}
+use Rattle.figure_lines.specs.declared.Field.{Field}
+use Rattle.figure_lines.specs.declared.Field.the-variants.{X, Y, C, D}
+use Rattle.figure_lines.specs.Lines.{Line, l4, l5, l6, l7, l8, l10, l15, l30, nowhere, lineOf, at, counted}
+use Rattle.history_spec.specs.History.{Attempt}
+use Rattle.history_spec.specs.Basics.{upd, _∈_}
+use Rattle.history_spec.proofs.Basics.{either, upd-same, upd-off}
+use Rattle.history_linearization.proofs.Simulation.{Phase, settled, late}
 use Rattle.figure_cell.specs.Memory.{Cell, wordOf, store, install, allocate}
 use Rattle.figure_cell.proofs.Classes.{is, holding, racing, won, stored, taking, lies-in, holds-not}
 use Rattle.figure_cell.proofs.Stores.{store-else, store-next, store-current}

@@ -4,13 +4,13 @@ use mathlib.Core.Logic.{_≢_}
 use Prim.Native.Nat.{ℕ}
 use native.Mathlib.Omega.{arith}
 use lib.Dec.{T}
-use Rattle.lines.specs.declared.Record.{Record}
-use Rattle.lines.specs.declared.Field.the-variants.{X, Y, C}
-use Rattle.lines.specs.Lines.{for28, Line, l1, l16, l17, l18, l19, l27, nowhere, lineOf, at, counted}
-use Rattle.history.specs.History.{Attempt}
-use Rattle.history.specs.Basics.{upd}
-use Rattle.history.proofs.Basics.{upd-same, upd-off, upd-cases}
-use Rattle.linearizing.proofs.Simulation.{Phase, late}
+use Rattle.figure_lines.specs.declared.Record.{Record}
+use Rattle.figure_lines.specs.declared.Field.the-variants.{X, Y, C}
+use Rattle.figure_lines.specs.Lines.{for28, Line, l1, l16, l17, l18, l19, l27, nowhere, lineOf, at, counted}
+use Rattle.history_spec.specs.History.{Attempt}
+use Rattle.history_spec.specs.Basics.{upd}
+use Rattle.history_spec.proofs.Basics.{upd-same, upd-off, upd-cases}
+use Rattle.history_linearization.proofs.Simulation.{Phase, late}
 use Rattle.figure_cell.specs.Memory.{Cell, store}
 use Rattle.figure_cell.proofs.Classes.{is, holding, racing, won, taking, lies-in}
 use Rattle.figure_cell.proofs.Invariant.{View, Knowledge, Split, PhaseIs, line, held, Inv}

@@ -6,19 +6,19 @@ use Prim.Native.Nat.{ℕ}
 use native.Mathlib.Omega.{arith}
 use lib.Dec.{eqb, T, T-not, not-T}
 use borrow.Author.Tests.{eqb-true, eqb-false, eq-eqb, ne-eqb}
-use Rattle.lines.specs.declared.Record.{Record}
-use Rattle.lines.specs.declared.Field.{Field}
-use Rattle.lines.specs.declared.Field.the-variants.{C, D}
-use Rattle.lines.specs.Answers.{Next, Go, Done}
-use Rattle.lines.specs.Record.{idle}
-use Rattle.lines.specs.Lines.{Wanted, for13, for25, for28, Line, l1, l2, l3, l4, l5, l6, l7, l8, l10, l11, l12, l15, l16, l17, l18, l19, l20, l21, l22, l23, l24, l26, l27, l30, nowhere, lineAt, lineOf, accessAt, at, attempt, counted, nextAt, answer, readAnswer}
-use Rattle.history.specs.Basics.{upd}
-use Rattle.history.specs.History.{Response, Yes, No, Attempt, success, failure, untried}
-use Rattle.history.proofs.Basics.{either, upd-at, upd-off}
-use Rattle.linearizing.proofs.Simulation.{Phase, settled, frozen, late}
+use Rattle.figure_lines.specs.declared.Record.{Record}
+use Rattle.figure_lines.specs.declared.Field.{Field}
+use Rattle.figure_lines.specs.declared.Field.the-variants.{C, D}
+use Rattle.figure_lines.specs.Answers.{Next, Go, Done}
+use Rattle.figure_lines.specs.Record.{idle}
+use Rattle.figure_lines.specs.Lines.{Wanted, for13, for25, for28, Line, l1, l2, l3, l4, l5, l6, l7, l8, l10, l11, l12, l15, l16, l17, l18, l19, l20, l21, l22, l23, l24, l26, l27, l30, nowhere, lineAt, lineOf, accessAt, at, attempt, counted, nextAt, answer, readAnswer}
+use Rattle.history_spec.specs.Basics.{upd}
+use Rattle.history_spec.specs.History.{Response, Yes, No, Attempt, success, failure, untried}
+use Rattle.history_spec.proofs.Basics.{either, upd-at, upd-off}
+use Rattle.history_linearization.proofs.Simulation.{Phase, settled, frozen, late}
 use Rattle.figure_cell.specs.Memory.{Cell, store, install, Accessed, accessCell}
 use Rattle.figure_cell.proofs.Classes.{is, figureLine, busy, holding, swapping, stored, lies-in}
-use Rattle.history.proofs.ListTests.{by-test}
+use Rattle.history_spec.proofs.ListTests.{by-test}
 use Rattle.figure_cell.proofs.LineLaws.{wanted-is}
 use Rattle.figure_cell.proofs.Invariant.{none, View, Knowledge, PhaseIs, line, held, Inv}
 use Rattle.figure_cell.proofs.Frame.{Mine, quiet, was, Grows, grow, undecided, active-current, active-undecided}

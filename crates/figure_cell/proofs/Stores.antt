@@ -3,12 +3,12 @@ use mathlib.Core.Path.{_≡_, refl, _∙_}
 use mathlib.Core.Bool.{Bool, true, false, cond}
 use Prim.Native.Nat.{ℕ}
 use lib.Dec.{eqb}
-use Rattle.lines.specs.declared.Field.{Field}
-use Rattle.lines.specs.declared.Field.the-variants.{X, Y, C, D}
-use Rattle.pool.specs.Pool.{offset}
-use Rattle.cells.proofs.Words.{fields}
-use Rattle.history.specs.Basics.{upd}
-use Rattle.history.proofs.Basics.{upd-same, upd-off}
+use Rattle.figure_lines.specs.declared.Field.{Field}
+use Rattle.figure_lines.specs.declared.Field.the-variants.{X, Y, C, D}
+use Rattle.cells_spec.specs.Pool.{offset}
+use Rattle.cells_spec.proofs.Words.{fields}
+use Rattle.history_spec.specs.Basics.{upd}
+use Rattle.history_spec.proofs.Basics.{upd-same, upd-off}
 use Rattle.figure_cell.specs.Memory.{Cell, wordOf, store}
 
 stored : (m : Cell) (i x i′ : ℕ) (f g : Field) → wordOf (store m i f x) i′ g ≡ cond (eqb (offset g) (offset f)) (upd (λ j. wordOf m j g) i x i′) (wordOf m i′ g)

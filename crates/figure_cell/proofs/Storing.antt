@@ -4,13 +4,13 @@ use mathlib.Core.Logic.{_≢_}
 use mathlib.Core.Bool.{true, not}
 use Prim.Native.Nat.{ℕ}
 use lib.Dec.{T, T-not, not-T}
-use Rattle.lines.specs.declared.Record.{Record}
-use Rattle.lines.specs.declared.Field.{Field}
-use Rattle.lines.specs.Lines.{l23, l24, lineOf, at, counted}
-use Rattle.history.specs.History.{Attempt}
-use Rattle.history.specs.Basics.{upd}
-use Rattle.history.proofs.Basics.{upd-at, upd-same, upd-off, upd-cases}
-use Rattle.linearizing.proofs.Simulation.{Phase, settled, late}
+use Rattle.figure_lines.specs.declared.Record.{Record}
+use Rattle.figure_lines.specs.declared.Field.{Field}
+use Rattle.figure_lines.specs.Lines.{l23, l24, lineOf, at, counted}
+use Rattle.history_spec.specs.History.{Attempt}
+use Rattle.history_spec.specs.Basics.{upd}
+use Rattle.history_spec.proofs.Basics.{upd-at, upd-same, upd-off, upd-cases}
+use Rattle.history_linearization.proofs.Simulation.{Phase, settled, late}
 use Rattle.figure_cell.specs.Memory.{store}
 use Rattle.figure_cell.proofs.Classes.{is, holding, won, loaded, stored, contended, taking, lies-in, are-apart}
 use Rattle.figure_cell.proofs.Invariant.{none, View, Knowledge, Value, Fresh, Owner, Rival, PhaseIs, line, held, Inv}

@@ -4,10 +4,10 @@ use mathlib.Core.Bool.{Bool, true, false, cond}
 use Prim.Native.Nat.{ℕ, _+_}
 use native.Mathlib.Omega.{arith}
 use lib.Dec.{eqb}
-use Rattle.lines.specs.declared.Access.{Access}
-use Rattle.lines.specs.declared.Access.the-variants.{LoadCell, Load, Store, DecideCas, InstallCas, Allocate, Nothing}
-use Rattle.lines.specs.Lines.{hardware, attempt}
-use Rattle.history.specs.History.{success, failure, untried, wins, losses}
+use Rattle.figure_lines.specs.declared.Access.{Access}
+use Rattle.figure_lines.specs.declared.Access.the-variants.{LoadCell, Load, Store, DecideCas, InstallCas, Allocate, Nothing}
+use Rattle.figure_lines.specs.Lines.{hardware, attempt}
+use Rattle.history_spec.specs.History.{success, failure, untried, wins, losses}
 
 one : (b : Bool) → wins (cond b success failure) + losses (cond b success failure) ≡ 1
 one true = refl

@@ -1,11 +1,11 @@
 -- The memory of figure 2 with a new block each time. The cells share nothing: each numbers its own blocks.
 use Prim.Native.Nat.{ℕ, suc}
-use Rattle.lines.specs.declared.Field.{Field}
-use Rattle.lines.specs.declared.Field.the-variants.{X, Y, C, D}
-use Rattle.lines.specs.declared.Access.{Access}
-use Rattle.lines.specs.Memory.{Keeping, accessIn}
-use Rattle.pool.specs.Pool.{noTask}
-use Rattle.history.specs.Basics.{upd}
+use Rattle.figure_lines.specs.declared.Field.{Field}
+use Rattle.figure_lines.specs.declared.Field.the-variants.{X, Y, C, D}
+use Rattle.figure_lines.specs.declared.Access.{Access}
+use Rattle.figure_lines.specs.Memory.{Keeping, accessIn}
+use Rattle.cells_spec.specs.Pool.{noTask}
+use Rattle.history_spec.specs.Basics.{upd}
 
 -- a cell: the block that it names, the number of its next new block, and the five words of each block
 pub record Cell : Type 0 where

@@ -3,10 +3,10 @@ use mathlib.Core.Bool.{cond}
 use mathlib.Core.List.{List, [], _∷_, _++_}
 use Prim.Native.Nat.{ℕ, _+_}
 use lib.Dec.{eqb}
-use Rattle.lines.specs.declared.Access.{Access}
-use Rattle.lines.specs.Record.{idle}
-use Rattle.lines.specs.Lines.{Line, Wanted, for13, for25, for28, l1, l2, l3, l4, l5, l6, l7, l8, l10, l11, l12, l15, l16, l17, l18, l19, l20, l21, l22, l23, l24, l26, l27, l30, accessAt, loads, stores, hardware}
-use Rattle.history.specs.History.{Op, read, swap, Response, Value, Yes, No}
+use Rattle.figure_lines.specs.declared.Access.{Access}
+use Rattle.figure_lines.specs.Record.{idle}
+use Rattle.figure_lines.specs.Lines.{Line, Wanted, for13, for25, for28, l1, l2, l3, l4, l5, l6, l7, l8, l10, l11, l12, l15, l16, l17, l18, l19, l20, l21, l22, l23, l24, l26, l27, l30, accessAt, loads, stores, hardware}
+use Rattle.history_spec.specs.History.{Op, read, swap, Response, Value, Yes, No}
 
 -- THE THIRTEEN PATHS
 

@@ -6,20 +6,20 @@ use mathlib.Core.List.{List, []}
 use Prim.Native.Nat.{ℕ}
 use lib.Dec.{eqb, T, eqb→eq}
 use borrow.Author.Tests.{eq-eqb, ne-eqb}
-use Rattle.lines.specs.declared.Record.{Record}
-use Rattle.lines.specs.declared.Field.{Field}
-use Rattle.lines.specs.declared.Field.the-variants.{D}
-use Rattle.lines.specs.declared.Access.{Access}
-use Rattle.lines.specs.declared.Access.the-variants.{DecideCas, InstallCas}
-use Rattle.lines.specs.Record.{noValue}
-use Rattle.lines.specs.Lines.{Line, for13, for25, for28, l2, l30, lineOf, accessAt, accessOf, hardware, found, attempt}
-use Rattle.lines.proofs.Cas.{decide-value, install-value}
+use Rattle.figure_lines.specs.declared.Record.{Record}
+use Rattle.figure_lines.specs.declared.Field.{Field}
+use Rattle.figure_lines.specs.declared.Field.the-variants.{D}
+use Rattle.figure_lines.specs.declared.Access.{Access}
+use Rattle.figure_lines.specs.declared.Access.the-variants.{DecideCas, InstallCas}
+use Rattle.figure_lines.specs.Record.{noValue}
+use Rattle.figure_lines.specs.Lines.{Line, for13, for25, for28, l2, l30, lineOf, accessAt, accessOf, hardware, found, attempt}
+use Rattle.figure_lines.proofs.Cas.{decide-value, install-value}
 use Rattle.figure_cell.proofs.Tries.{none-tried}
-use Rattle.questions.specs.Questions.{lineFit}
-use Rattle.questions.proofs.Numbers.{number, at-number}
-use Rattle.cells.specs.Events.{tried}
-use Rattle.history.specs.History.{success, failure, untried, Action, run}
-use Rattle.history.proofs.Basics.{either}
+use Rattle.cells_spec.specs.Questions.{lineFit}
+use Rattle.cells_spec.proofs.Numbers.{number, at-number}
+use Rattle.cells_spec.specs.Events.{tried}
+use Rattle.history_spec.specs.History.{success, failure, untried, Action, run}
+use Rattle.history_spec.proofs.Basics.{either}
 use Rattle.figure_cell.specs.Memory.{Cell, wordOf, cellKeeping}
 use Rattle.figure.specs.Figure.{World, figureAnswers, triedIn, opening, figure}
 use Rattle.figure_moments.specs.Moments.{sight, sees}

@@ -8,13 +8,13 @@ use native.Mathlib.Omega.{arith}
 use lib.Dec.{eqb, T}
 use lib.ListN.{getD}
 use borrow.Author.Tests.{eqb-false}
-use Rattle.lines.specs.declared.Record.{Record}
-use Rattle.lines.specs.Record.{noValue, idle, first, firstRead}
-use Rattle.lines.specs.Lines.{lineOf, l10, l15}
-use Rattle.questions.specs.Questions.{valuesFit}
-use Rattle.history.specs.History.{Op, read, swap, cellOf}
-use Rattle.history.proofs.Basics.{either, clash, upd-same, upd-off}
-use Rattle.linearizing.proofs.Simulation.{late, Ghost, unplaced, Grown}
+use Rattle.figure_lines.specs.declared.Record.{Record}
+use Rattle.figure_lines.specs.Record.{noValue, idle, first, firstRead}
+use Rattle.figure_lines.specs.Lines.{lineOf, l10, l15}
+use Rattle.cells_spec.specs.Questions.{valuesFit}
+use Rattle.history_spec.specs.History.{Op, read, swap, cellOf}
+use Rattle.history_spec.proofs.Basics.{either, clash, upd-same, upd-off}
+use Rattle.history_linearization.proofs.Simulation.{late, Ghost, unplaced, Grown}
 use Rattle.figure.specs.Figure.{World, withTask, opening, figure, firstOf}
 use Rattle.figure_moments.specs.Moments.{Notes, nothingNoted, names, sees}
 use Rattle.figure.proofs.Records.{AllOnPath, Accepted, opening-on-path}
@@ -26,7 +26,7 @@ use Rattle.figure_cell.proofs.Looking.{off, idle-task, settled≢late}
 use Rattle.figure.proofs.Views.{on, on-idle, on-changed, on-elsewhere, view, placed-changed}
 use Rattle.figure.proofs.Worlds.{Good, doing-on, its-cell, was-idle, idle-to}
 use Rattle.figure_moments.proofs.Known.{doingIn, clock, known, knows-more}
-use Rattle.linearizing.proofs.Simulation as Sim
+use Rattle.history_linearization.proofs.Simulation as Sim
 
 -- THE STEPPER'S FACTS at its first line
 

@@ -9,27 +9,27 @@ use Prim.Native.Nat.{ℕ}
 use native.Mathlib.Omega.{arith}
 use lib.Dec.{eqb, T, T-not, eqb→eq}
 use borrow.Author.Tests.{eqb-true, eq-eqb}
-use Rattle.lines.specs.declared.Record.{Record}
-use Rattle.lines.specs.Answers.{Next}
-use Rattle.lines.specs.Basics.{within}
-use Rattle.lines.specs.Lines.{Line, l10, l15, l21, l30, lineAt, lineOf, accessAt, accessOf, attempt, counted, nextAt, readAnswer}
-use Rattle.questions.specs.Questions.{lineFit}
-use Rattle.history.specs.Basics.{upd}
-use Rattle.history.specs.History.{Op, read, swap, cellOf, Response, Value, Yes, No}
-use Rattle.history.specs.Moments.{before, after, C3, C4, Rule, Spot, changes}
-use Rattle.history.proofs.Basics.{either, upd-at, upd-same, upd-off, upd-cases}
-use Rattle.linearizing.proofs.Simulation as Sim
-use Rattle.linearizing.proofs.Simulation.{Phase, settled, frozen, late, Ghost, unplaced, Tally, Why, Sided, Named}
+use Rattle.figure_lines.specs.declared.Record.{Record}
+use Rattle.figure_lines.specs.Answers.{Next}
+use Rattle.figure_lines.specs.Basics.{within}
+use Rattle.figure_lines.specs.Lines.{Line, l10, l15, l21, l30, lineAt, lineOf, accessAt, accessOf, attempt, counted, nextAt, readAnswer}
+use Rattle.cells_spec.specs.Questions.{lineFit}
+use Rattle.history_spec.specs.Basics.{upd}
+use Rattle.history_spec.specs.History.{Op, read, swap, cellOf, Response, Value, Yes, No}
+use Rattle.history_spec.specs.Moments.{before, after, C3, C4, Rule, Spot, changes}
+use Rattle.history_spec.proofs.Basics.{either, upd-at, upd-same, upd-off, upd-cases}
+use Rattle.history_linearization.proofs.Simulation as Sim
+use Rattle.history_linearization.proofs.Simulation.{Phase, settled, frozen, late, Ghost, unplaced, Tally, Why, Sided, Named}
 use Rattle.figure_cell.specs.Memory.{Cell, accessCell}
-use Rattle.cells.specs.Turn.{recordAfter}
+use Rattle.cells_spec.specs.Turn.{recordAfter}
 use Rattle.figure.specs.Figure.{World, withTask, figureAnswers, triedIn, figure}
 use Rattle.figure_moments.specs.Moments.{Notes, nothingNoted, noted, Sight, holdsBlock, sees, names, spotAt, effect, lineC6, rules, ruleAt, ruled, stands}
-use Rattle.history.proofs.ListTests.{both, every, by-test}
+use Rattle.history_spec.proofs.ListTests.{both, every, by-test}
 use Rattle.figure_cell.proofs.LineLaws.{every-line, lines, same, same-is, extends, Leads, goes, done}
 use Rattle.figure_cell.proofs.LineLaws as Laws
 use Rattle.figure.proofs.Records.{Pending, led}
 use Rattle.figure_cell.proofs.AsBegun.{cell-of}
-use Rattle.lines.specs.Record.{opOf}
+use Rattle.figure_lines.specs.Record.{opOf}
 use Rattle.figure.proofs.Tallies.{doing}
 use Rattle.figure_cell.proofs.Classes.{is, figureLine, busy, holding, swapping, stored, storing, replacing, lies-in, are-apart}
 use Rattle.figure_cell.proofs.Invariant.{View, Knowledge, Owner, TaskOf, line, held}

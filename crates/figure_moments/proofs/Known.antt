@@ -6,14 +6,14 @@ use mathlib.Core.Option.{Option, some}
 use mathlib.Core.List.{List}
 use Prim.Native.Nat.{ℕ}
 use lib.Dec.{eqb, T}
-use Rattle.lines.specs.declared.Record.{Record}
-use Rattle.lines.specs.Record.{idle, opOf}
-use Rattle.lines.specs.Lines.{Line, lineOf, accessOf, nextOf}
-use Rattle.history.specs.Basics.{upd}
-use Rattle.history.specs.History.{Op, cellOf, Yes}
-use Rattle.history.specs.Linearization.{reply, apply}
-use Rattle.history.proofs.Basics.{either, upd-at, upd-off}
-use Rattle.linearizing.proofs.Simulation.{Phase, settled, frozen, late, Ghost, Tally, Move, shift, Grown, May}
+use Rattle.figure_lines.specs.declared.Record.{Record}
+use Rattle.figure_lines.specs.Record.{idle, opOf}
+use Rattle.figure_lines.specs.Lines.{Line, lineOf, accessOf, nextOf}
+use Rattle.history_spec.specs.Basics.{upd}
+use Rattle.history_spec.specs.History.{Op, cellOf, Yes}
+use Rattle.history_spec.specs.Linearization.{reply, apply}
+use Rattle.history_spec.proofs.Basics.{either, upd-at, upd-off}
+use Rattle.history_linearization.proofs.Simulation.{Phase, settled, frozen, late, Ghost, Tally, Move, shift, Grown, May}
 use Rattle.figure_cell.specs.Memory.{Cell, accessCell}
 use Rattle.figure.specs.Figure.{World, withBoth, figure}
 use Rattle.figure_moments.specs.Moments.{Notes, noted, names, sees}
@@ -28,7 +28,7 @@ use Rattle.figure_cell.proofs.Steps.{Change, still, act, freeze, delay, settle,
 use Rattle.figure.proofs.Views.{on, on-in, on-it, on-changed, view, placed-changed, on-others}
 use Rattle.figure.proofs.Operations.{busy-line, busy-doing, swap-yes, apply-here, apply-there}
 use Rattle.figure.proofs.Worlds.{Good, there, doing-on, pending-at, cellAfter, nextAfter}
-use Rattle.linearizing.proofs.Simulation as Sim
+use Rattle.history_linearization.proofs.Simulation as Sim
 use Rattle.figure_cell.proofs.Frame as Frame
 
 -- WHAT THE TASKS KNOW, by the actions that are noted

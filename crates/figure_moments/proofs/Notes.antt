@@ -5,16 +5,16 @@ use mathlib.Core.Bool.{Bool, true, false, not, _&&_, _||_, cond}
 use Prim.Native.Nat.{ℕ}
 use lib.Dec.{eqb, T, eqb→eq, eqb-refl}
 use borrow.Author.Tests.{eq-eqb}
-use Rattle.lines.specs.declared.Record.{Record}
-use Rattle.lines.specs.Basics.{within}
-use Rattle.lines.specs.Record.{noValue}
-use Rattle.lines.specs.Lines.{Line, lineOf}
-use Rattle.questions.specs.Questions.{lineFit}
-use Rattle.questions.proofs.Numbers.{number, at-number}
+use Rattle.figure_lines.specs.declared.Record.{Record}
+use Rattle.figure_lines.specs.Basics.{within}
+use Rattle.figure_lines.specs.Record.{noValue}
+use Rattle.figure_lines.specs.Lines.{Line, lineOf}
+use Rattle.cells_spec.specs.Questions.{lineFit}
+use Rattle.cells_spec.proofs.Numbers.{number, at-number}
 use Rattle.figure_cell.specs.Memory.{Cell}
 use Rattle.figure.specs.Figure.{World}
 use Rattle.figure_moments.specs.Moments.{Notes, holdsBlock, noted, sees}
-use Rattle.history.proofs.ListTests.{every, both}
+use Rattle.history_spec.proofs.ListTests.{every, both}
 use Rattle.figure_cell.proofs.LineLaws.{lines, wantedBy, wanted-is}
 use Rattle.figure_cell.proofs.Classes.{is, figureLine, holding, stored, viewing, lies-in, are-apart}
 

@@ -3,10 +3,10 @@ use mathlib.Core.Logic.{_≢_}
 use mathlib.Core.List.{List, [], _∷_}
 use Prim.Native.Nat.{ℕ}
 use lib.ListN.{getD}
-use Rattle.lines.specs.Record.{noValue}
-use Rattle.history.specs.History.{Action, begin, step, Event, refused, accepted, answered, run}
-use Rattle.linearizing.proofs.Simulation.{Ghost, Knowledge, Grown, Forward, Follows}
-use Rattle.linearizing.proofs.Simulation as Sim
+use Rattle.figure_lines.specs.Record.{noValue}
+use Rattle.history_spec.specs.History.{Action, begin, step, Event, refused, accepted, answered, run}
+use Rattle.history_linearization.proofs.Simulation.{Ghost, Knowledge, Grown, Forward, Follows}
+use Rattle.history_linearization.proofs.Simulation as Sim
 use Rattle.figure.specs.Figure.{World, opening, figure}
 use Rattle.figure_moments.specs.Moments.{Notes, noNotes, names, sees}
 use Rattle.figure.proofs.Tallies.{doing, follows}

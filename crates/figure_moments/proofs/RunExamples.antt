@@ -3,8 +3,8 @@
 use mathlib.Core.Path.{_≡_, refl}
 use mathlib.Core.List.{List, [], _∷_, _++_}
 use Prim.Native.Nat.{ℕ}
-use Rattle.history.specs.Basics.{upd}
-use Rattle.history.specs.History.{Op, swap, aSwap, Action, begin, Response, Yes, No, Attempt, success, failure, untried, Event, refused, accepted, answered, history}
+use Rattle.history_spec.specs.Basics.{upd}
+use Rattle.history_spec.specs.History.{Op, swap, aSwap, Action, begin, Response, Yes, No, Attempt, success, failure, untried, Event, refused, accepted, answered, history}
 use Rattle.figure.specs.Figure.{opening, figureRan, figureStepped, figureBegun, figure}
 use Rattle.figure_moments.specs.MomentExamples.{stepsBy, meeting}
 

@@ -5,26 +5,26 @@ use mathlib.Core.List.{List, map}
 use Prim.Native.Nat.{ℕ, suc, _<_}
 use lib.Dec.{eqb, T}
 use lib.ListN.{getD}
-use Rattle.lines.specs.Answers.{Next, Go, Done}
-use Rattle.lines.specs.Record.{noValue, first}
-use Rattle.lines.specs.Lines.{Line, lineOf}
-use Rattle.history.specs.History.{Op, read, swap, Action, begin, step, untried, Event, refused, accepted, answered, history, callsOf}
-use Rattle.history.specs.Basics.{_∈_}
-use Rattle.history.specs.Linearization.{replies, Linearizes}
-use Rattle.history.specs.Demand3.{Meets, clearAfter}
-use Rattle.history.specs.Moments.{before, Mark, pointOf, replyOf}
-use Rattle.linearizing.proofs.Meets.{meets}
-use Rattle.linearizing.proofs.Moments as Placing
-use Rattle.linearizing.proofs.Moments.{marks-linearize, marks-answers}
-use Rattle.linearizing.proofs.Simulation.{Phase, Ghost, Knowledge, Keeps, Forward, Quietly, QuietSteps}
-use Rattle.linearizing.proofs.Simulation as Sim
-use Rattle.cells.specs.Turn.{recordAfter, outcomeOf}
+use Rattle.figure_lines.specs.Answers.{Next, Go, Done}
+use Rattle.figure_lines.specs.Record.{noValue, first}
+use Rattle.figure_lines.specs.Lines.{Line, lineOf}
+use Rattle.history_spec.specs.History.{Op, read, swap, Action, begin, step, untried, Event, refused, accepted, answered, history, callsOf}
+use Rattle.history_spec.specs.Basics.{_∈_}
+use Rattle.history_spec.specs.Linearization.{replies, Linearizes}
+use Rattle.history_spec.specs.Demand3.{Meets, clearAfter}
+use Rattle.history_spec.specs.Moments.{before, Mark, pointOf, replyOf}
+use Rattle.history_linearization.proofs.Meets.{meets}
+use Rattle.history_linearization.proofs.Moments as Placing
+use Rattle.history_linearization.proofs.Moments.{marks-linearize, marks-answers}
+use Rattle.history_linearization.proofs.Simulation.{Phase, Ghost, Knowledge, Keeps, Forward, Quietly, QuietSteps}
+use Rattle.history_linearization.proofs.Simulation as Sim
+use Rattle.cells_spec.specs.Turn.{recordAfter, outcomeOf}
 use Rattle.figure.specs.Figure.{World, withBoth, WorldAfter, figureRan, opening, figure, clear, triedIn, firstOf}
-use Rattle.cells.specs.Events.{eventOf}
+use Rattle.cells_spec.specs.Events.{eventOf}
 use Rattle.figure_moments.specs.Moments.{Notes, noNotes, nothingNoted, noted, noteStep, note, names, sees, moments}
 use Rattle.figure.proofs.Records.{Pending, AllOnPath, Begun, starts, begin-cases, Stepped, runs, step-cases, act-on-path}
 use Rattle.figure.proofs.Tallies.{tally, doing, follows, within}
-use Rattle.history.proofs.ListTests.{by-test}
+use Rattle.history_spec.proofs.ListTests.{by-test}
 use Rattle.figure_cell.proofs.Classes.{storing}
 use Rattle.figure_cell.proofs.Invariant.{none, View}
 use Rattle.figure_cell.proofs.Invariant as Local

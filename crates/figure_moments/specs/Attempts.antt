@@ -1,7 +1,7 @@
 -- What becomes of a step's hardware CAS, by the memory before the step.
 use mathlib.Core.Bool.{cond}
 use lib.Dec.{eqb}
-use Rattle.history.specs.History.{Attempt, success, failure, untried}
+use Rattle.history_spec.specs.History.{Attempt, success, failure, untried}
 use Rattle.figure_moments.specs.Moments.{Sight}
 
 -- line 2 wins where D of the held block is none, line 30 where the held block is current

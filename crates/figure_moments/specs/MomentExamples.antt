@@ -4,9 +4,9 @@ use mathlib.Core.Path.{_≡_, refl}
 use mathlib.Core.List.{List, [], _∷_, _++_, map}
 use Prim.Native.Nat.{ℕ}
 use lib.ListN.{replicate}
-use Rattle.history.specs.Basics.{upd}
-use Rattle.history.specs.History.{Op, read, swap, Action, begin, step}
-use Rattle.history.specs.Moments.{Side, itself, after, Rule, R1, R2, C1, C2, C3, C4, C5, C6, Mark}
+use Rattle.history_spec.specs.Basics.{upd}
+use Rattle.history_spec.specs.History.{Op, read, swap, Action, begin, step}
+use Rattle.history_spec.specs.Moments.{Side, itself, after, Rule, R1, R2, C1, C2, C3, C4, C5, C6, Mark}
 use Rattle.figure.specs.Figure.{figureRan, figureStepped, figureBegun}
 use Rattle.figure_moments.specs.Moments.{moments}
 

@@ -5,14 +5,14 @@ use mathlib.Core.Option.{Option, none, some}
 use mathlib.Core.List.{List, [], _∷_}
 use Prim.Native.Nat.{ℕ, suc}
 use lib.Dec.{eqb}
-use Rattle.lines.specs.Basics.{within}
-use Rattle.lines.specs.declared.Record.{Record}
-use Rattle.lines.specs.declared.Field.{Field}
-use Rattle.lines.specs.declared.Field.the-variants.{C, D}
-use Rattle.lines.specs.Record.{noValue, isIdle}
-use Rattle.questions.specs.Questions.{holds}
-use Rattle.history.specs.History.{Action, begin, step, Response, Value, Yes, No, Event, refused, accepted, answered}
-use Rattle.history.specs.Moments.{itself, before, after, Rule, R1, R2, C1, C2, C3, C4, C5, C6, Spot, Mark, Names, beside, linearized}
+use Rattle.figure_lines.specs.Basics.{within}
+use Rattle.figure_lines.specs.declared.Record.{Record}
+use Rattle.figure_lines.specs.declared.Field.{Field}
+use Rattle.figure_lines.specs.declared.Field.the-variants.{C, D}
+use Rattle.figure_lines.specs.Record.{noValue, isIdle}
+use Rattle.cells_spec.specs.Questions.{holds}
+use Rattle.history_spec.specs.History.{Action, begin, step, Response, Value, Yes, No, Event, refused, accepted, answered}
+use Rattle.history_spec.specs.Moments.{itself, before, after, Rule, R1, R2, C1, C2, C3, C4, C5, C6, Spot, Mark, Names, beside, linearized}
 use Rattle.figure_cell.specs.Memory.{wordOf}
 use Rattle.figure.specs.Figure.{World, figure, opening}
 

@@ -3,11 +3,11 @@ use buffers::file_space;
 use buffers::lines_space;
 use libc::STDIN_FILENO;
 use libc::STDOUT_FILENO;
-use moments_runner::run_moments;
+use moments_tool::run_moments;
 
 fn main() {
     let mut file = file_space();
-    let read = report::read_all(
+    let read = program_io::report::read_all(
         STDIN_FILENO,
         &mut file,
         b"moments: cannot read standard input",
@@ -18,7 +18,7 @@ fn main() {
     let n = read.count;
     let mut out = lines_space();
     let end = run_moments(&file[..n], &mut out);
-    report::write_all(
+    program_io::report::write_all(
         STDOUT_FILENO,
         &out[..end],
         b"moments: cannot write standard output",

@@ -2,14 +2,14 @@
 use buffers::file_space;
 use libc::STDIN_FILENO;
 use libc::STDOUT_FILENO;
-use nudge_runner::run_nudge;
+use nudge_tool::run_nudge;
 
 fn main() {
     let mut call = [0u32; 2];
     let mut line = io::buffer();
-    let given = arguments::gather(&mut line);
+    let given = program_io::arguments::gather(&mut line);
     let length = given.count;
-    if !arguments::take(
+    if !program_io::arguments::take(
         &line[..length],
         given.whole,
         &mut call,
@@ -19,7 +19,7 @@ fn main() {
         return;
     }
     let mut file = file_space();
-    let read = report::read_all(
+    let read = program_io::report::read_all(
         STDIN_FILENO,
         &mut file,
         b"nudge: cannot read standard input",
@@ -30,7 +30,7 @@ fn main() {
     let n = read.count;
     let mut out = io::buffer();
     let end = run_nudge(&file[..n], call[0], call[1], &mut out);
-    report::write_all(
+    program_io::report::write_all(
         STDOUT_FILENO,
         &out[..end],
         b"nudge: cannot write standard output",

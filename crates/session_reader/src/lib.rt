@@ -1,14 +1,21 @@
 // Reads a session file: the first of questions 12 to 15 that is answered no, or the session.
-use clearing::clear;
-use session_reading::Opened;
-use session_reading::Reading;
-use session_reading::Rest;
+mod forms;
+pub mod items;
+mod keeping;
+mod opening;
+pub mod reading;
+mod shape;
+
+use crate::reading::Opened;
+use crate::reading::Reading;
+use crate::reading::Rest;
+use buffers::clearing::clear;
 ghost use mathlib.Core.Path.{_≡_};
 ghost use lib.ListN.{length};
-ghost use Rattle.session_file.specs.Session.{verdict};
-ghost use Rattle.session_reading.specs.Reading.{verdictOf, verdictIn};
-ghost use Rattle.session_reading.specs.Kept.{InBuffers};
-ghost use Rattle.session_reading.specs.Tables.{buffers, afterReading, afterReadingInto};
+ghost use Rattle.session_spec.specs.Session.{verdict};
+ghost use Rattle.session_reader.specs.Reading.{verdictOf, verdictIn};
+ghost use Rattle.session_reader.specs.Kept.{InBuffers};
+ghost use Rattle.session_reader.specs.Tables.{buffers, afterReading, afterReadingInto};
 
 // Words that a file can fill: a value takes at least 2 bytes, and a form of five words at least 8.
 const VALUES: usize = 32768;
@@ -28,16 +35,16 @@ fn read(file: &[u8], values: &mut [u32], kept: &mut [u32], actions: &mut [u32]) 
     if 65536 < file.len() {
         return Reading::Bad(12);
     }
-    if !session_shape::shaped(file) {
+    if !crate::shape::shaped(file) {
         return Reading::Bad(13);
     }
-    let first = session_opening::opening(file, values);
+    let first = crate::opening::opening(file, values);
     let Opened::Read(tasks, cells, blocks, count, next) = first else {
         clear(kept);
         clear(actions);
         return Reading::Bad(14);
     };
-    let rest = session_forms::lines(file, next, kept, actions);
+    let rest = crate::forms::lines(file, next, kept, actions);
     match rest {
         Rest::Wrong => {
             clear(values);

@@ -5,9 +5,9 @@ use libc::STDOUT_FILENO;
 fn main() {
     let mut n = [0u32; 5];
     let mut line = io::buffer();
-    let given = arguments::gather(&mut line);
+    let given = program_io::arguments::gather(&mut line);
     let length = given.count;
-    if !arguments::take(
+    if !program_io::arguments::take(
         &line[..length],
         given.whole,
         &mut n,
@@ -17,8 +17,8 @@ fn main() {
         return;
     }
     let mut out = session_space();
-    let end = shaker::shake(n[0], n[1], n[2], n[3], n[4], &mut out);
-    report::write_all(
+    let end = shake_tool::shake(n[0], n[1], n[2], n[3], n[4], &mut out);
+    program_io::report::write_all(
         STDOUT_FILENO,
         &out[..end],
         b"shake: cannot write standard output",

@@ -6,3 +6,4 @@ pub mod Reading
 pub mod ReadBack
 pub mod Several
 pub mod Zeros
+mod Counted

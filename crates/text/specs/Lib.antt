@@ -3,3 +3,4 @@ pub mod Lines
 pub mod Append
 pub mod Readers
 pub mod Answers
+pub mod Arguments

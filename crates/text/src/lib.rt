@@ -1,4 +1,10 @@
 // Text at a place of a lent buffer: appended; and what a reader answers.
+pub mod arguments;
+pub mod decimals;
+pub mod numbered;
+pub mod numerals;
+pub mod readers;
+
 ghost use Prim.Native.Nat.{_+_, _≤_};
 ghost use lib.ListN.{length};
 ghost use Rattle.text.specs.Append.{Appended};

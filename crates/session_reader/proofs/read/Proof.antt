@@ -1,13 +1,13 @@
 use borrow.Author.Needs.{needs}
 use native.Mathlib.Omega.{arith}
-use Rattle.session_reading.proofs.Verdicts.{opened-at, opened-no, is-12, is-13, unopened, unformed, is-15, is-session, rest-is, alike, written-over}
-use Rattle.session_reading.proofs.Denoting.{kept-actions}
-use Rattle.session_shape.specs.Shape as shape
-use Rattle.session_file.specs.Session as specs
-use Rattle.session_reading.specs.Answers.{OpenedIs, RestIs}
-use Rattle.session_reading.specs.Tables.{buffers}
-use Rattle.session_reading.specs.declared.Rest.{Rest}
-use Rattle.session_reading.specs.declared.Opened.the-variants as opened
+use Rattle.session_reader.proofs.Verdicts.{opened-at, opened-no, is-12, is-13, unopened, unformed, is-15, is-session, rest-is, alike, written-over}
+use Rattle.session_reader.proofs.Denoting.{kept-actions}
+use Rattle.session_spec.specs.Shape as shape
+use Rattle.session_spec.specs.Session as specs
+use Rattle.session_reader.specs.Answers.{OpenedIs, RestIs}
+use Rattle.session_reader.specs.Tables.{buffers}
+use Rattle.session_reader.specs.declared.reading.Rest.{Rest}
+use Rattle.session_reader.specs.declared.reading.Opened.the-variants as opened
 use lib.ListN.{length, replicate}
 use borrow.Author.Tests.{not-true, not-false}
 use Prim.Native.Nat.{ℕ, _≤_}

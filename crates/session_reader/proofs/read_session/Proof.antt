@@ -1,7 +1,7 @@
 use borrow.Author.Needs.{needs}
-use Rattle.session_reading.proofs.Verdicts.{sizes-known}
-use Rattle.session_reading.specs.Reading.{verdictIn}
-use Rattle.session_reading.specs.Tables.{afterReadingInto}
+use Rattle.session_reader.proofs.Verdicts.{sizes-known}
+use Rattle.session_reader.specs.Reading.{verdictIn}
+use Rattle.session_reader.specs.Tables.{afterReadingInto}
 use Rattle.session_reader.proofs.read_session.Statement.{statement}
 use Rattle.session_reader.proofs.read_session.Tie as tie
 

@@ -1,0 +1,17 @@
+pub mod Questions
+pub mod Counts
+pub mod Pool
+pub mod Memory
+pub mod Words
+pub mod LineRun
+pub mod Blocks
+pub mod Answers
+pub mod Open
+pub mod Begin
+pub mod StoredCounts
+pub mod Step
+pub mod Lent
+pub mod Look
+pub mod Turn
+pub mod Events
+pub mod Machine

@@ -1,0 +1,14 @@
+// One line of figure 2 on the lent pool, and what follows it.
+pub mod blocks;
+mod deciding;
+mod filling;
+mod follows;
+pub mod free_block;
+mod installing;
+pub mod memory;
+pub mod paths;
+mod reading;
+mod runs;
+mod swapping;
+pub mod turns;
+pub mod words;

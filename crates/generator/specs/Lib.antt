@@ -1,2 +1,0 @@
-pub mod Generator
-pub mod Examples

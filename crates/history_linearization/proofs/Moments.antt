@@ -1,0 +1,255 @@
+-- The marks of any machine with a simulation, in their order, are a linearization: of all finished calls and of the listed pending swaps.
+use mathlib.Core.Path.{_≡_, refl, sym, ap, _∙_, subst}
+use mathlib.Core.Logic.{_≢_, _⊎_, inl, inr}
+use mathlib.Core.Bool.{Bool, true, false}
+use mathlib.Core.Option.{Option, none, some}
+use mathlib.Core.List.{List, [], _∷_, _++_, map}
+use Prim.Native.Nat.{ℕ, zero, suc, _<_}
+use native.Mathlib.Omega.{arith}
+use lib.Dec.{T}
+use Rattle.history_spec.specs.Basics.{_∈_, Once}
+use Rattle.history_spec.specs.History.{Action, Event, history, run, Response, Yes, Call, FinishedCall, Calls, noCalls, callsOf, pending, finished}
+use Rattle.history_spec.specs.Linearization.{Point, replies, Placed, Linearizes}
+use Rattle.history_spec.specs.Moments.{before, itself, Spot, Mark, pointOf, replyOf, Names, beside, markOfPending, pendingMarks, sort, linearized}
+use Rattle.history_spec.proofs.Basics.{either, clash, some-inj, mem-append, point}
+use Rattle.history_linearization.proofs.Simulation.{Knowledge, Sided, Simulation}
+use Rattle.history_linearization.proofs.Tracks.{tallied, tallyOf}
+use Rattle.history_linearization.proofs.MovesOne.{Dated}
+use Rattle.history_linearization.proofs.Distinct.{callBegins}
+use Rattle.history_linearization.proofs.Order.{sort-in, in-sort, begins, from-begins, to-begins, sort-once}
+use Rattle.history_linearization.proofs.Timeline.{Marks, points-in, sorted-answers, sorted-points}
+use Rattle.history_linearization.proofs.Kept.{Entry, of-finished, of-pending, MarkOf, Marked}
+use Rattle.history_linearization.proofs.Moves.{firm, knows}
+use Rattle.history_linearization.proofs.Linearize.{Simulated}
+use Rattle.history_linearization.proofs.EveryAction.{Good, AtEnd, at-end}
+
+-- LISTS
+
+mem-left : (a b : List Mark) (m : Mark) → m ∈ a → m ∈ (a ++ b)
+mem-left (x ∷ a) b m (inl e) = inl e
+mem-left (x ∷ a) b m (inr i) = inr (mem-left a b m i)
+
+mem-right : (a b : List Mark) (m : Mark) → m ∈ b → m ∈ (a ++ b)
+mem-right [] b m i = i
+mem-right (x ∷ a) b m i = inr (mem-right a b m i)
+
+once-both : (a b : List Mark) → Once (begins a) → Once (begins b) → ((m : Mark) → m ∈ a → ¬ (m .call .at ∈ begins b)) → Once (begins (a ++ b))
+once-both [] b o p d = p
+once-both (x ∷ a) b o p d = ((λ i. let m = from-begins (a ++ b) (x .call .at) i in go (m .0) (m .2) (mem-append a b (m .0) (m .1))), once-both a b (o .1) p (λ m i. d m (inr i)))
+  where
+    go : (m : Mark) → x .call .at ≡ m .call .at → (m ∈ a) ⊎ (m ∈ b) → ⊥
+    go m e (inl j) = o .0 (rw e (to-begins a m j))
+    go m e (inr j) = d x (inl refl) (rw e (to-begins b m j))
+
+in-answers : (l : List Mark) (m : Mark) → m ∈ l → replyOf m ∈ map replyOf l
+in-answers (x ∷ l) m (inl e) = inl (ap replyOf e)
+in-answers (x ∷ l) m (inr i) = inr (in-answers l m i)
+
+point-begins : (l : List Mark) → map (λ e. e .call .at) (map pointOf l) ≡ begins l
+point-begins [] = refl
+point-begins (m ∷ l) = ap (λ n. m .call .at ∷ n) (point-begins l)
+
+-- MARKS OF FINISHED CALLS
+
+mark-of : (k : List FinishedCall) (l : List Mark) → Marked k l → (f : FinishedCall) → f ∈ k → (m : Mark) × (m ∈ l) × MarkOf f m
+mark-of (g ∷ k) (m ∷ l) M f (inl e) = (m, inl refl, rw e (M .0))
+mark-of (g ∷ k) (m ∷ l) M f (inr i) = let r = mark-of k l (M .1) f i in (r .0, inr (r .1), r .2)
+
+of-mark : (k : List FinishedCall) (l : List Mark) → Marked k l → (m : Mark) → m ∈ l → (f : FinishedCall) × (f ∈ k) × MarkOf f m
+of-mark [] (x ∷ l) M m i = absurd M
+of-mark (f ∷ k) (x ∷ l) M m (inl e) = (f, inl refl, rw e (M .0))
+of-mark (f ∷ k) (x ∷ l) M m (inr i) = let r = of-mark k l (M .1) m i in (r .0, inr (r .1), r .2)
+
+same-begins : (k : List FinishedCall) (l : List Mark) → Marked k l → begins l ≡ callBegins k
+same-begins [] [] M = refl
+same-begins (f ∷ k) (m ∷ l) M = ap (λ n. n ∷ begins l) (ap (λ s. s .at) (M .0 .call)) ∙ ap (λ n. f .call .start .at ∷ n) (same-begins k l (M .1))
+
+-- MARKS OF PENDING SWAPS
+
+module _ {S : Type 0} (machine : S → Action → S × Event) (names : Names S) (s : S) (b : Calls) where
+  abbrev markAt : Call → Spot → Mark
+  markAt c p = record { spot = p; call = c .start; answer = Yes }
+
+  record Listed (t : ℕ) (m : Mark) : Type 0 where
+    call : Call
+    spot : Spot
+    busy : b .pending t ≡ some call
+    stands : names .standing s t ≡ some spot
+    is : m ≡ markAt call spot
+
+  one : (t : ℕ) (p : Option Spot) (o : Option Call) → names .standing s t ≡ p → b .pending t ≡ o → (m : Mark) → m ∈ markOfPending machine names p o → Listed t m
+  one t (some p) (some c) e h m (inl i) = record { call = c; spot = p; busy = h; stands = e; is = i }
+  one t (some p) (some c) e h m (inr i) = absurd i
+  one t (some p) none e h m i = absurd i
+  one t none o e h m i = absurd i
+
+  listed-in : (n : ℕ) (m : Mark) → m ∈ pendingMarks machine names s b n → (t : ℕ) × (t < n) × Listed t m
+  listed-in zero m i = absurd i
+  listed-in (suc t) m i = go (listed-in t m) (mem-append (markOfPending machine names (names .standing s t) (b .pending t)) (pendingMarks machine names s b t) m i)
+    where
+      go : (m ∈ pendingMarks machine names s b t → (u : ℕ) × (u < t) × Listed u m) → (m ∈ markOfPending machine names (names .standing s t) (b .pending t)) ⊎ (m ∈ pendingMarks machine names s b t) → (u : ℕ) × (u < suc t) × Listed u m
+      go r (inl j) = (t, omega arith, one t (names .standing s t) (b .pending t) refl refl m j)
+      go r (inr j) = let u = r j in (u .0, omega (arith, u .1), u .2)
+
+  in-listed : (n t : ℕ) (c : Call) (p : Spot) → t < n → b .pending t ≡ some c → names .standing s t ≡ some p → markAt c p ∈ pendingMarks machine names s b n
+  in-listed zero t c p l h e = absurd (omega arith)
+  in-listed (suc n) t c p l h e = go (either t n) (in-listed n t c p)
+    where
+      go : (t ≡ n) ⊎ (t ≢ n) → (t < n → b .pending t ≡ some c → names .standing s t ≡ some p → markAt c p ∈ pendingMarks machine names s b n) → markAt c p ∈ pendingMarks machine names s b (suc n)
+      go (inl z) r = rw (← z, e, h) (inl refl)
+      go (inr z) r = mem-right (markOfPending machine names (names .standing s n) (b .pending n)) (pendingMarks machine names s b n) (markAt c p) (r (omega arith) h e)
+
+  pending-once : Dated b → (n : ℕ) → Once (begins (pendingMarks machine names s b n))
+  pending-once dated zero = tt
+  pending-once dated (suc t) = once-both (markOfPending machine names (names .standing s t) (b .pending t)) (pendingMarks machine names s b t) (single (names .standing s t) (b .pending t)) (pending-once dated t) apart
+    where
+      single : (p : Option Spot) (o : Option Call) → Once (begins (markOfPending machine names p o))
+      single (some p) (some c) = ((λ i. i), tt)
+      single (some p) none = tt
+      single none o = tt
+
+      apart : (m : Mark) → m ∈ markOfPending machine names (names .standing s t) (b .pending t) → ¬ (m .call .at ∈ begins (pendingMarks machine names s b t))
+      apart m i j =
+          let w = from-begins (pendingMarks machine names s b t) (m .call .at) j in
+          let x = one t (names .standing s t) (b .pending t) refl refl m i in
+          let y = listed-in t (w .0) (w .1) in
+          let at : Mark → ℕ = λ (m : Mark). m .call .at in
+          omega (arith, y .1, dated .distinct t (y .0) (x .call) (y .2 .call) (x .busy) (y .2 .busy) (ap at (sym (x .is)) ∙ w .2 ∙ ap at (y .2 .is)))
+
+-- ALL OF IT
+
+module _ {S N : Type 0} {machine : S → Action → S × Event} {note : N → S → Action → Event → N} {names : Names (S × N)} {start : S} {blank : N} {clear : S → ℕ → Type 0} {tasks size : ℕ} {values : ℕ → ℕ}
+    (M : Simulation machine note names start blank clear tasks size values) (l : List Action) where
+  r : AtEnd M (start, blank) noCalls [] l
+  r = at-end M l
+
+  abbrev x : S × N
+  x = run (beside machine note) (start, blank) l
+
+  abbrev b : Calls
+  b = callsOf (history machine start l)
+
+  abbrev G : Good M x b (r .finished)
+  G = r .good
+
+  abbrev m : Simulated M x b (r .finished)
+  m = G .simulated
+
+  abbrev κ : Knowledge
+  κ = knows b (m .past) (firm (m .ghost) (b .now))
+
+  abbrev waiting : List Mark
+  waiting = pendingMarks (beside machine note) names x b tasks
+
+  abbrev E : Point → Response → Type 0
+  E = Entry (m .ghost .placed) (m .ghost .when) (b .pending) (r .finished)
+
+  doing : (t : ℕ) (c : Call) → b .pending t ≡ some c → M .doing (x .0) t ≡ some (tallied c)
+  doing t c h = G .tracks t ∙ ap tallyOf h
+
+  -- a listed swap took effect, where it is listed
+  record Effect (t : ℕ) (w : Mark) (y : Listed (beside machine note) names x b t w) : Type 0 where
+    placed : T (m .ghost .placed t)
+    when : y .spot .moment ≡ m .ghost .when t
+    itself-there : y .spot .side ≡ itself
+
+  effect : (t : ℕ) (w : Mark) (y : Listed (beside machine note) names x b t w) → Effect t w y
+  effect t w y = go (m .ghost .placed t) refl
+    where
+      d : M .doing (x .0) t ≡ some (tallied (y .call))
+      d = doing t (y .call) (y .busy)
+
+      go : (z : Bool) → m .ghost .placed t ≡ z → Effect t w y
+      go false e = absurd (clash (M .unlisted x (m .ghost) κ (m .inv) t (tallied (y .call)) d (rw e tt)) (y .stands))
+      go true e =
+          let q = M .listed x (m .ghost) κ (m .inv) t (tallied (y .call)) d (rw e tt) in
+          let p : y .spot ≡ q .spot = some-inj (y .stands) (q .is) in
+          record { placed = rw e tt; when = ap (λ (p : Spot). p .moment) p ∙ q .moment; itself-there = ap (λ (p : Spot). p .side) p ∙ q .side }
+
+  waits : (w : Mark) → w ∈ waiting → (t : ℕ) × (t < tasks) × Listed (beside machine note) names x b t w
+  waits = listed-in (beside machine note) names x b tasks
+
+  all-marks : Marks E (waiting ++ r .finished)
+  all-marks = record {
+    theirs = λ w i. theirs w (mem-append waiting (r .finished) w i);
+    all = all;
+    once = once-both waiting (r .finished) (pending-once (beside machine note) names x b (G .dated) tasks) (subst Once (sym same) (G .distinct .once))
+        (λ w i j. let y = waits w i .2 in G .distinct .apart _ (y .call) (y .busy) (subst (λ n. n ∈ callBegins (b .finished)) (ap (λ (w : Mark). w .call .at) (y .is)) (subst (λ k. w .call .at ∈ k) same j)));
+    sided = λ w i. sided w (mem-append waiting (r .finished) w i);
+  }
+    where
+      same : begins (r .finished) ≡ callBegins (b .finished)
+      same = same-begins (b .finished) (r .finished) (m .kept .marked)
+
+      theirs : (w : Mark) → (w ∈ waiting) ⊎ (w ∈ r .finished) → E (pointOf w) (w .answer)
+      theirs w (inl i) =
+          let y = waits w i in
+          let f = effect (y .0) w (y .2) in
+          subst (λ (w : Mark). E (pointOf w) (w .answer)) (sym (y .2 .is)) (subst (λ n. E (point (y .2 .call) n) Yes) (sym (f .when)) (of-pending (y .0) (y .2 .call) (y .2 .busy) (f .placed)))
+      theirs w (inr i) = of-finished w i
+
+      all : (e : Point) (a : Response) → E e a → (w : Mark) × (w ∈ (waiting ++ r .finished)) × (e ≡ pointOf w) × (a ≡ w .answer)
+      all e a (of-finished w i) = (w, mem-right waiting (r .finished) w i, refl, refl)
+      all e a (of-pending t c h p) =
+          let q = M .listed x (m .ghost) κ (m .inv) t (tallied c) (doing t c h) p in
+          let w : Mark = record { spot = q .spot; call = c .start; answer = Yes } in
+          (w, mem-left waiting (r .finished) w (in-listed (beside machine note) names x b tasks t c (q .spot) (M .low x (m .ghost) κ (m .inv) t (tallied c) (doing t c h)) h (q .is)), ap (λ n. point c n) (sym (q .moment)), refl)
+
+      itself-is : itself ≡ before → ⊥
+      itself-is z = let w : _≡_ {A = ℕ} 0 1 = cc in omega arith
+
+      sided : (w : Mark) → (w ∈ waiting) ⊎ (w ∈ r .finished) → Sided (w .call .op) (w .answer) (w .spot)
+      sided w (inl i) =
+          let y = waits w i in
+          let s : w .spot .side ≡ itself = ap (λ (w : Mark). w .spot .side) (y .2 .is) ∙ effect (y .0) w (y .2) .itself-there in
+          record { never-before = λ z. itself-is (sym s ∙ z); change-itself = λ z. s }
+      sided w (inr i) = of-mark (b .finished) (r .finished) (m .kept .marked) w i .2 .sided
+
+  abbrev sorted : List Mark
+  sorted = sort (waiting ++ r .finished)
+
+  answers-sorted : replies values (map pointOf sorted) ≡ map replyOf sorted
+  answers-sorted = sorted-answers (m .kept .line) all-marks
+
+  placed : (w : Mark) → (w ∈ waiting) ⊎ (w ∈ r .finished) → Placed b (pointOf w)
+  placed w (inl i) =
+      let y = waits w i in
+      let f = effect (y .0) w (y .2) in
+      let s = m .kept .stands (y .0) (y .2 .call) (y .2 .busy) (f .placed) in
+      subst (λ (w : Mark). Placed b (pointOf w)) (sym (y .2 .is)) (record { call = y .2 .call; end = b .now; of-history = pending (y .0) (y .2 .call) (y .2 .busy); is = refl; after-begin = omega (arith, f .when); by-last-step = omega (arith, f .when) })
+  placed w (inr i) =
+      let f = of-mark (b .finished) (r .finished) (m .kept .marked) w i in
+      record { call = f .0 .call; end = f .0 .call .last; of-history = finished (f .0) (f .1); is = f .2 .call; after-begin = f .2 .after-begin; by-last-step = f .2 .by-last-step }
+
+  linearizes : Linearizes values b (map pointOf sorted)
+  linearizes = record {
+    sorted = sorted-points (m .kept .line) all-marks;
+    placed = λ e i. let w = points-in sorted e i in subst (Placed b) (sym (w .2)) (placed (w .0) (mem-append waiting (r .finished) (w .0) (sort-in (waiting ++ r .finished) (w .0) (w .1))));
+    once = subst Once (sym (point-begins sorted)) (sort-once (waiting ++ r .finished) (all-marks .once));
+    answers = λ f i. let w = mark-of (b .finished) (r .finished) (m .kept .marked) f i in (
+      pointOf (w .0),
+      w .2 .call,
+      w .2 .after-begin,
+      w .2 .by-last-step,
+      subst (λ q. (pointOf (w .0), f .report .answer) ∈ q) (sym answers-sorted) (subst (λ a. (pointOf (w .0), a) ∈ map replyOf sorted) (w .2 .answer)
+          (in-answers sorted (w .0) (in-sort (waiting ++ r .finished) (w .0) (mem-right waiting (r .finished) (w .0) (w .1))))),
+    );
+  }
+
+  abbrev pub placing : List Mark
+  placing = linearized (beside machine note) names tasks (start, blank) l
+
+  are-sorted : placing ≡ sorted
+  are-sorted = ap sort (r .all-marks)
+
+  -- The marks in their order are a linearization of the history: of every finished call, and of the pending swaps that are listed.
+  pub marks-linearize : Linearizes values (callsOf (history machine start l)) (map pointOf placing)
+  marks-linearize = subst (λ ms. Linearizes values b (map pointOf ms)) (sym are-sorted) linearizes
+
+  -- Fed the calls in this order, the sequential cells give each the answer that it had, and yes to the listed pending swaps.
+  pub marks-answers : replies values (map pointOf placing) ≡ map replyOf placing
+  marks-answers = subst (λ ms. replies values (map pointOf ms) ≡ map replyOf ms) (sym are-sorted) answers-sorted
+
+  -- No call takes effect immediately before an action.
+  pub never-before : (w : Mark) → w ∈ placing → w .spot .side ≢ before
+  never-before w i = all-marks .sided w (sort-in (waiting ++ r .finished) w (subst (λ ms. w ∈ ms) are-sorted i)) .never-before

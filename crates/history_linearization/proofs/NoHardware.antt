@@ -1,0 +1,133 @@
+-- A call that begins at a cell that is clear and meets no contention makes no hardware CAS: its task is quiet as long as it is alone.
+use mathlib.Core.Path.{_≡_, refl, sym, ap, _∙_, subst}
+use mathlib.Core.Logic.{_≢_, _⊎_, inl, inr}
+use mathlib.Core.Option.{Option, none, some}
+use mathlib.Core.List.{_∷_}
+use Prim.Native.Nat.{ℕ, suc, _+_, _≤_}
+use native.Mathlib.Omega.{arith}
+use Rattle.history_spec.specs.Basics.{_∈_}
+use Rattle.history_spec.specs.History.{cellOf, Action, begin, step, Attempt, untried, Event, accepted, answered, CallId, Call, attempts, FinishedCall, Calls, called, advance, advanced, enter, CallOf, finished, pending}
+use Rattle.history_spec.specs.History.{run}
+use Rattle.history_spec.specs.Demand3.{Unequal, Alone, NoHardware, clearAfter}
+use Rattle.history_spec.proofs.Basics.{upd-same, clash, some-inj}
+use Rattle.history_linearization.proofs.Simulation.{Tally, QuietSteps, Quietly}
+use Rattle.history_linearization.proofs.Tracks.{upd-some, tallied, tallyOf, call-of, Tracks, Change, refuses, starts, goes, ends}
+use Rattle.history_linearization.proofs.MovesOne.{Onward, Dated, MovesOne, continues, last-one, ended-finished, moves-one}
+
+-- a call that is alone was so before
+alone-before : {t : ℕ} {b b' : Calls} → MovesOne 0 t b b' → (c d : Call) (n n' : ℕ) → c .start ≡ d .start → n ≤ n' → Alone b' d n' → Alone b c n
+alone-before {b' = b'} m c d n n' s le alone e k h unequal q ne =
+    go (alone (r .0) (r .1) (r .2) (subst (λ (x : CallId). Unequal (x .op)) (r .3 .start) unequal) (cc (r .3 .start)) (λ z. ne (cc (r .3 .start))))
+  where
+    r : (f : Call) × (j : ℕ) × CallOf b' f j × Onward e f × (k ≤ 0 + j)
+    r = continues m e k h
+
+    go : (r .1 ≤ d .start .at) ⊎ (n' ≤ r .0 .start .at) → (k ≤ c .start .at) ⊎ (n ≤ e .start .at)
+    go (inl z) = inl (omega (arith, z, r .4, ap (λ (x : CallId). x .at) s))
+    go (inr z) = inr (omega (arith, z, ap (λ (x : CallId). x .at) (r .3 .start)))
+
+module _ {S : Type 0} (machine : S → Action → S × Event) (start : S) (clear : S → ℕ → Type 0) (doing : S → ℕ → Option Tally) (Quiet : S → ℕ → Type 0) where
+  -- the call began at a cell that is clear and is alone until n
+  abbrev pub Calm : Calls → Call → ℕ → Type 0
+  Calm b c n = clearAfter machine start clear (c .start .before) (cellOf (c .start .op)) × Alone b c n
+
+  pub record AllQuiet (s : S) (b : Calls) : Type 0 where
+    pub quiet : (t : ℕ) (c : Call) → b .pending t ≡ some c → Calm b c (b .now) → Quiet s t × (attempts c ≡ 0)
+    pub past : (f : FinishedCall) → f ∈ b .finished → Calm b (f .call) (f .call .last) → attempts (f .call) ≡ 0
+
+  pub no-hardware : {s : S} {b : Calls} → AllQuiet s b → NoHardware (clearAfter machine start clear) b
+  no-hardware G c n (finished f i) a l = G .past f i (a, l)
+  no-hardware G c n (pending t d h) a l = G .quiet t c h (a, l) .1
+
+  module _ (s s' : S) (b : Calls) (G : AllQuiet s b) (same : Tracks doing s b) (dated : Dated b) where
+    module _ {a : Action} {e : Event} (k : Change s s' b a e) where
+      -- calm after the action, a call was quiet before it
+      was-quiet : (u : ℕ) (c d : Call) (n : ℕ) → b .pending u ≡ some c → c .start ≡ d .start → b .now ≤ n → Calm (enter b a e) d n → Quiet s u × (attempts c ≡ 0)
+      was-quiet u c d n h q le (r, l) =
+          G .quiet u c h (subst (λ (s : CallId). clearAfter machine start clear (s .before) (cellOf (s .op))) (sym q) r, alone-before (moves-one b dated k) c d (b .now) n q le l)
+
+      was-past : (f : FinishedCall) → f ∈ b .finished → Calm (enter b a e) (f .call) (f .call .last) → attempts (f .call) ≡ 0
+      was-past f i (r, l) = G .past f i (r, alone-before (moves-one b dated k) (f .call) (f .call) (f .call .last) (f .call .last) refl (omega arith) l)
+
+    -- the stepper's call has made no attempt
+    no-attempt : (t : ℕ) (x : Attempt) {e : Event} (k : Change s s' b (step t) e) (c : Call) (n : ℕ) → b .pending t ≡ some c → b .now ≤ n → QuietSteps doing clear Quiet s s' t x →
+        Calm (enter b (step t) e) (advance b x c) n → Quiet s t × (attempts (advance b x c) ≡ 0)
+    no-attempt t x k c n busy le p l = let r = was-quiet k t c (advance b x c) n busy refl le l in (r .0, rw (p .no-attempt (r .0)) (omega (arith, r .1)))
+
+    -- another task's call stays as it was
+    other-quiet : (t : ℕ) (x : Attempt) {e : Event} (k : Change s s' b (step t) e) → QuietSteps doing clear Quiet s s' t x → Tracks doing s' (enter b (step t) e) → (u : ℕ) (d : Call) →
+        enter b (step t) e .pending u ≡ some d → b .pending u ≡ some d → Calm (enter b (step t) e) d (suc (b .now)) → Quiet s' u × (attempts d ≡ 0)
+    other-quiet t x k p same' u d i h l = let w = was-quiet k u d d (suc (b .now)) h refl (omega arith) l in (p .kept u (tallied d) (same' u ∙ ap tallyOf i) (w .0), w .1)
+
+    pub quiet-next : {a : Action} {e : Event} → Change s s' b a e → s ≡ run machine start (b .accepted) → Tracks doing s' (enter b a e) →
+        Quietly doing clear Quiet s a s' e → AllQuiet s' (enter b a e)
+    quiet-next (refuses {a} {r} z) reached same' p = record {
+      quiet = λ t c h l. rw z (was-quiet (refuses {a = a} {r = r} z) t c c (suc (b .now)) h refl (omega arith) l);
+      past = was-past (refuses {a = a} {r = r} z);
+    }
+    quiet-next (starts {t} {op} {x} idle) reached same' p = record { quiet = λ u d h l. quiet u d l (upd-some (b .pending) t (some c0) u d h); past = was-past (starts {x = x} idle) }
+      where
+        c0 : Call
+        c0 = called b t op
+
+        b' : Calls
+        b' = enter b (begin t op) (accepted untried)
+
+        on : (u : ℕ) (c : Call) → b .pending u ≡ some c → b' .pending u ≡ some c
+        on u c h = moves-one b dated {s = s} {s' = s'} (starts {x = untried} idle) .others u (λ q. clash idle (rw q at h)) ∙ h
+
+        -- two calls pending now are not apart
+        never : {n m : ℕ} → n ≤ b .now → m ≤ b .now → (suc (b .now) ≤ n) ⊎ (suc (b .now) ≤ m) → ⊥
+        never h i (inl z) = omega arith
+        never h i (inr z) = omega arith
+
+        quiet : (u : ℕ) (d : Call) → Calm b' d (b' .now) → ((u ≡ t) × (some c0 ≡ some d)) ⊎ ((u ≢ t) × (b .pending u ≡ some d)) → Quiet s' u × (attempts d ≡ 0)
+        quiet u d l (inl (q, h)) = rw q (subst (λ (d : Call). Calm b' d (b' .now) → Quiet s' t × (attempts d ≡ 0)) (some-inj {o = some c0} refl h) first l)
+          where
+            first : Calm b' c0 (b' .now) → Quiet s' t × (attempts c0 ≡ 0)
+            first (r, l) = (
+              p .new (rw reached r) (λ w n i x y.
+                  let e = call-of (b .pending w) n (sym (same w) ∙ i) in
+                  let z = dated .past w (e .0) (e .1) .0 in
+                  never (omega arith) (omega arith) (l (e .0) (b' .now) (pending w (e .0) (on w (e .0) (e .1)))
+                  (subst (λ (n : Tally). Unequal (n .op)) (sym (e .2)) x) (ap (λ (n : Tally). cellOf (n .op)) (e .2) ∙ y) (λ q. omega arith))),
+              refl,
+            )
+        quiet u d (r, l) (inr (q, h)) =
+            let w = was-quiet (starts {x = x} idle) u d d (suc (b .now)) h refl (omega arith) (r, l) in
+            let z = dated .past u d h .0 in (
+              p .others u (tallied d) (same u ∙ ap tallyOf h) (λ x y. never (omega arith) (omega arith)
+                  (l c0 (b' .now) (pending t c0 (upd-same (b .pending) t (some c0))) x y (λ q. omega arith))) (w .0),
+              w .1,
+            )
+    quiet-next (goes {t} {x} c busy) reached same' p =
+        record { quiet = λ u d h l. quiet u d h l (upd-some (b .pending) t (advanced b x (b .pending t)) u d h); past = was-past (goes {x = x} c busy) }
+      where
+        b' : Calls
+        b' = enter b (step t) (accepted x)
+
+        quiet : (u : ℕ) (d : Call) → b' .pending u ≡ some d → Calm b' d (b' .now) →
+            ((u ≡ t) × (advanced b x (b .pending t) ≡ some d)) ⊎ ((u ≢ t) × (b .pending u ≡ some d)) → Quiet s' u × (attempts d ≡ 0)
+        quiet u d h l (inl (q, i)) =
+            let z : advance b x c ≡ d = some-inj (ap (advanced b x) busy) i in
+            let w = no-attempt t x (goes {x = x} c busy) c (suc (b .now)) busy (omega arith) p (rw (← z) at l) in
+            (p .kept u (tallied d) (same' u ∙ ap tallyOf h) (rw q (w .0)), ap attempts (sym z) ∙ w .1)
+        quiet u d h l (inr (q, i)) = other-quiet t x (goes c busy) p same' u d h i l
+    quiet-next (ends {t} {x} {r} c busy p q) reached same' p' = record {
+      quiet = λ u d i l. quiet u d i l (upd-some (b .pending) t none u d i);
+      past = λ f i l. past f l (rw (ended-finished b dated t x c busy r) at i);
+    }
+      where
+        b' : Calls
+        b' = enter b (step t) (answered x r)
+
+        k : Change s s' b (step t) (answered x r)
+        k = ends c busy p q
+
+        quiet : (u : ℕ) (d : Call) → b' .pending u ≡ some d → Calm b' d (b' .now) → ((u ≡ t) × (none ≡ some d)) ⊎ ((u ≢ t) × (b .pending u ≡ some d)) → Quiet s' u × (attempts d ≡ 0)
+        quiet u d i l (inl (z, j)) = absurd (clash refl j)
+        quiet u d i l (inr (z, j)) = other-quiet t x k p' same' u d i j l
+
+        past : (f : FinishedCall) → Calm b' (f .call) (f .call .last) → f ∈ (last-one b dated t x c busy r ∷ b .finished) → attempts (f .call) ≡ 0
+        past f l (inl z) = rw z (no-attempt t x k c (b .now) busy (omega arith) p' (rw z at l) .1)
+        past f l (inr i) = was-past k f i l

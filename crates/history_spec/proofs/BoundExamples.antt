@@ -1,0 +1,139 @@
+-- What the statement says of events, bounds and contention, at histories written out: what it accepts, and what it rules out.
+use mathlib.Core.Path.{_≡_, refl, ap, subst}
+use mathlib.Core.Logic.{_⊎_, inl, inr}
+use mathlib.Core.Option.{none}
+use mathlib.Core.List.{List, [], _∷_, _++_}
+use Prim.Native.Nat.{ℕ, _≤_}
+use native.Mathlib.Omega.{arith}
+use lib.ListN.{replicate}
+use borrow.Author.Tests.{ne-eqb}
+use Rattle.history_spec.specs.Basics.{upd, _∈_}
+use Rattle.history_spec.specs.History.{aRead, aSwap, read, swap, Action, begin, step, untried, success, failure, Event, refused, accepted, Value, Yes, Call, attempts, FinishedCall, Calls, noCalls, callsOf}
+use Rattle.history_spec.specs.History.{finished, pending, WellFormed}
+use Rattle.history_spec.specs.Demand3.{most, mostHard, Reports, Bounds, Unequal, Alone, NoHardware}
+use Rattle.history_spec.proofs.Basics.{clash, some-inj}
+use Rattle.history_spec.proofs.Examples.{answers, TwoCalls, two-calls, ended, both-ended, one-of}
+
+-- WRONG EVENTS: no well-formed history has them
+
+pub no-refusal-of-a-pending-call : WellFormed 1 noCalls ((begin 0 (read 0), accepted untried) ∷ (step 0, refused 11) ∷ []) → ⊥
+unfolding upd
+no-refusal-of-a-pending-call w = clash (w .1 .0) refl
+
+pub no-second-call-of-a-busy-task : WellFormed 1 noCalls ((begin 0 (read 0), accepted untried) ∷ (begin 0 (read 0), accepted untried) ∷ []) → ⊥
+unfolding upd
+no-second-call-of-a-busy-task w = clash (w .1 .0 .0) refl
+
+pub no-answer-without-a-call : WellFormed 1 noCalls ((step 0, answers untried aRead (Value 5) 3 0 0) ∷ []) → ⊥
+no-answer-without-a-call w = w .0
+
+pub no-call-on-a-cell-that-is-not-there : WellFormed 1 noCalls ((begin 0 (read 1), accepted untried) ∷ []) → ⊥
+no-call-on-a-cell-that-is-not-there w = omega (arith, w .0 .1)
+
+-- WRONG COUNTS
+
+pub no-invented-counts : Bounds (callsOf ((begin 0 (read 0), accepted untried) ∷ (step 0, answers untried aRead (Value 5) 3 0 0) ∷ [])) → ⊥
+unfolding upd
+no-invented-counts c = omega (arith, c .reported _ (inl refl) .steps)
+
+-- a read that reports a swap, or another cell
+pub no-other-kind : Bounds (callsOf ((begin 0 (read 0), accepted untried) ∷ (step 0, answers untried aSwap (Value 5) 1 0 0) ∷ [])) → ⊥
+unfolding upd
+no-other-kind w = let e = w .reported _ (inl refl) .kind in let z : _≡_ {A = ℕ} 0 1 = cc in omega arith
+
+pub no-report-of-another-cell : Bounds (callsOf ((begin 0 (read 1), accepted untried) ∷ (step 0, answers untried aRead (Value 5) 1 0 0) ∷ [])) → ⊥
+unfolding upd
+no-report-of-another-cell w = omega (arith, w .reported _ (inl refl) .cell)
+
+-- a read that six steps did not end
+pub no-read-beyond-its-bound : Bounds (callsOf ((begin 0 (read 0), accepted untried) ∷
+    (step 0, accepted untried) ∷ (step 0, accepted untried) ∷ (step 0, accepted untried) ∷ (step 0, accepted untried) ∷ (step 0, accepted untried) ∷ (step 0, accepted untried) ∷ [])) → ⊥
+unfolding upd
+no-read-beyond-its-bound c = omega (arith, c .unended 0 _ refl .0)
+
+-- a swap that twenty-one steps did not end
+pub no-swap-beyond-its-bound : Bounds (callsOf ((begin 0 (swap 0 5 7), accepted untried) ∷ replicate 21 (step 0, accepted untried))) → ⊥
+unfolding upd
+no-swap-beyond-its-bound c = omega (arith, c .unended 0 _ refl .0)
+
+-- a hardware CAS that was won, reported as lost
+pub no-win-reported-as-a-loss : Bounds (callsOf ((begin 0 (swap 0 5 7), accepted untried) ∷ (step 0, answers success aSwap Yes 1 0 1) ∷ [])) → ⊥
+unfolding upd
+no-win-reported-as-a-loss c = omega (arith, c .reported _ (inl refl) .won)
+
+-- a hardware CAS more than the kind's most, won and lost together
+pub no-read-of-two-hardware-CAS : Bounds (callsOf ((begin 0 (read 0), accepted untried) ∷ (step 0, accepted success) ∷ (step 0, accepted failure) ∷ [])) → ⊥
+unfolding upd
+no-read-of-two-hardware-CAS c = omega (arith, c .unended 0 _ refl .1)
+
+pub no-swap-of-four-hardware-CAS : Bounds (callsOf ((begin 0 (swap 0 5 7), accepted untried) ∷ replicate 2 (step 0, accepted success) ++ replicate 2 (step 0, accepted failure))) → ⊥
+unfolding upd
+no-swap-of-four-hardware-CAS c = omega (arith, c .unended 0 _ refl .1)
+
+-- RIGHT: the longest calls, a read that decides and a swap that ends at 30 by 25 (21 steps: CR 2)
+abbrev only : FinishedCall → Calls
+only f = record { now = 22; accepted = []; pending = λ t. none; finished = f ∷ [] }
+
+within-bounds : (f : FinishedCall) → (f .call .steps ≤ most (f .call .start .op)) × (attempts (f .call) ≤ mostHard (f .call .start .op)) → Reports (f .call) (f .report) → Bounds (only f)
+within-bounds f h r = record { ended = ended; reported = reported; unended = λ t c e. absurd (clash refl e) }
+  where
+    ended : (g : FinishedCall) → g ∈ (f ∷ []) → (g .call .steps ≤ most (g .call .start .op)) × (attempts (g .call) ≤ mostHard (g .call .start .op))
+    ended g (inl q) = rw q h
+
+    reported : (g : FinishedCall) → g ∈ (f ∷ []) → Reports (g .call) (g .report)
+    reported g (inl q) = rw q r
+
+pub longest-read : Bounds (only (ended 0 0 (read 0) [] 6 6 0 1 (Value 5)))
+longest-read = within-bounds _ (omega arith) (record { kind = refl; cell = refl; steps = refl; won = refl; lost = refl })
+
+pub longest-swap : Bounds (only (ended 0 0 (swap 0 5 7) [] 21 21 2 1 Yes))
+longest-swap = within-bounds _ (omega arith) (record { kind = refl; cell = refl; steps = refl; won = refl; lost = refl })
+
+-- a swap that is alone, on a clear cell, tries the hardware CAS
+abbrev needless : FinishedCall
+needless = ended 0 0 (swap 0 5 7) [] 1 1 1 0 Yes
+
+pub no-hardware-CAS-alone : NoHardware (λ l k. Unit {0}) (callsOf ((begin 0 (swap 0 5 7), accepted untried) ∷ (step 0, answers success aSwap Yes 1 1 0) ∷ [])) → ⊥
+unfolding upd
+no-hardware-CAS-alone h = omega (arith, h (needless .call) 1 (finished needless (inl refl)) tt alone)
+  where
+    b : Calls
+    b = callsOf ((begin 0 (swap 0 5 7), accepted untried) ∷ (step 0, answers success aSwap Yes 1 1 0) ∷ [])
+
+    alone : Alone b (needless .call) 1
+    alone d n i u q ne = absurd (go (both-ended b needless needless (λ t p q. rw (ne-eqb t 0 p)) refl refl (one-of needless) d n i))
+      where
+        go : (d ≡ needless .call) ⊎ (d ≡ needless .call) → ⊥
+        go (inl q) = ne (ap (λ (c : Call). c .start .at) q)
+        go (inr q) = ne (ap (λ (c : Call). c .start .at) q)
+
+-- where the cell is not clear, the same call is right
+pub hardware-CAS-on-a-cell-that-is-not-clear : NoHardware (λ l k. ⊥) (callsOf ((begin 0 (swap 0 5 7), accepted untried) ∷ (step 0, answers success aSwap Yes 1 1 0) ∷ []))
+hardware-CAS-on-a-cell-that-is-not-clear c n i clear alone = absurd clear
+
+-- a swap beside which only one of equal values is pending tries the hardware CAS
+abbrev beside-equal : List (Action × Event)
+beside-equal = (begin 0 (swap 0 5 5), accepted untried) ∷ (begin 1 (swap 0 5 7), accepted untried) ∷ (step 1, answers success aSwap Yes 1 1 0) ∷ []
+
+abbrev equal : Call
+equal = record { start = record { at = 0; task = 0; op = swap 0 5 5; before = [] }; last = 0; steps = 0; won = 0; lost = 0 }
+
+abbrev beside : FinishedCall
+beside = ended 1 1 (swap 0 5 7) (begin 0 (swap 0 5 5) ∷ []) 2 1 1 0 Yes
+
+pub no-hardware-CAS-beside-an-equal-swap : NoHardware (λ l k. Unit {0}) (callsOf beside-equal) → ⊥
+unfolding upd
+no-hardware-CAS-beside-an-equal-swap h = omega (arith, h (beside .call) 2 (finished beside (inl refl)) tt alone)
+  where
+    done : (f : FinishedCall) → f ∈ (beside ∷ []) → (f .call ≡ equal) ⊎ (f .call ≡ beside .call)
+    done f (inl q) = inr (ap (λ (f : FinishedCall). f .call) q)
+
+    two : TwoCalls (callsOf beside-equal) equal (beside .call)
+    two = two-calls (callsOf beside-equal) equal (beside .call) (λ t p q. rw (ne-eqb t 0 p, ne-eqb t 1 q)) (λ e h. some-inj h refl) refl done
+
+    alone : Alone (callsOf beside-equal) (beside .call) 2
+    alone d n i u q ne = absurd (go (two d n i))
+      where
+        go : (d ≡ equal) ⊎ (d ≡ beside .call) → ⊥
+        go (inl q) = subst (λ (d : Call). Unequal (d .start .op)) q u refl
+        go (inr q) = ne (ap (λ (c : Call). c .start .at) q)

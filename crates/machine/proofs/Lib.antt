@@ -1,4 +1,0 @@
-mod Acting
-mod Quiet
-pub mod Advancing
-pub mod Turning

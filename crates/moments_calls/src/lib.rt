@@ -1,2 +1,0 @@
-// The words of the swaps that are pending after the last action.
-pub mod calls;

@@ -1,1 +1,0 @@
-// The line of a call that moments prints: definitions only.

@@ -1,4 +1,0 @@
-pub mod Sorting
-pub mod Encoding
-pub mod Noting
-pub mod Ruling

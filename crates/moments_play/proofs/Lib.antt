@@ -1,4 +1,0 @@
-mod Doing
-mod Seeing
-mod Marking
-mod Starting

@@ -1,0 +1,4 @@
+pub mod Lines
+pub mod LineExamples
+pub mod Printed
+pub mod Examples

@@ -1,0 +1,9 @@
+pub mod Sorting
+pub mod Encoding
+pub mod Noting
+pub mod Ruling
+mod Printing
+mod Doing
+mod Seeing
+mod Marking
+mod Starting

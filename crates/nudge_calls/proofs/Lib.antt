@@ -1,3 +1,0 @@
-pub mod Following
-pub mod Exchanging
-pub mod Steps

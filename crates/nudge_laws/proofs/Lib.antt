@@ -1,4 +1,0 @@
-pub mod Ledger
-pub mod Finished
-pub mod Exchange
-pub mod Nudge

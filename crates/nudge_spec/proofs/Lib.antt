@@ -1,0 +1,5 @@
+pub mod Moved
+pub mod Ledger
+pub mod Finished
+pub mod Exchange
+pub mod Nudge

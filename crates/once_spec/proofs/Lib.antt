@@ -1,0 +1,13 @@
+pub mod Classes
+pub mod Numbers
+pub mod Invariant
+pub mod Keeping
+pub mod Ways
+pub mod Lone
+pub mod Sound
+pub mod Begins
+pub mod Moving
+pub mod Opening
+pub mod Acts
+pub mod Agrees
+pub mod Examples

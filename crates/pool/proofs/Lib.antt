@@ -1,4 +1,0 @@
-pub mod Parts
-pub mod Twelve
-pub mod LineRuns
-pub mod Installs

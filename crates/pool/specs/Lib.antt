@@ -1,4 +1,0 @@
-pub mod Pool
-pub mod Memory
-pub mod Words
-pub mod LineRun

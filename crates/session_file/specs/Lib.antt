@@ -1,4 +1,0 @@
-pub mod Session
-pub mod Written
-pub mod Proper
-pub mod Examples

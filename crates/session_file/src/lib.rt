@@ -1,1 +1,0 @@
-// What a session file is, defined in specs/; that a written one is read back is proved in proofs/: theory only.

@@ -1,0 +1,9 @@
+pub mod Shape
+pub mod Session
+pub mod Written
+pub mod Proper
+pub mod FileExamples
+pub mod Lines
+pub mod Printed
+pub mod Tools
+pub mod Examples

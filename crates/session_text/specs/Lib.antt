@@ -1,4 +1,0 @@
-pub mod Lines
-pub mod Printed
-pub mod Tools
-pub mod Examples

@@ -1,1 +1,0 @@
-// What a session prints: definitions alone, in specs/.

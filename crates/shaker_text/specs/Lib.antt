@@ -1,4 +1,0 @@
-pub mod Actions
-pub mod Shaken
-pub mod Played
-pub mod Examples

@@ -1,1 +1,0 @@
-// What the shaker draws and prints: definitions, and what is proved of the sessions drawn.
