@@ -1,10 +1,10 @@
 // Steps 32 tasks on 16 cells 60,000 times by a fixed random schedule, and prints one line of totals. bench/cells has the
 // same loop in plain Rust.
+use cells::Answer;
+use cells::Finished;
+use cells::Outcome;
+use cells::State;
 use cells::opening_state::open_state;
-use cells_spec::Outcome;
-use cells_spec::State;
-use figure_lines::Answer;
-use figure_lines::Finished;
 use libc::STDOUT_FILENO;
 use std::num::wrapping_add_u32;
 

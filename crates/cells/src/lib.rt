@@ -1,4 +1,4 @@
-// The entries that firmware links, and their types; no function of its own.
+// The entries that firmware links, and every type that their users name.
 mod begins;
 pub mod lent;
 mod looks;
@@ -12,8 +12,12 @@ pub use crate::begins::begin_swap;
 pub use crate::lent::step_lent;
 pub use crate::looks::look;
 pub use crate::opening::open;
+pub use crate::opening_state::blank;
 pub use crate::steps::step;
 pub use cells_spec::Looked;
 pub use cells_spec::Outcome;
 pub use cells_spec::Reply;
 pub use cells_spec::State;
+pub use figure_lines::Answer;
+pub use figure_lines::Finished;
+pub use figure_lines::Record;

@@ -8,7 +8,7 @@ ghost use Rattle.cells_spec.specs.Look.{looked, shownValue};
 use cells_questions::fitness::is_fit;
 use cells_spec::Looked;
 use cells_spec::State;
-use cells_step::memory::load;
+use cells_step::load;
 use figure_lines::Field;
 use figure_lines::records::NO_VALUE;
 

@@ -10,7 +10,7 @@ use cells_questions::open_refusals::open_refusal;
 use cells_spec::Outcome;
 use cells_spec::Reply;
 use cells_spec::State;
-use cells_step::memory::fill;
+use cells_step::fill;
 
 // Block k gets the k-th value.
 fn fill_blocks(pool: &mut [u32], values: &[u32])

@@ -4,10 +4,10 @@ ghost use mathlib.Core.Bool.{true, cond};
 ghost use lib.ListN.{getD};
 ghost use Prim.Native.Nat.{_<_};
 ghost use Rattle.cells_spec.specs.StoredCounts.{less, released, renamed, recounted, MayRename, Named, Countable};
-use cells_questions::counting::claim;
-use cells_questions::counting::count;
-use cells_questions::counting::is_holding;
-use cells_questions::counting::is_taking;
+use cells_questions::claim;
+use cells_questions::count;
+use cells_questions::is_holding;
+use cells_questions::is_taking;
 use figure_lines::Record;
 
 fn discount(counts: &mut [u8; 128], b: u32)

@@ -1,6 +1,13 @@
 // The questions, asked in their order.
-pub mod counting;
+mod counting;
 pub mod fitness;
 pub mod open_refusals;
 pub mod refusals;
-pub mod sizes;
+mod sizes;
+
+pub use crate::counting::claim;
+pub use crate::counting::count;
+pub use crate::counting::is_holding;
+pub use crate::counting::is_taking;
+pub use crate::sizes::cells_ok;
+pub use crate::sizes::tasks_ok;

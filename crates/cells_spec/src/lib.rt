@@ -1,7 +1,6 @@
-// The state that the questions are asked of.
-// The lent pool of words, and what follows a line of figure 2 run on it. A task's record stands in its place as twelve words.
-// Shared compare-and-swap cells after figure 2 of Luchangco, Moir and Shavit: the types of the actions and of the entries' answers.
-// What the entries do is defined in specs/; each promises one equation, whether it is refused or not. The crate `entries` has them.
+// Shared compare-and-swap cells after figure 2 of Luchangco, Moir and Shavit: the types of their state, of what follows a line, of the
+// actions and of the entries' answers. What the questions ask and what the entries do is defined in specs/; each entry promises one equation,
+// whether it is refused or not. The crate `cells` has them.
 use figure_lines::Answer;
 use figure_lines::Finished;
 use figure_lines::Record;

@@ -5,10 +5,13 @@ mod filling;
 mod follows;
 pub mod free_block;
 mod installing;
-pub mod memory;
+mod memory;
 pub mod paths;
 mod reading;
 mod runs;
 mod swapping;
 pub mod turns;
 pub mod words;
+
+pub use crate::memory::fill;
+pub use crate::memory::load;

@@ -1,7 +1,7 @@
 // What is noted beside the cells at each step, of the block that a task holds.
 use crate::sights::Own;
 use crate::sights::Sight;
-use cells_questions::counting::is_holding;
+use cells_questions::is_holding;
 use cells_spec::Action;
 use cells_spec::Outcome;
 use figure_lines::Record;

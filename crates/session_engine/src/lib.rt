@@ -5,5 +5,8 @@ mod moves;
 pub mod places;
 pub mod records;
 pub mod start;
-pub mod starts;
+mod starts;
 pub mod whole;
+
+pub use crate::starts::SessionOpening;
+pub use crate::starts::Started;

@@ -3,7 +3,7 @@ use crate::starts::SessionOpening;
 use crate::starts::Started;
 use crate::starts::opening_of;
 use crate::starts::pool_words;
-use cells::opening_state::blank;
+use cells::blank;
 use session_reader::read_session;
 use session_reader::reading::Reading;
 ghost use mathlib.Core.Path.{_≡_};

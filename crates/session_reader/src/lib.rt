@@ -1,11 +1,12 @@
 // Reads a session file: the first of questions 12 to 15 that is answered no, or the session.
 mod forms;
-pub mod items;
+mod items;
 mod keeping;
 mod opening;
 pub mod reading;
 mod shape;
 
+pub use crate::items::numbers;
 use crate::reading::Opened;
 use crate::reading::Reading;
 use crate::reading::Rest;

@@ -6,7 +6,7 @@ mod opening;
 
 use crate::opening::put_opening;
 use buffers::pool_space;
-use cells::opening_state::blank;
+use cells::blank;
 use text::numbered::put_bad;
 ghost use mathlib.Core.Path.{_≡_};
 ghost use mathlib.Core.Option.{Option·getD};

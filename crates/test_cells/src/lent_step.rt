@@ -8,9 +8,9 @@ use crate::numbers_of;
 use crate::print;
 use crate::record_sum;
 use crate::sum_of;
-use cells_spec::Reply;
-use cells_spec::State;
-use figure_lines::Record;
+use cells::Record;
+use cells::Reply;
+use cells::State;
 
 // A reply, and the record that was lent.
 struct LentKept {

@@ -11,15 +11,15 @@
 //   also whether it was answered yes, its steps, and its hardware CAS won and lost
 mod lent_step;
 
+use cells::Answer;
+use cells::Finished;
+use cells::Looked;
+use cells::Outcome;
+use cells::Record;
+use cells::Reply;
+use cells::State;
 use cells::opening_state::open_state;
-use cells_spec::Looked;
-use cells_spec::Outcome;
-use cells_spec::Reply;
-use cells_spec::State;
 use cells_step::words::words_of;
-use figure_lines::Answer;
-use figure_lines::Finished;
-use figure_lines::Record;
 use figure_lines::records;
 use libc::STDOUT_FILENO;
 use std::num::wrapping_add_u32;

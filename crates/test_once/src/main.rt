@@ -6,12 +6,12 @@ ghost use Prim.Native.Nat.{_≤_};
 ghost use lib.ListN.{length};
 use libc::STDIN_FILENO;
 use libc::STDOUT_FILENO;
+use once::Agreement;
+use once::Offer;
+use once::OnceCell;
 use once::OnceReply;
-use once_spec::Agreement;
-use once_spec::Offer;
-use once_spec::OnceCell;
-use once_spec::OnceState;
-use once_spec::Progress;
+use once::OnceState;
+use once::Progress;
 use program_io::case_files::open_case;
 use std::num::wrapping_add_u32;
 use text::Place;
@@ -76,7 +76,7 @@ fn read_numbers(s: &[u8], from: usize, form: usize) -> CaseLine
     requires { ⌜ (from ≤ length (now s)) × (form ≤ 3) ⌝ }
 {
     let mut n = [0u32; 3];
-    let read = session_reader::items::numbers(s, from, form, &mut n);
+    let read = session_reader::numbers(s, from, form, &mut n);
     let Place::At(at) = read else {
         return bad();
     };
