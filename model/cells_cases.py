@@ -1,5 +1,5 @@
 #!/usr/bin/env python3
-"""What the program cells_cases must print: entries handed wrong numbers, unfit
+"""What the program test_cells must print: entries handed wrong numbers, unfit
 states and pools of another length.
 
     python3 model/cells_cases.py < crates/test_cells/stdin

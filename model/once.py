@@ -1,5 +1,5 @@
 #!/usr/bin/env python3
-"""The once-only cells of change request 1, and the program once_cases.
+"""The once-only cells of change request 1, and the program test_once.
 
 Written from document 02 (CR 1), document 01's questions and source document
 003, figure 1 with the last paragraph of section 3, alone.  Sentences of CR 1
