@@ -1,5 +1,5 @@
 -- Which event the code's answer is in a history, three runs of the pool in which readings to keep out would answer otherwise, a fit state whose
--- step is refused with 20, and a run that one block more would let go on, computed. (P1 to P10: `prints` in session_text.)
+-- step is refused with 20, and a run that one block more would let go on, computed. (P1 to P10: `prints` in session_spec.)
 use mathlib.Core.Path.{_≡_, refl}
 use mathlib.Core.Bool.{true}
 use mathlib.Core.Option.{none}

@@ -32,7 +32,7 @@ used s b = isCurrent s b || usedByTask s b
 abbrev pub holdsReplaced : State → Record → Bool
 holdsReplaced s r = (not (isIdle r) && holds r) && not (isCurrent s (r .held))
 
--- some task holds none: so it is in every state that an opening leads to (refinement/proofs/Refines.antt)
+-- some task holds none: so it is in every state that an opening leads to (cells_theorems/proofs/Refines.antt)
 abbrev pub Spare : State → Type 0
 Spare s = (t : ℕ) × (t < s .tasks) × (holdsReplaced s (recordAt (s .records) t) ≡ false)
 
@@ -65,7 +65,7 @@ foundOf (At b) = some b
 foundOf Nowhere = none
 
 -- document 01's search, by the table: of k blocks going upward from b, the first that is not used. The counts find the same
--- (blocks/proofs/Unused.antt)
+-- (cells_spec/proofs/Unused.antt)
 abbrev pub readFrom : State → (b k : ℕ) → Option ℕ
 readFrom s b zero = none
 readFrom s b (suc k) = cond (used s b) (readFrom s (blockAfter (s .blocks) b) k) (some b)

@@ -1,5 +1,5 @@
--- The pool as memory (lines/specs/Memory.antt), given numbers only: the block that the task's cell names, the block taken last, and what the
--- search for an unused block answers. No line names another cell than the task's own (questions/proofs/Accesses.antt).
+-- The pool as memory (figure_lines/specs/Memory.antt), given numbers only: the block that the task's cell names, the block taken last, and what the
+-- search for an unused block answers. No line names another cell than the task's own (cells_spec/proofs/Accesses.antt).
 use mathlib.Core.Option.{Option, none, some}
 use mathlib.Core.List.{List}
 use Prim.Native.Nat.{ℕ, _+_, _*_, _<_}

@@ -1,5 +1,5 @@
 -- Document 01's P5, P6, P9 and P10 (P9 and P10 with CR 2's counts), and a task that halts while it fills a block, run in the figure with a new block each time: the
--- events that its calls end with. (The table of P1 to P10 is `prints` in session_text, of the pool.)
+-- events that its calls end with. (The table of P1 to P10 is `prints` in session_spec, of the pool.)
 use mathlib.Core.Path.{_≡_, refl}
 use mathlib.Core.List.{List, [], _∷_, _++_}
 use Prim.Native.Nat.{ℕ}

@@ -1,5 +1,5 @@
 -- The moments of small lists of actions in the figure, those of P1, P5, P6, P9 and P10 among them, computed: spots and rules, before any text.
--- (What the cells print of P1 to P10: `prints` in session_text; what moments prints: `prints` in moments_text.)
+-- (What the cells print of P1 to P10: `prints` in session_spec; what moments prints: `prints` in moments_text.)
 use mathlib.Core.Path.{_≡_, refl}
 use mathlib.Core.List.{List, [], _∷_, _++_, map}
 use Prim.Native.Nat.{ℕ}

@@ -24,7 +24,7 @@ pub data Verdict : Type 0 where
 abbrev pub short : List ℕ → Bool
 short s = leb (length s) 65536
 
--- 13. session_shape/specs/Shape.antt
+-- 13. specs/Shape.antt
 
 -- 14. Is each form one of those below with exactly its items, with numbers of at most 4,294,967,295 and no leading
 -- zeros, and open first and only there?
