@@ -1,5 +1,6 @@
 // The entries that firmware links, and every type that their users name.
 mod begins;
+mod drops;
 pub mod lent;
 mod looks;
 mod opening;
@@ -9,6 +10,7 @@ mod steps;
 
 pub use crate::begins::begin_read;
 pub use crate::begins::begin_swap;
+pub use crate::drops::drop;
 pub use crate::lent::step_lent;
 pub use crate::looks::look;
 pub use crate::opening::open;

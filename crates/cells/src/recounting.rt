@@ -27,7 +27,8 @@ fn discount_if(counts: &mut [u8; 128], b: u32, used: bool)
     }
 }
 
-fn release(counts: &mut [u8; 128], r: Record)
+// What a record names is no longer used. No entry, but for callers that have proved that nothing is taken below 0.
+pub fn release(counts: &mut [u8; 128], r: Record)
     requires { ⌜ Named (now counts) r ⌝ }
     ensures { λ _. ⌜ now (counts .exit) ≡ released (now (counts .entry)) r ⌝ }
 {

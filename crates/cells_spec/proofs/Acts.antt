@@ -23,6 +23,7 @@ use Rattle.cells_spec.specs.Blocks.{unused}
 use Rattle.cells_spec.specs.Memory.{Touched, performed}
 use Rattle.cells_spec.specs.Turn.{ending}
 use Rattle.cells_spec.specs.Step.{current, ran, stepAsks, stepped}
+use Rattle.cells_spec.specs.Drop.{dropAsks, callWithdrawn, dropped}
 use Rattle.cells_spec.specs.Look.{shownValue, shown, looked}
 use Rattle.cells_spec.proofs.Tests.{all-yes}
 
@@ -95,6 +96,14 @@ module _ (s : State) (p : List ℕ) (t : ℕ) where
   pub step-untouched : Untouched s p (stepped s p t)
   unfolding stepped
   step-untouched = untouched s p (ran s p t (recordAt (s .records) t)) runs (refusal (stepAsks s p t))
+
+  pub drop-acts : acts (dropped s p t .outcome) ≡ ands (answers (dropAsks s p t))
+  unfolding dropped
+  drop-acts = asked s p (callWithdrawn s p t) refl (dropAsks s p t)
+
+  pub drop-untouched : Untouched s p (dropped s p t)
+  unfolding dropped
+  drop-untouched = untouched s p (callWithdrawn s p t) refl (refusal (dropAsks s p t))
 
 -- a look hands back no state and no pool
 shown-as : (l : List Question) (v : ℕ) → shows (shown (refusal l) v) ≡ ands (answers l)

@@ -15,17 +15,18 @@ use Rattle.figure_lines.specs.Basics.{sumFrom}
 use Rattle.figure_lines.specs.Record.{idle, recordAt, firstRead, firstSwap}
 use Rattle.cells_spec.specs.Questions.{refusal, answers, recordUses, uses, countsTrue, openQuestions, fit, beginQuestions, swapQuestions}
 use Rattle.cells_spec.specs.Blocks.{unused}
-use Rattle.history_spec.specs.History.{read, swap, Action, begin, step}
+use Rattle.history_spec.specs.History.{read, swap, Action, begin, step, drop}
 use Rattle.history_spec.proofs.Basics.{replicate-at}
 use Rattle.cells_spec.specs.Answers.{Acted, acts}
 use Rattle.cells_spec.specs.Open.{After, leaving, unless, openState, openPool, opened}
 use Rattle.cells_spec.specs.Begin.{started, readBegun, swapBegun}
 use Rattle.cells_spec.specs.Turn.{turn}
 use Rattle.cells_spec.specs.Step.{current, ran, stepAsks, stepped}
+use Rattle.cells_spec.specs.Drop.{dropAsks, callWithdrawn, dropped}
 use Rattle.cells_spec.specs.Machine.{does}
 use Rattle.cells_spec.proofs.Tests.{all-yes, all-at, all-from, nth, within-true}
 use Rattle.cells_spec.proofs.Sums.{sum-same, sum-changed, sum-zero}
-use Rattle.cells_spec.proofs.Recount.{length-recounted}
+use Rattle.cells_spec.proofs.Recount.{length-released, length-recounted}
 use Rattle.cells_spec.proofs.CountsKept.{Arrays}
 
 -- ones, then zeros
@@ -113,7 +114,7 @@ module _ (s : State) (p : List ℕ) (z : Arrays s) where
   starts t q = (z .0, length-set (s .records) t q ∙ z .1, z .2)
 
   pub arrays-stay : (a : Action) → Arrays (does s p a .state)
-  unfolding readBegun swapBegun stepped ran
+  unfolding readBegun swapBegun stepped ran dropped
   arrays-stay (begin t (read k)) = either (refusal ((6, fit s p) ∷ beginQuestions (s .tasks) (s .cells) (recordAt (s .records) t) t k)) (started s p t (firstRead k)) (starts t (firstRead k))
   arrays-stay (begin t (swap k x n)) = either (refusal ((6, fit s p) ∷ swapQuestions (s .tasks) (s .cells) (recordAt (s .records) t) t k x n)) (started s p t (firstSwap k x n)) (starts t (firstSwap k x n))
   arrays-stay (step t) =
@@ -121,3 +122,4 @@ module _ (s : State) (p : List ℕ) (z : Arrays s) where
       let x = turn p t r (current s (r .cell)) (s .last) (unused s) in
       either (refusal (stepAsks s p t)) (ran s p t r)
       (length-set (s .current) (r .cell) (x .current) ∙ z .0, length-set (s .records) t (x .record) ∙ z .1, length-recounted (s .counts) r (x .record) (current s (r .cell)) (x .current) ∙ z .2)
+  arrays-stay (drop t) = either (refusal (dropAsks s p t)) (callWithdrawn s p t) (z .0, length-set (s .records) t idle ∙ z .1, length-released (s .counts) (recordAt (s .records) t) ∙ z .2)

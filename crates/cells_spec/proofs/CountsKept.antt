@@ -1,4 +1,4 @@
--- THE STORED COUNTS ARE TRUE AFTER EVERY ENTRY: a begin, a step, a finishing step and a step over a lent record, from every state in which it acts.
+-- THE STORED COUNTS ARE TRUE AFTER EVERY ENTRY: a begin, a step, a finishing step, a step over a lent record and a drop, from every state in which it acts.
 use mathlib.Core.Path.{_≡_, refl, sym, _∙_}
 use mathlib.Core.Bool.{Bool, true, false, not, cond, and-eq-true-iff, false≢true}
 use mathlib.Core.Option.{Option, none, some}
@@ -12,23 +12,24 @@ use borrow.Author.Tests.{eq-eqb, ltb-true}
 use Rattle.figure_lines.specs.declared.Record.{Record}
 use Rattle.cells_spec.specs.declared.State.{State}
 use Rattle.figure_lines.specs.Basics.{ands}
-use Rattle.figure_lines.specs.Record.{isIdle, recordAt, firstRead, firstSwap}
-use Rattle.cells_spec.specs.Questions.{refusal, answers, recordUses, uses, countsTrue, recordFit, recordsFit, fit, fitTests, beginQuestions, swapQuestions, poolStepQuestions}
+use Rattle.figure_lines.specs.Record.{idle, isIdle, recordAt, firstRead, firstSwap}
+use Rattle.cells_spec.specs.Questions.{refusal, answers, recordUses, uses, countsTrue, recordFit, recordsFit, fit, fitTests, beginQuestions, swapQuestions, stepQuestions, poolStepQuestions}
 use Rattle.cells_spec.specs.Blocks.{unused, isFound}
-use Rattle.history_spec.specs.History.{read, swap, Action, begin, step}
+use Rattle.history_spec.specs.History.{read, swap, Action, begin, step, drop}
 use Rattle.cells_spec.specs.Answers.{acts}
 use Rattle.cells_spec.specs.Open.{After, leaving, unless}
 use Rattle.cells_spec.specs.Begin.{withRecord, started, readBegun, swapBegun}
-use Rattle.cells_spec.specs.StoredCounts.{recounted}
+use Rattle.cells_spec.specs.StoredCounts.{released, recounted}
 use Rattle.cells_spec.specs.Turn.{turn}
 use Rattle.cells_spec.specs.Step.{current, withBlocks, withCounts, ran, stepAsks, stepped}
 use Rattle.cells_spec.specs.Lent.{isRefused, Lent, lent, steppedLent}
+use Rattle.cells_spec.specs.Drop.{dropAsks, callWithdrawn, dropped}
 use Rattle.cells_spec.specs.Machine.{does}
 use Rattle.cells_spec.proofs.Tests.{all-at, all-from, nth, within-true, blocks-most, yes-at}
 use Rattle.cells_spec.proofs.Fits.{busy-test}
 use Rattle.cells_spec.proofs.Uses.{named-used, uses-changed, count-is}
 use Rattle.cells_spec.proofs.Recount.{recounted-at}
-use Rattle.cells_spec.proofs.Acts.{read-acts, swap-acts, step-acts}
+use Rattle.cells_spec.proofs.Acts.{read-acts, swap-acts, step-acts, drop-acts}
 
 -- the lists are as long as the arrays: so they are in every state of the code, by its type
 abbrev pub Arrays : State → Type 0
@@ -134,6 +135,22 @@ module _ (s : State) (p : List ℕ) (a : Arrays s) (e : countsTrue s ≡ true) (
           moved s (room s p a (yes 0)) e t own (r .cell) (own-cell (yes 0) own (yes 2)) (x .record) (x .current) (x .last)
       go (some n) g = e
 
+  drop-keeps : countsTrue (dropped s p t .state) ≡ true
+  unfolding dropped recounted
+  drop-keeps = go (refusal (dropAsks s p t)) refl
+    where
+      -- nothing is named where the record was, and the cell names the same block
+      same-counts : recounted (s .counts) r idle (current s (r .cell)) (current s (r .cell)) ≡ released (s .counts) r
+      same-counts = rw (eq-eqb (current s (r .cell)) (current s (r .cell)) refl) refl
+
+      go : (o : Option ℕ) → refusal (dropAsks s p t) ≡ o → countsTrue (unless o s p (callWithdrawn s p t) .state) ≡ true
+      go none g =
+          let yes = yes-at (dropAsks s p t) g in
+          let own = ltb-true t (s .tasks) (yes 1) in
+          let law = moved s (room s p a (yes 0)) e t own (r .cell) (own-cell (yes 0) own (yes 2)) idle (current s (r .cell)) (s .last) in
+          rw (same-counts, set-getD (s .current) (r .cell) 0) at law
+      go (some n) g = e
+
 -- THE THEOREMS
 
 fits-of : {f : Bool} (l : List Bool) → ands (f ∷ l) ≡ true → f ≡ true
@@ -145,6 +162,7 @@ module _ (s : State) (p : List ℕ) where
   acts-fit (begin t (read k)) h = fits-of (answers (beginQuestions (s .tasks) (s .cells) (recordAt (s .records) t) t k)) (sym (read-acts s p t k) ∙ h)
   acts-fit (begin t (swap k x n)) h = fits-of (answers (swapQuestions (s .tasks) (s .cells) (recordAt (s .records) t) t k x n)) (sym (swap-acts s p t k x n) ∙ h)
   acts-fit (step t) h = fits-of (answers (poolStepQuestions (s .tasks) (recordAt (s .records) t) t (isFound (unused s)))) (sym (step-acts s p t) ∙ h)
+  acts-fit (drop t) h = fits-of (answers (stepQuestions (s .tasks) (recordAt (s .records) t) t)) (sym (drop-acts s p t) ∙ h)
 
   fit-counts : fit s p ≡ true → countsTrue s ≡ true
   unfolding fit
@@ -155,8 +173,9 @@ module _ (s : State) (p : List ℕ) where
   counts-stay sizes e (begin t (read k)) = read-keeps s p sizes e t k
   counts-stay sizes e (begin t (swap k x n)) = swap-keeps s p sizes e t k x n
   counts-stay sizes e (step t) = step-keeps s p sizes e t
+  counts-stay sizes e (drop t) = drop-keeps s p sizes e t
 
--- After every begin and every step that acts, a finishing one included, what the state stores for each block is what its table says.
+-- After every begin, every step that acts, a finishing one included, and every drop, what the state stores for each block is what its table says.
 pub counts-kept : (s : State) (p : List ℕ) → (length (s .current) ≡ 16) × (length (s .records) ≡ 32) × (length (s .counts) ≡ 128)
     → (a : Action) → acts (does s p a .outcome) ≡ true → countsTrue (does s p a .state) ≡ true
 counts-kept s p sizes a h = counts-stay s p sizes (fit-counts s p (acts-fit s p a h)) a

@@ -13,13 +13,14 @@ use Rattle.figure_lines.specs.declared.Answer.{Answer}
 use Rattle.figure_lines.specs.declared.Answer.the-variants as code
 use Rattle.cells_spec.specs.declared.State.{State}
 use Rattle.figure_lines.specs.Record.{idle, recordAt, firstRead, firstSwap}
-use Rattle.history_spec.specs.History.{read, swap, Action, begin, step, Kind, aRead, aSwap, Response, Value, Yes, No, Report, Attempt, success, failure, untried, Event, refused, accepted, answered, history}
+use Rattle.history_spec.specs.History.{read, swap, Action, begin, step, drop, Kind, aRead, aSwap, Response, Value, Yes, No, Report, Attempt, success, failure, untried, Event, refused, accepted, answered, history}
 use Rattle.cells_spec.specs.declared.Outcome.the-variants as outcome
 use Rattle.cells_spec.specs.Answers.{Refused, said}
 use Rattle.cells_spec.specs.Events.{eventOf}
 use Rattle.cells_spec.specs.Open.{leaving, openState, openPool, opened}
 use Rattle.cells_spec.specs.StoredCounts.{recounted}
 use Rattle.cells_spec.specs.Begin.{started, readBegun, swapBegun}
+use Rattle.cells_spec.specs.Drop.{callWithdrawn}
 use Rattle.cells_spec.specs.Step.{ran, stepped}
 use Rattle.cells_spec.specs.Lent.{lent, steppedLent}
 use Rattle.cells_spec.specs.Machine.{Pool, pool}
@@ -110,6 +111,7 @@ abbrev unasked : Pool → Action → Pool
 unasked (s, p) (begin t (read k)) = let r = started s p t (firstRead k) in (r .state, r .pool)
 unasked (s, p) (begin t (swap k e n)) = let r = started s p t (firstSwap k e n) in (r .state, r .pool)
 unasked (s, p) (step t) = let r = ran s p t (recordAt (s .records) t) in (r .state, r .pool)
+unasked (s, p) (drop t) = let r = callWithdrawn s p t in (r .state, r .pool)
 
 abbrev runs : Pool → List Action → Pool
 runs x [] = x

@@ -19,7 +19,7 @@ use Rattle.cells_spec.specs.Step.{stepAsks, stepped}
 use Rattle.cells_spec.specs.Lent.{isRefused, Lent, lent, steppedLent}
 use Rattle.cells_spec.specs.Events.{eventOf}
 use Rattle.cells_spec.specs.Machine.{does, doesLent, triedBy, pool, lentPool}
-use Rattle.history_spec.specs.History.{Action, begin, step}
+use Rattle.history_spec.specs.History.{Action, begin, step, drop}
 use Rattle.cells_spec.proofs.Acts.{acts-iff, step-acts, step-untouched}
 use Rattle.cells_spec.proofs.Replies.{asked-below}
 
@@ -76,6 +76,7 @@ module _ (s : State) (p : List ℕ) (t : ℕ) where
 lent-does : (s : State) (p : List ℕ) (a : Action) → doesLent s p a ≡ does s p a
 lent-does s p (begin t op) = refl
 lent-does s p (step t) = ap (λ (x : Lent). x .entry) (lent-own s p t)
+lent-does s p (drop t) = refl
 
 -- So the machine whose steps are lent is the machine of demands 2 and 3: what holds of every list of actions holds of those lists.
 pub lent-machine : lentPool ≡ pool

@@ -21,6 +21,7 @@ pub mod Examples
 pub mod TurnLaw
 pub mod Replies
 pub mod Stepping
+pub mod Dropping
 pub mod Spare
 pub mod Filling
 pub mod Acts

@@ -17,12 +17,13 @@ use Rattle.figure_lines.specs.Record.{idle, isIdle, recordAt, firstRead, firstS
 use Rattle.cells_spec.specs.Questions.{refusal, fit, holds, beginQuestions, swapQuestions}
 use Rattle.cells_spec.proofs.Tests.{yes-to}
 use Rattle.cells_spec.specs.Blocks.{isCurrent, holdsReplaced, Spare, unused}
-use Rattle.history_spec.specs.History.{read, swap, Action, begin, step}
+use Rattle.history_spec.specs.History.{read, swap, Action, begin, step, drop}
 use Rattle.history_spec.proofs.Basics.{either}
 use Rattle.cells_spec.specs.Open.{unless, openState}
 use Rattle.cells_spec.specs.Begin.{withRecord, started, readBegun, swapBegun}
 use Rattle.cells_spec.specs.Turn.{Turned, turn}
 use Rattle.cells_spec.specs.Step.{current, putBack, ran, stepAsks, stepped}
+use Rattle.cells_spec.specs.Drop.{dropAsks, callWithdrawn, dropped}
 use Rattle.cells_spec.specs.Machine.{does}
 use Rattle.cells_spec.proofs.Stepping.{holds-current, block-stays}
 
@@ -71,6 +72,15 @@ module _ (s : State) (t : ℕ) (long : s .tasks ≤ length (s .records)) where
         go none e = acted e (isIdle (x .record)) refl
         go (some n) e = g
 
+    -- whose call is withdrawn holds none
+    drop-spare : Spare (dropped s p t .state)
+    unfolding dropped
+    drop-spare = go (refusal (dropAsks s p t)) refl
+      where
+        go : (o : Option ℕ) → refusal (dropAsks s p t) ≡ o → Spare (unless o s p (callWithdrawn s p t) .state)
+        go none e = own (callWithdrawn s p t .state) idle refl refl (ltb-true t (s .tasks) (yes-to (dropAsks s p t) e 7)) refl
+        go (some n) e = g
+
     -- a first record holds no block
     begin-spare : (o : Option ℕ) (q : Record) → not (isIdle q) && holds q ≡ false → Spare (unless o s p (started s p t q) .state)
     begin-spare none q h = still (withRecord s t q) q refl refl refl refl (λ z e. absurd (false≢true (sym h ∙ e))) g
@@ -89,6 +99,7 @@ unfolding readBegun swapBegun
 spare-stay s p long g (begin t (read k)) = begin-spare s t long p g (refusal ((6, fit s p) ∷ beginQuestions (s .tasks) (s .cells) (recordAt (s .records) t) t k)) (firstRead k) refl
 spare-stay s p long g (begin t (swap k e n)) = begin-spare s t long p g (refusal ((6, fit s p) ∷ swapQuestions (s .tasks) (s .cells) (recordAt (s .records) t) t k e n)) (firstSwap k e n) (first-swap s t long p g k e n)
 spare-stay s p long g (step t) = step-spare s t long p g
+spare-stay s p long g (drop t) = drop-spare s t long p g
 
 pub open-spare : (tasks cells blocks : ℕ) → 1 ≤ tasks → Spare (openState tasks cells blocks)
 open-spare tasks cells blocks h = (0, omega arith, refl)

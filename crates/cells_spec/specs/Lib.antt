@@ -10,6 +10,7 @@ pub mod Open
 pub mod Begin
 pub mod StoredCounts
 pub mod Step
+pub mod Drop
 pub mod Lent
 pub mod Look
 pub mod Turn

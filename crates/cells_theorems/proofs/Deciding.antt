@@ -33,7 +33,7 @@ use Rattle.cells_spec.proofs.Words.{fields, set-else}
 use Rattle.history_spec.proofs.ListTests.{by-test}
 use Rattle.figure_cell.proofs.LineLaws.{same, same-is}
 use Rattle.figure_cell.proofs.Classes.{lies-in}
-use Rattle.cells_theorems.proofs.Stepped.{set-either, touchedAt, triesAt, following, ranAt, Runs, Stepped, refuses, runs, Began, declines, starts}
+use Rattle.cells_theorems.proofs.Stepped.{set-either, touchedAt, triesAt, following, ranAt, Runs, Stepped, refuses, runs, Began, declines, starts, Dropped, keeps, leaves}
 
 pub record Kept (x : Pool) (b : ℕ) : Type 0 where
   pub decided : word (x .1) b D ≢ noValue
@@ -132,6 +132,10 @@ module _ (s : State) (p : List ℕ) (t b : ℕ) where
       go : (u : ℕ) → u < s .tasks → let now = recordAt (set (s .records) t q) u in ((u ≡ t) × (now ≡ q)) ⊎ (now ≡ recordAt (s .records) u) → T (hasTaken now) → now .taken ≢ b
       go u l (inl (e, g)) = λ h. absurd (T-not (hasTaken q) n (subst (λ (q : Record). T (hasTaken q)) g h))
       go u l (inr g) = subst (λ (q : Record). T (hasTaken q) → q .taken ≢ b) (sym g) (k .untaken u l)
+
+  pub drop-keeps : Kept (s, p) b → {f : After} → Dropped s p t f → Kept (f .state, f .pool) b
+  drop-keeps k (keeps n) = k
+  drop-keeps k leaves = let z = begin-keeps k (starts idle tt) in record { decided = z .decided; untaken = z .untaken }
 
   module _ (k : Kept (s, p) b) where
     -- t runs its line

@@ -15,12 +15,12 @@ use Rattle.figure_lines.specs.Lines.{accessOf, nextOf}
 use Rattle.cells_spec.specs.Questions.{Question, refusal, openQuestions, beginQuestions, swapQuestions, stepQuestions}
 use Rattle.cells_spec.proofs.Tests.{or-left, or-right}
 use Rattle.cells_spec.specs.Blocks.{used, unused}
-use Rattle.history_spec.specs.History.{read, swap, Action, begin, step, Attempt, untried, refused, accepted, run}
+use Rattle.history_spec.specs.History.{read, swap, Action, begin, step, drop, Attempt, untried, refused, accepted, run}
 use Rattle.cells_spec.specs.Events.{eventOf}
 use Rattle.cells_spec.specs.Machine.{pool}
 use Rattle.figure_cell.specs.Memory.{accessCell}
 use Rattle.cells_spec.specs.Turn.{outcomeOf}
-use Rattle.figure.specs.Figure.{World, WorldAfter, unlessRefused, figureRan, figureStepped, figureBegun, triedIn, opening, figure}
+use Rattle.figure.specs.Figure.{World, WorldAfter, unlessRefused, figureRan, figureStepped, figureBegun, figureDropped, triedIn, opening, figure}
 use Rattle.cells_theorems.specs.Terms.{start}
 use Rattle.cells_theorems.proofs.Steps.{found}
 use Rattle.cells_theorems.proofs.Refines.{acts, together}
@@ -45,12 +45,13 @@ goes-on n x (Go q) e = accepts n x e
 goes-on n x (Done f) e = let z : _≡_ {A = ℕ} 0 1 = cc in omega arith
 
 not-in-the-figure : (w : World) (a : Action) → figure w a .1 ≡ refused 20 → ⊥
-unfolding figureBegun figureStepped figureRan
+unfolding figureBegun figureStepped figureRan figureDropped
 not-in-the-figure w (begin t (read k)) = only-asked 20 w untried _ (accepts 20 untried) (beginQuestions (w .tasks) (w .cells) (w .records t) t k) refl
 not-in-the-figure w (begin t (swap k e n)) = only-asked 20 w untried _ (accepts 20 untried) (swapQuestions (w .tasks) (w .cells) (w .records t) t k e n) refl
 not-in-the-figure w (step t) =
     let q = w .records t in
     only-asked 20 w (triedIn w t q) _ (goes-on 20 (triedIn w t q) (nextOf t q (accessCell (w .cell (q .cell)) (accessOf t q) .value))) (stepQuestions (w .tasks) q t) refl
+not-in-the-figure w (drop t) = only-asked 20 w untried _ (accepts 20 untried) (stepQuestions (w .tasks) (w .records t) t) refl
 
 -- AN OPENING THAT IS NOT REFUSED, then any list of actions
 module _ (old : State) (words : List ℕ) (tasks cells blocks : ℕ) (values : List ℕ) (allowed : refusal (openQuestions (length words) tasks cells blocks values) ≡ none) (actions : List Action) where

@@ -21,11 +21,12 @@ use Rattle.cells_spec.specs.Answers.{Said, Refused, Acted, Ended}
 use Rattle.cells_spec.specs.Open.{After}
 use Rattle.cells_spec.specs.Memory.{Touched, touched}
 use Rattle.cells_spec.specs.Step.{current}
+use Rattle.cells_spec.specs.Drop.{dropped}
 use Rattle.cells_spec.specs.Events.{eventOf}
 use Rattle.cells_spec.specs.Machine.{Pool, begins, pool}
 use Rattle.cells_spec.proofs.Words.{set-here}
 use Rattle.history_spec.specs.Basics.{_∈_}
-use Rattle.history_spec.specs.History.{Action, begin, step, untried, wins, run}
+use Rattle.history_spec.specs.History.{Action, begin, step, drop, untried, wins, run}
 use Rattle.history_spec.proofs.ListTests.{has, has-in, by-test}
 use Rattle.cells_spec.specs.Turn.{recordAfter}
 use Rattle.figure.specs.Figure.{World, figure, opening}
@@ -33,17 +34,14 @@ use Rattle.figure_cell.proofs.LineLaws.{same, same-is}
 use Rattle.figure_cell.proofs.Classes.{is, taking, holding, lies-in}
 use Rattle.figure.proofs.Records.{WellRecord}
 use Rattle.figure_cell.proofs.Invariant as Invariant
-use Rattle.figure.proofs.Views.{on-in}
-use Rattle.figure_moments.proofs.Known.{known}
-use Rattle.figure.proofs.Worlds.{facts}
-use Rattle.figure_moments.proofs.Reachable.{trivial, Reachable, next-reachable, opening-reachable}
+use Rattle.figure_moments.proofs.Reachable.{Reachable, reached-task, reached-unheld, next-reachable, opening-reachable}
 use Rattle.cells_theorems.specs.Terms.{start}
 use Rattle.cells_theorems.specs.Attempts.{winsOf, winsDecision, takes, tallied, decisions}
 use Rattle.cells_theorems.proofs.Memory.{in-pool}
 use Rattle.cells_theorems.proofs.Refines.{Together, together}
 use Rattle.cells_theorems.proofs.Demand3.{starting-values}
-use Rattle.cells_theorems.proofs.Stepped.{set-either, touchedAt, triesAt, following, ranAt, Runs, Stepped, refuses, runs, step-cases, begin-cases}
-use Rattle.cells_theorems.proofs.Deciding.{Kept, begin-keeps, step-keeps}
+use Rattle.cells_theorems.proofs.Stepped.{set-either, touchedAt, triesAt, following, ranAt, Runs, Stepped, refuses, runs, step-cases, begin-cases, drop-cases}
+use Rattle.cells_theorems.proofs.Deciding.{Kept, begin-keeps, step-keeps, drop-keeps}
 
 -- A WON DECISION
 
@@ -146,14 +144,12 @@ module _ {n v : ℕ} {x : Pool} {w : World} (g : Together n v x w) (i : Reachabl
         let z : T (takenBefore (k .line)) = rw (same-line u m) at h in
         let taken : g .R (k .cell) (k .taken) (pools t .held) X = subst (λ b. g .R (k .cell) (k .taken) b X) e (g .agree .records u m .taken X z) in
         let one = g .agree .blocks .same (k .cell) (k .taken) (pools t .held) (q .cell) (q .held) X X taken held-link in
-        let eu = on-in (w .records) (q .cell) u (one .0) in
-        let et = on-in (w .records) (q .cell) t refl in
-        i .holds .good .cells (q .cell) .unheld u t (rw eu (is-taking u z)) (rw et is-holding) (ap (λ (r : Record). r .taken) eu ∙ (one .1 ∙ sym (ap (λ (r : Record). r .held) et)))
+        reached-unheld v w i u t (omega (arith, m, g .agree .sizes .tasks-too)) (omega (arith, l, g .agree .sizes .tasks-too)) (sym (one .0)) (is-taking u z) is-holding (one .1)
 
     -- what it is about to decide is a value
     loaded-some : pools t .loaded ≢ noValue
     unfolding Invariant.none
-    loaded-some e = facts w (i .ghost) (known (i .notes) trivial) (i .holds .good) t .planned .plan-some (rw at-two tt) (sym (ap (λ (r : Record). r .loaded) (g .agree .records t l .same)) ∙ e)
+    loaded-some e = reached-task v w i t (omega (arith, l, g .agree .sizes .tasks-too)) .planned .plan-some (rw at-two tt) (sym (ap (λ (r : Record). r .loaded) (g .agree .records t l .same)) ∙ e)
 
   -- so a won decision leaves its block decided, and nobody has taken it
   kept-now : (t b : ℕ) {f : After} → Decides (x .0) (x .1) t b f → Kept (f .state, f .pool) b
@@ -195,6 +191,10 @@ module _ {n v : ℕ} {x : Pool} {w : World} (g : Together n v x w) (i : Reachabl
       let r = recordAt (x .0 .records) t in
       let no : winsDecision x (begin t op) b ≡ false = never (eqb (r .line) 2) (eqb (r .held) b) (begins (x .0) (x .1) t op .outcome) in
       on (pool x (begin t op) .0) (takes x (begin t op) b) (winsDecision x (begin t op) b) m (λ e. absurd (false≢true (sym no ∙ e))) (λ k e. false≢true (sym no ∙ e)) (λ k e. begin-keeps (x .0) (x .1) t b k (begin-cases (x .0) (x .1) t op))
+  counted-on (drop t) m =
+      let r = recordAt (x .0 .records) t in
+      let no : winsDecision x (drop t) b ≡ false = never (eqb (r .line) 2) (eqb (r .held) b) (dropped (x .0) (x .1) t .outcome) in
+      on (pool x (drop t) .0) (takes x (drop t) b) (winsDecision x (drop t) b) m (λ e. absurd (false≢true (sym no ∙ e))) (λ k e. false≢true (sym no ∙ e)) (λ k e. drop-keeps (x .0) (x .1) t b k (drop-cases (x .0) (x .1) t))
   counted-on (step t) m =
       let f = step-cases (x .0) (x .1) t in
       on (pool x (step t) .0) (takes x (step t) b) (winsDecision x (step t) b) m

@@ -18,13 +18,13 @@ use Rattle.cells_spec.specs.declared.State.{State}
 use Rattle.cells_spec.specs.Questions.{refusal, openQuestions}
 use Rattle.cells_spec.specs.Pool.{word}
 use Rattle.cells_spec.specs.Step.{current}
-use Rattle.history_spec.specs.History.{Action, begin, step, Response, Value, Yes, No, Event, refused, accepted, answered, history, run, Calls, noCalls, callsOf}
+use Rattle.history_spec.specs.History.{Action, begin, step, drop, Response, Value, Yes, No, Event, refused, accepted, answered, history, run, Calls, noCalls, callsOf}
 use Rattle.history_spec.specs.Basics.{_∈_}
 use Rattle.history_spec.specs.Linearization.{replies, Linearizes}
-use Rattle.history_spec.specs.Moments.{before, Spot, Mark, pointOf, replyOf, markOf, markOfPending, marked, pendingMarks, marks, sort}
+use Rattle.history_spec.specs.Moments.{before, Spot, Mark, pointOf, replyOf, markOf, markOfPending, markOfLanded, marked, pendingMarks, marks, sort}
 use Rattle.figure_cell.specs.Memory.{wordOf}
 use Rattle.figure.specs.Figure.{World, figure, opening}
-use Rattle.figure_moments.specs.Moments.{holdsBlock, Sight, Notes, noNotes, nothingNoted, noteStep, note, noting, names, ruled, stands, sees, moments}
+use Rattle.figure_moments.specs.Moments.{holdsBlock, Sight, Notes, noNotes, nothingNoted, dropNoted, noteStep, noteDrop, note, noting, names, lands, ruled, stands, sees, moments}
 use Rattle.figure.proofs.Records.{WellRecord}
 use Rattle.figure_moments.proofs.Simulation.{moments-linearize, moments-answers, never-before}
 use Rattle.cells_spec.specs.Machine.{Pool, pool}
@@ -34,15 +34,15 @@ use Rattle.cells_theorems.proofs.Agree.{Whole}
 use Rattle.cells_theorems.proofs.Memory as Memory
 use Rattle.cells_theorems.proofs.Refines.{Together, together, same-history}
 use Rattle.cells_theorems.proofs.Demand3.{starting-values}
-use Rattle.cells_theorems.proofs.Traces.{same-event, no-task}
+use Rattle.cells_theorems.proofs.Traces.{same-event, no-task, no-drop}
 
 -- ONE TASK'S PART: of a sight, whether it is a holder; of the notes, its own. The agreement says nothing of the records of tasks that are not there.
 
 abbrev sightOf : ℕ → Sight → Sight
-sightOf u x = record { line = x .line; figureLine = x .figureLine; swaps = x .swaps; active = x .active; undecided = x .undecided; current = x .current; asExpected = x .asExpected; asNew = x .asNew; holders = λ _. x .holders u }
+sightOf u x = record { line = x .line; figureLine = x .figureLine; swaps = x .swaps; active = x .active; undecided = x .undecided; current = x .current; asExpected = x .asExpected; asNew = x .asNew; holders = λ _. x .holders u; cell = x .cell; loaded = x .loaded; new = x .new }
 
 abbrev notesOf : ℕ → Notes → Notes
-notesOf u o = record { now = o .now; loaded = λ _. o .loaded u; stored = λ _. o .stored u; storedActive = λ _. o .storedActive u; inactive = λ _. o .inactive u; decided = λ _. o .decided u; replaced = λ _. o .replaced u }
+notesOf u o = record { now = o .now; loaded = λ _. o .loaded u; stored = λ _. o .stored u; storedActive = λ _. o .storedActive u; inactive = λ _. o .inactive u; decided = λ _. o .decided u; replaced = λ _. o .replaced u; waiting = o .waiting }
 
 -- a task's next notes are made of its own part
 own-part : (u : ℕ) (e : Event) (o : Notes) (t : ℕ) (x : Sight) → notesOf u (noteStep e o t x) ≡ notesOf u (noteStep e (notesOf u o) t (sightOf u x))
@@ -116,6 +116,9 @@ module _ {n v : ℕ} {x : Pool} {w : World} (g : Together n v x w) where
         asExpected = guarded holds (λ h. ap₂ eqb (same-word t l D h) (ap (λ (r : Record). r .expected) (same t l))) i;
         asNew = guarded holds (λ h. ap₂ eqb (same-word t l D h) (ap (λ (r : Record). r .new) (same t l))) i;
         holders = λ _. guarded holds (λ h. guarded (same-holds u m) (same-held t u l m h)) i;
+        cell = same t l i .cell;
+        loaded = same t l i .loaded;
+        new = same t l i .new;
       }
 
   -- THE SAME NOTES AND MARKS
@@ -127,6 +130,13 @@ module _ {n v : ℕ} {x : Pool} {w : World} (g : Together n v x w) where
       go : Dec (n ≤ t) → P (figure w (step t) .1)
       go (yes h) = rw (no-task g t h) z
       go (no h) = f (omega arith) (figure w (step t) .1)
+
+  by-drop : (t : ℕ) (P : Event → Type 0) → P (refused 7) → (t < n → (e : Event) → P e) → P (figure w (drop t) .1)
+  by-drop t P z f = go (decLe n t)
+    where
+      go : Dec (n ≤ t) → P (figure w (drop t) .1)
+      go (yes h) = rw (no-drop g t h) z
+      go (no h) = f (omega arith) (figure w (drop t) .1)
 
   module _ {o o′ : Notes} (same-notes : Alike n o o′) where
     alike : {A : Type 0} (f : Notes → Sight → A) (t u : ℕ) → t < n → u < n → f (notesOf u o) (sightOf u (seesPool x t)) ≡ f (notesOf u o′) (sightOf u (sees w t))
@@ -146,21 +156,43 @@ module _ {n v : ℕ} {x : Pool} {w : World} (g : Together n v x w) where
     nothing-noted : Alike n (nothingNoted o) (nothingNoted o′)
     nothing-noted u m = ap nothingNoted (same-notes u m)
 
+    -- a drop notes of its own call alone
+    drop-notes : (t : ℕ) → t < n → (e : Event) → Alike n (noteDrop e o t (seesPool x t)) (noteDrop e o′ t (sees w t))
+    drop-notes t l (refused r) = nothing-noted
+    drop-notes t l (answered y r) = nothing-noted
+    drop-notes t l (accepted y) = λ u m i. let s = same-notes u m i in record {
+      now = suc (s .now);
+      loaded = s .loaded;
+      stored = s .stored;
+      storedActive = s .storedActive;
+      inactive = s .inactive;
+      decided = s .decided;
+      replaced = s .replaced;
+      waiting = alike (λ o x. dropNoted o t x .waiting) t t l l i;
+    }
+
     next-notes : (a : Action) → Alike n (note pool seesPool o x a (figure w a .1)) (note figure sees o′ w a (figure w a .1))
     next-notes (begin t op) = nothing-noted
     next-notes (step t) = by-step t (λ e. Alike n (noteStep e o t (seesPool x t)) (noteStep e o′ t (sees w t))) nothing-noted (step-notes t)
+    next-notes (drop t) = by-drop t (λ e. Alike n (noteDrop e o t (seesPool x t)) (noteDrop e o′ t (sees w t))) nothing-noted (drop-notes t)
 
     abbrev SameMark : Calls → Action → Event → Type 0
     SameMark b a e = marked (noting pool seesPool) (names pool seesPool) (x, o) b a e ≡ marked (noting figure sees) (names figure sees) (w, o′) b a e
 
     step-mark : (b : Calls) (t : ℕ) → t < n → (e : Event) → SameMark b (step t) e
     step-mark b t l (refused r) = refl
-    step-mark b t l (accepted y) = refl
+    step-mark b t l (accepted y) = ap (λ (o : Option (ℕ × Spot)). markOfLanded (noting figure sees) (names figure sees) o (b .withdrawn)) (alike (λ o x. lands o x) t t l l)
     step-mark b t l (answered y r) = ap (markOf (noting figure sees) (names figure sees) (b .pending t) (r .answer)) (same-ending t (r .answer) l)
+
+    drop-mark : (b : Calls) (t : ℕ) → t < n → (e : Event) → SameMark b (drop t) e
+    drop-mark b t l (refused r) = refl
+    drop-mark b t l (accepted y) = ap (λ (o : Option Spot). markOfPending (noting figure sees) (names figure sees) o (b .pending t)) (same-standing t l)
+    drop-mark b t l (answered y r) = refl
 
     next-mark : (b : Calls) (a : Action) → SameMark b a (figure w a .1)
     next-mark b (begin t op) = refl
     next-mark b (step t) = by-step t (SameMark b (step t)) refl (step-mark b t)
+    next-mark b (drop t) = by-drop t (SameMark b (drop t)) refl (drop-mark b t)
 
     last-marks : (b : Calls) (i : ℕ) → i ≤ n → pendingMarks (noting pool seesPool) (names pool seesPool) (x, o) b i ≡ pendingMarks (noting figure sees) (names figure sees) (w, o′) b i
     last-marks b zero h = refl
@@ -182,12 +214,12 @@ module _ (old : State) (words : List ℕ) (tasks cells blocks : ℕ) (values : L
   same-moments = ap sort (same-marks actions (start old words tasks cells blocks values) (opening tasks cells values) noNotes noNotes (together old words tasks cells blocks values allowed) (λ u m. refl) noCalls [])
 
   -- The source's linearization points, beside the pool and in their order, are a linearization of the cells' calls: of every finished call,
-  -- and of the listed pending swaps.
+  -- and of the listed pending and withdrawn swaps.
   pub cell-moments-linearize : Linearizes (λ k. getD values k 0) (callsOf (history pool (start old words tasks cells blocks values) actions)) (map pointOf (poolMoments tasks (start old words tasks cells blocks values) actions))
   cell-moments-linearize = subst (λ (m : List Mark). Linearizes (λ k. getD values k 0) (callsOf (history pool (start old words tasks cells blocks values) actions)) (map pointOf m)) (sym same-moments)
       (subst (λ (h : List (Action × Event)). Linearizes (λ k. getD values k 0) (callsOf h) (map pointOf (moments tasks cells values actions))) (sym (same-history old words tasks cells blocks values allowed actions)) (moments-linearize tasks cells values (starting-values old words tasks cells blocks values allowed) actions))
 
-  -- Fed the calls in this order, the sequential cells give each the answer that it had, and yes to the listed pending swaps.
+  -- Fed the calls in this order, the sequential cells give each the answer that it had, and yes to the listed pending and withdrawn swaps.
   pub cell-moments-answers : replies (λ k. getD values k 0) (map pointOf (poolMoments tasks (start old words tasks cells blocks values) actions)) ≡ map replyOf (poolMoments tasks (start old words tasks cells blocks values) actions)
   cell-moments-answers = subst (λ (m : List Mark). replies (λ k. getD values k 0) (map pointOf m) ≡ map replyOf m) (sym same-moments) (moments-answers tasks cells values (starting-values old words tasks cells blocks values allowed) actions)
 

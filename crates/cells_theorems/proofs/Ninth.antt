@@ -4,7 +4,7 @@ use mathlib.Core.Path.{_≡_, refl, sym, ap, subst, _∙_}
 use mathlib.Core.Logic.{_≢_, _⊎_, inl, inr}
 use mathlib.Core.Bool.{Bool, true, false, not, _||_, false≢true}
 use mathlib.Core.List.{List, [], _∷_, _++_}
-use Prim.Native.Nat.{ℕ}
+use Prim.Native.Nat.{ℕ, _<_}
 use native.Mathlib.Omega.{arith}
 use lib.Dec.{eqb, T, not-T}
 use lib.ListN.{getD, take, drop}
@@ -19,6 +19,7 @@ use Rattle.figure_lines.specs.Record.{noValue, idle}
 use Rattle.cells_spec.specs.Pool.{offset}
 use Rattle.figure_lines.specs.Lines.{Line, for25, for28, l1, l2, l3, l4, l5, l6, l7, l8, l30, lineOf, accessAt, accessOf, attempt, counted, nextAt, nextOf}
 use Rattle.history_spec.specs.Basics.{upd, _∈_}
+use Rattle.history_spec.specs.History as History
 use Rattle.history_spec.specs.History.{Op, read, swap, Action, begin, step, untried, Response, run}
 use Rattle.history_spec.proofs.Basics.{upd-same, upd-off, upd-cases}
 use Rattle.figure_cell.specs.Memory.{Cell, store, install, accessed, Accessed, accessCell}
@@ -27,16 +28,14 @@ use Rattle.figure.specs.Figure.{World, withBoth, WorldAfter, figureRan, opening
 use Rattle.cells_spec.specs.Events.{eventOf}
 use Rattle.figure_cell.specs.Paths.{paths, reached, by25, pathsOf}
 use Rattle.figure.specs.Traces.{Traced, Trace, noTrace, didLine, enterLine, figureTraces}
-use Rattle.figure_moments.proofs.Reachable.{trivial, Reachable, next-reachable, opening-reachable}
+use Rattle.figure_moments.proofs.Reachable.{Reachable, knows, reached-task, reached-unheld, next-reachable, opening-reachable}
 use Rattle.history_spec.proofs.ListTests.{every, every-in, has, imp, has-in, by-test}
 use Rattle.figure_cell.proofs.LineLaws.{every-line, same, same-is, before, waysOf}
-use Rattle.figure.proofs.Records.{OnPath, Sound, with-first, upd-both, Begun, starts, begin-cases, Stepped, runs, step-cases, act-sound}
+use Rattle.figure.proofs.Records.{OnPath, Sound, with-first, upd-both, Begun, starts, begin-cases, Stepped, runs, step-cases, Dropped, leaves, drop-cases, act-sound}
 use Rattle.figure.proofs.Paths.{start-sound, last-line}
-use Rattle.figure_cell.proofs.Classes.{is, holding, swapping, taking, lies-in}
+use Rattle.figure_cell.proofs.Classes.{is, busy, holding, swapping, taking, lies-in}
 use Rattle.figure_cell.proofs.Invariant.{none, TaskOf}
-use Rattle.figure.proofs.Views.{on-in, view}
-use Rattle.figure_moments.proofs.Known.{known}
-use Rattle.figure.proofs.Worlds.{facts}
+use Rattle.figure.proofs.Views.{view}
 
 -- CALLS THAT LINE 25 DID NOT ANSWER
 
@@ -126,9 +125,16 @@ module _ (v : ℕ) (w : World) (i : Reachable v w) (r : Trace) (s : Sound w r) (
   abbrev now : ℕ → Line
   now t = lineOf (w .records t)
 
-  -- what the figure's invariant says of a task
-  task : (t : ℕ) → TaskOf (view w (i .ghost) (w .records t .cell)) (known (i .notes) trivial) t (now t) (w .records t)
-  task = facts w (i .ghost) (known (i .notes) trivial) (i .holds .good)
+  low : (t : ℕ) → T (busy (now t)) → t < w .tasks
+  low t b = go (s .pending t)
+    where
+      go : OnPath (w .tasks) (w .cells) t (r .did t) (w .records t) → t < w .tasks
+      go (inl e) = absurd (rw (e .0) at b)
+      go (inr p) = p .0
+
+  -- what the figure's invariant says of a busy task
+  task : (t : ℕ) → T (busy (now t)) → TaskOf (view w (i .ghost) (w .records t .cell)) (knows v w i) t (now t) (w .records t)
+  task t b = reached-task v w i t (low t b)
 
   its-line : (t : ℕ) → through25 (r .did t) ≡ true → now t ∈ later
   its-line t h = go (s .pending t)
@@ -159,10 +165,7 @@ module _ (v : ℕ) (w : World) (i : Reachable v w) (r : Trace) (s : Sound w r) (
         p = w .records u
 
         apart : T (taking (now t)) → q .taken ≢ p .held
-        apart a z =
-            let et = on-in (w .records) (q .cell) t refl in
-            let eu = on-in (w .records) (q .cell) u e in
-            i .holds .good .cells (q .cell) .unheld t u (rw et a) (rw eu b) (ap (λ (r : Record). r .taken) et ∙ (z ∙ sym (ap (λ (r : Record). r .held) eu)))
+        apart a = reached-unheld v w i t u (low t (lies-in taking busy tt (now t) a)) (low u (lies-in holding busy tt (now u) b)) e a b
 
         go : (x : Bool) → is 7 (now t) ≡ x → accessCell m (accessOf t q) .cell .d (p .held) ≡ m .d (p .held)
         go true z = let f : now t ≡ l7 = same-is (now t) l7 (lies-in (is 7) (λ k. same k l7) tt (now t) (rw z tt)) in
@@ -174,13 +177,13 @@ module _ (v : ℕ) (w : World) (i : Reachable v w) (r : Trace) (s : Sound w r) (
     stays u h =
         let p = w .records u in
         let ℓ = its-line u h in
-        let decided : w .cell (p .cell) .d (p .held) ≢ none = λ z. task u .self .ev-some (every-in swapping later tt (now u) ℓ) (sym (o .late u h) ∙ z) in
+        let decided : w .cell (p .cell) .d (p .held) ≢ none = λ z. task u (every-in busy later tt (now u) ℓ) .self .ev-some (every-in swapping later tt (now u) ℓ) (sym (o .late u h) ∙ z) in
         upd-cases (λ (c : Cell). c .d (p .held) ≡ p .expected) (w .cell) (q .cell) (accessCell m (accessOf t q) .cell) (p .cell)
         (λ e. kept u (every-in holding later tt (now u) ℓ) e (subst (λ k. w .cell k .d (p .held) ≢ none) e decided) ∙ subst (λ k. w .cell k .d (p .held) ≡ p .expected) e (o .late u h)) (λ e. o .late u h)
 
     -- line 25 found another value than the new one: the swap is not placed, so the decision is the expected value
     came-late : now t ≡ l3 for25 → m .d (q .held) ≢ q .new → m .d (q .held) ≡ q .expected
-    came-late e n = let k = (subst (λ ℓ. TaskOf (view w (i .ghost) (q .cell)) (known (i .notes) trivial) t ℓ q) e (task t)) .decided in
+    came-late e n = let k = (subst (λ ℓ. TaskOf (view w (i .ghost) (q .cell)) (knows v w i) t ℓ q) e (task t (rw e tt))) .decided in
         k .late-decided tt (not-T (i .ghost .placed t) (λ z. n (k .placed-decided tt z (k .decided tt)))) (k .decided tt)
 
     abbrev Goes : (ℕ → Cell) → Next → Type 0
@@ -232,9 +235,14 @@ module _ (v : ℕ) (w : World) (i : Reachable v w) (r : Trace) (s : Sound w r) (
     begin-kept op (Begun.refuses n) = o
     begin-kept op (starts a) = record { late = put (w .cell) (firstOf op) [] (λ h. absurd (false≢true h)) (o .late); done = o .done }
 
+    drop-kept : {f : WorldAfter} → Dropped w t (r .did t) f → NotNinth (f .world) (enterLine now r (History.drop t) (eventOf untried (f .outcome)))
+    drop-kept (Dropped.refuses n e) = o
+    drop-kept (leaves n p) = record { late = put (w .cell) idle [] (λ h. absurd (false≢true h)) (o .late); done = o .done }
+
   act-kept : (a : Action) → NotNinth (figure w a .0) (enterLine now r a (figure w a .1))
   act-kept (begin t op) = begin-kept t op (begin-cases w t op)
   act-kept (step t) = step-kept t (step-cases w t (r .did t) (s .pending t))
+  act-kept (History.drop t) = drop-kept t (drop-cases w t (r .did t) (s .pending t))
 
 traces-kept : (v : ℕ) (w : World) → Reachable v w → (r : Trace) → Sound w r → NotNinth w r → (l : List Action) → NotNinth (run figure w l) (figureTraces w r l)
 traces-kept v w i r s o [] = o

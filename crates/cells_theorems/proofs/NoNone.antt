@@ -1,5 +1,5 @@
 -- None never enters or leaves a cell: the figure's invariant has no current block with V none, and an answered value was seen not to be none.
-use mathlib.Core.Path.{_≡_, sym, subst, _∙_}
+use mathlib.Core.Path.{_≡_, sym, subst, _∙_, refl}
 use mathlib.Core.Logic.{_≢_}
 use mathlib.Core.Option.{Option, none, some}
 use mathlib.Core.List.{List, [], _∷_}
@@ -13,25 +13,23 @@ use Rattle.cells_spec.specs.Answers.{Shown}
 use Rattle.figure_lines.specs.declared.Field.{Field}
 use Rattle.figure_lines.specs.Answers.{Next, Go, Done}
 use Rattle.figure_lines.specs.Record.{noValue}
-use Rattle.figure_lines.specs.Lines.{Line, accessOf, nextOf}
+use Rattle.figure_lines.specs.Lines.{Line}
 use Rattle.cells_spec.specs.Pool.{word}
 use Rattle.cells_spec.specs.Questions.{refusal, openQuestions, lookQuestions}
 use Rattle.cells_spec.specs.Step.{current}
 use Rattle.cells_spec.specs.Look.{looked, shown, shownValue}
 use Rattle.history_spec.specs.Basics.{_∈_}
-use Rattle.history_spec.specs.History.{Op, Action, begin, step, Attempt, untried, Response, Value, Yes, No, Report, Event, refused, accepted, answered, history, run, Call, Calls, FinishedCall, noCalls, advanced, closed, enter, enterAll, callsOf}
-use Rattle.figure_cell.specs.Memory.{Cell, accessCell}
+use Rattle.history_spec.specs.History.{Op, Action, begin, step, drop, Attempt, untried, Response, Value, Yes, No, Report, Event, refused, accepted, answered, history, run, Call, Calls, FinishedCall, noCalls, advanced, closed, enter, enterAll, callsOf}
 use Rattle.cells_spec.specs.Turn.{outcomeOf}
 use Rattle.figure.specs.Figure.{World, WorldAfter, triedIn, figureRan, figure, opening, figureLooked}
 use Rattle.cells_spec.specs.Events.{eventOf}
 use Rattle.history_spec.proofs.ListTests.{by-test}
-use Rattle.figure.proofs.Records.{Begun, starts, begin-cases, Stepped, runs, step-cases, with-first}
+use Rattle.figure.proofs.Records.{Begun, starts, begin-cases, Stepped, runs, step-cases, Dropped, leaves, drop-cases, with-first}
 use Rattle.figure_cell.proofs.Invariant as Invariant
 use Rattle.figure_cell.proofs.Invariant.{View, Knowledge}
-use Rattle.figure_cell.proofs.Steps.{Change, Reason, acts, acted, reads, declines, Out}
-use Rattle.figure.proofs.Views.{view}
-use Rattle.figure_moments.proofs.Known.{known, κ⁺, out}
-use Rattle.figure_moments.proofs.Reachable.{trivial, Reachable, next-reachable, opening-reachable, reachable}
+use Rattle.figure_cell.proofs.Steps.{Change, Reason, acts, acted, reads, declines}
+use Rattle.figure.proofs.Worlds.{nextAfter}
+use Rattle.figure_moments.proofs.Reachable.{Reachable, reached-path, reached-answer, reached-some, next-reachable, opening-reachable, reachable}
 use Rattle.cells_spec.specs.Machine.{pool}
 use Rattle.cells_theorems.specs.Terms.{start}
 use Rattle.cells_theorems.proofs.Refines.{together, same-history, same-look, same-words}
@@ -74,15 +72,20 @@ module _ (v : ℕ) (w : World) (i : Reachable v w) where
   step-proper : (t : ℕ) (did : List Line) {f : WorldAfter} → Stepped w t did f → ProperEvent (eventOf (triedIn w t (w .records t)) (f .outcome))
   unfolding figureRan
   step-proper t did (Stepped.refuses n e) = tt
-  step-proper t did (runs l o) = let m = accessCell (w .cell (w .records t .cell)) (accessOf t (w .records t)) in go (m .cell) (nextOf t (w .records t) (m .value)) (out w (i .notes) (i .ghost) trivial (i .holds .good) t did o)
+  step-proper t did (runs l o) = go (nextAfter w t) refl
     where
-      go : (c : Cell) (n : Next) → Out (view w (i .ghost) (w .records t .cell)) (known (i .notes) trivial) (κ⁺ w (i .notes) (i .ghost) trivial (i .holds .good) t did o) t c n → ProperEvent (eventOf (triedIn w t (w .records t)) (outcomeOf n))
-      go c (Go q) x = tt
-      go c (Done f) x = reason-proper (view w (i .ghost) (w .records t .cell)) (known (i .notes) trivial) t (f .answer) (x .1)
+      go : (n : Next) → nextAfter w t ≡ n → ProperEvent (eventOf (triedIn w t (w .records t)) (outcomeOf n))
+      go (Go q) e = tt
+      go (Done f) e = reached-answer v w i t l did o Proper (λ s κ a x r. reason-proper s κ t a r) f e
+
+  drop-proper : (t : ℕ) (did : List Line) {f : WorldAfter} → Dropped w t did f → ProperEvent (eventOf untried (f .outcome))
+  drop-proper t did (Dropped.refuses n e) = tt
+  drop-proper t did (leaves l o) = tt
 
   act-proper : (a : Action) → ProperEvent (figure w a .1)
   act-proper (begin t op) = begin-proper t op (begin-cases w t op)
-  act-proper (step t) = let p = i .holds .good .on-path t in step-proper t (p .0) (step-cases w t (p .0) (p .1))
+  act-proper (step t) = let p = reached-path v w i t in step-proper t (p .0) (step-cases w t (p .0) (p .1))
+  act-proper (drop t) = let p = reached-path v w i t in drop-proper t (p .0) (drop-cases w t (p .0) (p .1))
 
 -- so no finished call of a history does
 abbrev ProperCalls : Calls → Type 0
@@ -93,6 +96,8 @@ enter-proper b a (refused n) p h = h
 enter-proper b (begin t op) (accepted x) p h = h
 enter-proper b (begin t op) (answered x r) p h = h
 enter-proper b (step t) (accepted x) p h = h
+enter-proper b (drop t) (accepted x) p h = h
+enter-proper b (drop t) (answered x r) p h = h
 enter-proper b (step t) (answered x r) p h = go (advanced b x (b .pending t))
   where
     go : (o : Option Call) (f : FinishedCall) → f ∈ closed o r (b .finished) → Proper (f .report .answer)
@@ -115,7 +120,7 @@ shown-value c v d n = let P : ℕ → Type 0 = λ x. x ≢ noValue in by-test P 
 -- V of the figure's current block
 current-some : (v : ℕ) (w : World) → Reachable v w → (k : ℕ) → w .cell k .v (w .cell k .current) ≢ noValue
 unfolding Invariant.none
-current-some v w i k = i .holds .good .cells k .current .v-some
+current-some v w i k = reached-some v w i k
 
 look-some : (v : ℕ) (w : World) → Reachable v w → (k : ℕ) → figureLooked w k ≢ Shown noValue
 unfolding figureLooked

@@ -18,7 +18,7 @@ use Rattle.cells_spec.specs.Blocks.{Spare}
 use Rattle.cells_spec.specs.Open.{opened}
 use Rattle.cells_spec.specs.Step.{current}
 use Rattle.cells_spec.specs.Look.{looked, shown, shownValue}
-use Rattle.history_spec.specs.History.{Action, begin, step, Event, history, run}
+use Rattle.history_spec.specs.History.{Action, begin, step, drop, Event, history, run}
 use Rattle.figure_cell.specs.Memory.{wordOf}
 use Rattle.figure.specs.Figure.{World, figure, opening, figureLooked}
 use Rattle.cells_spec.specs.Machine.{Pool, pool}
@@ -30,7 +30,7 @@ use Rattle.figure.proofs.Records.{WellRecord, well}
 use Rattle.cells_theorems.proofs.Agree.{Links, Agree}
 use Rattle.cells_theorems.proofs.Fits.{fits}
 use Rattle.cells_spec.proofs.Tests.{within-true}
-use Rattle.cells_theorems.proofs.Steps.{Same, steps, begins}
+use Rattle.cells_theorems.proofs.Steps.{Same, steps, begins, drops}
 use Rattle.cells_theorems.proofs.Opening.{Opened, opens}
 
 -- agreement, with the figure's records well for as long as it runs on, the stored counts true, and some task that holds no replaced block
@@ -46,6 +46,7 @@ module _ {n v : ℕ} where
   pub acts : {x : Pool} {w : World} → Together n v x w → (a : Action) → Same n v (pool x a) (figure w a)
   acts g (begin t op) = begins (g .agree) (g .well []) (g .counts) (g .spare) t op
   acts g (step t) = steps (g .agree) (g .well []) (g .counts) (g .spare) t
+  acts g (drop t) = drops (g .agree) (g .well []) (g .counts) (g .spare) t
 
   further : {x : Pool} {w : World} → Together n v x w → (a : Action) → Together n v (pool x a .0) (figure w a .0)
   further {x} g a =

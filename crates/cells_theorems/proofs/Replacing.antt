@@ -24,7 +24,7 @@ use Rattle.cells_spec.proofs.Installs.{installs, block-stays}
 use Rattle.cells_spec.specs.Step.{current}
 use Rattle.cells_spec.specs.Events.{eventOf}
 use Rattle.cells_spec.specs.Machine.{Pool, pool}
-use Rattle.history_spec.specs.History.{Action, begin, step, Yes, success, Attempt, Report, Event, answered, run}
+use Rattle.history_spec.specs.History.{Action, begin, step, drop, Yes, success, Attempt, Report, Event, answered, run}
 use Rattle.history_spec.proofs.ListTests.{by-test}
 use Rattle.cells_spec.specs.Turn.{outcomeOf}
 use Rattle.figure.specs.Figure.{World}
@@ -33,14 +33,12 @@ use Rattle.figure_cell.proofs.Classes.{is, lies-in}
 use Rattle.figure.proofs.Records.{WellRecord}
 use Rattle.figure_cell.proofs.Invariant.{TaskOf}
 use Rattle.figure.proofs.Views.{view}
-use Rattle.figure_moments.proofs.Known.{known}
-use Rattle.figure.proofs.Worlds.{facts}
-use Rattle.figure_moments.proofs.Reachable.{trivial, Reachable, reachable}
+use Rattle.figure_moments.proofs.Reachable.{Reachable, knows, reached-task, reachable}
 use Rattle.cells_theorems.specs.Terms.{start, named as named-as}
 use Rattle.cells_theorems.specs.Attempts.{winsOf, Replaces}
 use Rattle.cells_theorems.proofs.Refines.{Together, together}
 use Rattle.cells_theorems.proofs.Demand3.{starting-values}
-use Rattle.cells_theorems.proofs.Stepped.{set-either, touchedAt, triesAt, ranAt, Stepped, refuses, runs, step-cases, Began, declines, starts, begin-cases}
+use Rattle.cells_theorems.proofs.Stepped.{set-either, touchedAt, triesAt, ranAt, Stepped, refuses, runs, step-cases, Began, declines, starts, begin-cases, Dropped, keeps, leaves, drop-cases}
 
 -- ANY STATE
 
@@ -101,11 +99,16 @@ begin-leaves : (s : State) (p : List ℕ) (t : ℕ) {f : After} → Began s p t 
 begin-leaves s p t (declines n) = refl
 begin-leaves s p t (starts q h) = refl
 
+drop-leaves : (s : State) (p : List ℕ) (t : ℕ) {f : After} → Dropped s p t f → f .state .current ≡ s .current
+drop-leaves s p t (keeps n) = refl
+drop-leaves s p t leaves = refl
+
 -- In any state whatever: where an action makes a cell name another block, it is a step at line 30 on that cell that wins its attempt and answers
 -- yes, and the cell then names the block that the task has taken.
 pub replacements-are-won : (now : Pool) (action : Action) (cell : ℕ) → current (pool now action .0 .0) cell ≢ current (now .0) cell → Replaces now action cell
 replacements-are-won x (begin t op) k d = absurd (d (ap (λ (l : List ℕ). getD l k 0) (begin-leaves (x .0) (x .1) t (begin-cases (x .0) (x .1) t op))))
 replacements-are-won x (step t) k d = step-replaces (x .0) (x .1) t k d
+replacements-are-won x (drop t) k d = absurd (d (ap (λ (l : List ℕ). getD l k 0) (drop-leaves (x .0) (x .1) t (drop-cases (x .0) (x .1) t))))
 
 -- FROM AN OPENING
 
@@ -134,7 +137,7 @@ module _ {n v : ℕ} {x : Pool} {w : World} (g : Together n v x w) (i : Reachabl
           let k : its .cell ≡ q .cell = ap (λ (r : Record). r .cell) same-its in
           let at : lineOf q ≡ l30 = sym (ap lineOf same-its) ∙ e in
           let line : q .line ≡ 30 = sym (ap (λ (r : Record). r .line) same-its) ∙ z in
-          let fresh = subst (λ ℓ. TaskOf (view w (i .ghost) (q .cell)) (known (i .notes) trivial) t ℓ q) at (facts w (i .ghost) (known (i .notes) trivial) (i .holds .good) t) .fresh tt in
+          let fresh = subst (λ ℓ. TaskOf (view w (i .ghost) (q .cell)) (knows v w i) t ℓ q) at (reached-task v w i t (omega (arith, l, g .agree .sizes .tasks-too))) .fresh tt in
           let mine : g .R (q .cell) (q .taken) (its .taken) X = g .agree .records t l .taken X (rw line tt) in
           let its-own : g .R (q .cell) (w .cell (q .cell) .current) (its .taken) X = subst (λ b. g .R (q .cell) (w .cell (q .cell) .current) b X) (sym (y ∙ ap (current (x .0)) k)) (g .agree .current (q .cell) (subst (λ k. k < v) k cell-below) X) in
           fresh .other (g .agree .blocks .same (q .cell) (q .taken) (its .taken) (q .cell) (w .cell (q .cell) .current) X X mine its-own .1)

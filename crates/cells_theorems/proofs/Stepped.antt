@@ -12,7 +12,7 @@ use Rattle.figure_lines.specs.declared.Record.{Record}
 use Rattle.cells_spec.specs.declared.State.{State}
 use Rattle.cells_spec.specs.Answers.{Refused}
 use Rattle.figure_lines.specs.Answers.{Next}
-use Rattle.figure_lines.specs.Record.{recordAt, firstRead, firstSwap}
+use Rattle.figure_lines.specs.Record.{idle, recordAt, firstRead, firstSwap}
 use Rattle.figure_lines.specs.Lines.{Line, lineOf, accessAt, attempt, counted, nextAt}
 use Rattle.cells_spec.specs.Questions.{refusal, fit, takenBefore, hasTaken, beginQuestions, swapQuestions}
 use Rattle.cells_spec.proofs.Tests.{yes-to}
@@ -23,6 +23,7 @@ use Rattle.cells_spec.specs.Begin.{started, readBegun, swapBegun}
 use Rattle.cells_spec.specs.Memory.{Touched, performed}
 use Rattle.cells_spec.specs.Turn.{ending}
 use Rattle.cells_spec.specs.Step.{current, putBack, ran, stepAsks, stepped}
+use Rattle.cells_spec.specs.Drop.{dropAsks, callWithdrawn, dropped}
 use Rattle.cells_spec.proofs.Stepping.{own-acting}
 use Rattle.history_spec.specs.History.{Op, read, swap, Attempt}
 use Rattle.cells_spec.specs.Machine.{begins}
@@ -94,3 +95,16 @@ module _ (s : State) (p : List ℕ) (t : ℕ) where
       go : (op : Op) → Began (begins s p t op)
       go (read k) = by (refusal ((6, fit s p) ∷ beginQuestions (s .tasks) (s .cells) r t k)) (firstRead k) tt
       go (swap k e n) = by (refusal ((6, fit s p) ∷ swapQuestions (s .tasks) (s .cells) r t k e n)) (firstSwap k e n) (at-first (eqb e n))
+
+  -- a drop leaves an idle record
+  pub data Dropped : After → Type 0 where
+    keeps : (n : ℕ) → Dropped (leaving s p (Refused n))
+    leaves : Dropped (callWithdrawn s p t)
+
+  pub drop-cases : Dropped (dropped s p t)
+  unfolding dropped
+  drop-cases = go (refusal (dropAsks s p t))
+    where
+      go : (o : Option ℕ) → Dropped (unless o s p (callWithdrawn s p t))
+      go none = leaves
+      go (some n) = keeps n

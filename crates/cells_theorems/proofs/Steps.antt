@@ -23,12 +23,13 @@ use Rattle.cells_spec.specs.Blocks.{Spare, unused, isFound}
 use Rattle.cells_spec.specs.Memory.{Touched, performed}
 use Rattle.cells_spec.specs.Turn.{ending, recordAfter, outcomeOf}
 use Rattle.cells_spec.specs.Step.{current, withBlocks, putBack, triedAt, ran, stepAsks, stepped}
+use Rattle.cells_spec.specs.Drop.{callWithdrawn, dropped}
 use Rattle.cells_spec.proofs.Tests.{nth, all-yes, implied}
 use Rattle.cells_spec.proofs.Numbers.{number, at-number}
 use Rattle.cells_spec.proofs.Unused.{Found, one-is-unused}
-use Rattle.history_spec.specs.History.{Op, read, swap, begin, step, Attempt, untried, Event}
+use Rattle.history_spec.specs.History.{Op, read, swap, begin, step, drop, Attempt, untried, Event}
 use Rattle.figure_cell.specs.Memory.{Cell, accessCell}
-use Rattle.figure.specs.Figure.{World, withBoth, worldAfter, figure, WorldAfter, figureBegun, figureRan, figureStepped, unlessRefused, withTask, triedIn}
+use Rattle.figure.specs.Figure.{World, withBoth, worldAfter, figure, WorldAfter, figureBegun, figureDropped, figureRan, figureStepped, unlessRefused, withTask, triedIn}
 use Rattle.cells_spec.specs.Events.{eventOf}
 use Rattle.cells_spec.specs.Machine.{Pool, pool}
 use Rattle.cells_theorems.specs.Terms.{named}
@@ -160,3 +161,10 @@ module _ {n v : ℕ} {R : Links} {s : State} {p : List ℕ} {w : World} (a : Agr
   unfolding readBegun swapBegun figureBegun
   begins (read k) = asked (λ v i. (8, ltb k v) ∷ (9, i) ∷ []) (eventOf untried) (eventOf untried) _ _ (λ _. refl) (λ l _. begins-alike (firstRead k) tt l)
   begins (swap k e x) = asked (λ v i. (8, ltb k v) ∷ (9, i) ∷ (10, not (eqb e noValue) && not (eqb x noValue)) ∷ []) (eventOf untried) (eventOf untried) _ _ (λ _. refl) (λ l _. begins-alike (firstSwap k e x) (at-first (eqb e x)) l)
+
+  -- A DROP: both records are idle, and refer to no block
+
+  pub drops : Same n v (pool (s, p) (drop t)) (figure w (drop t))
+  unfolding dropped figureDropped
+  drops = asked (λ v i. (11, not i) ∷ []) (eventOf untried) (eventOf untried) (callWithdrawn s p t) (worldAfter (withTask w t idle) Acted) (λ _. refl)
+      (λ l g. record { R = R; agree = counts-change (records-change a t idle idle l (no-blocks idle tt)) _; event = refl })

@@ -10,8 +10,8 @@ use borrow.Author.Tests.{le-ltb}
 use Rattle.cells_spec.specs.declared.State.{State}
 use Rattle.figure_lines.specs.Lines.{Line, lineOf}
 use Rattle.cells_spec.specs.Questions.{refusal, openQuestions}
-use Rattle.history_spec.specs.History.{Action, begin, step, untried, Event, refused, accepted, answered, run}
-use Rattle.figure.specs.Figure.{World, figure, opening, figureStepped}
+use Rattle.history_spec.specs.History.{Action, begin, step, drop, untried, Event, refused, accepted, answered, run}
+use Rattle.figure.specs.Figure.{World, figure, opening, figureStepped, figureDropped}
 use Rattle.figure.specs.Traces.{Trace, noTrace, enterLine, traces, figureTraces}
 use Rattle.cells_spec.specs.Machine.{Pool, pool}
 use Rattle.cells_theorems.specs.Terms.{start}
@@ -23,6 +23,7 @@ module _ (f g : ℕ → Line) (r : Trace) where
   abbrev Alike : Action → Type 0
   Alike (begin t op) = Unit {0}
   Alike (step t) = f t ≡ g t
+  Alike (drop t) = Unit {0}
 
   enters : (a : Action) (e : Event) → Alike a → enterLine f r a e ≡ enterLine g r a e
   enters a (refused n) h = refl
@@ -30,6 +31,8 @@ module _ (f g : ℕ → Line) (r : Trace) where
   enters (begin t op) (answered x y) h = refl
   enters (step t) (accepted x) h = rw h
   enters (step t) (answered x y) h = rw h
+  enters (drop t) (accepted x) h = refl
+  enters (drop t) (answered x y) h = refl
 
 module _ {n v : ℕ} {x : Pool} {w : World} (g : Together n v x w) where
   pub same-event : (a : Action) → pool x a .1 ≡ figure w a .1
@@ -39,6 +42,10 @@ module _ {n v : ℕ} {x : Pool} {w : World} (g : Together n v x w) where
   pub no-task : (t : ℕ) → n ≤ t → figure w (step t) .1 ≡ refused 7
   unfolding figureStepped
   no-task t h = rw (g .agree .sizes .tasks-too, le-ltb t n h)
+
+  pub no-drop : (t : ℕ) → n ≤ t → figure w (drop t) .1 ≡ refused 7
+  unfolding figureDropped
+  no-drop t h = rw (g .agree .sizes .tasks-too, le-ltb t n h)
 
   abbrev now : ℕ → Line
   now t = lineOf (w .records t)
@@ -53,6 +60,7 @@ module _ {n v : ℕ} {x : Pool} {w : World} (g : Together n v x w) where
       go : (a : Action) → enterLine (nextLine x) r a (figure w a .1) ≡ enterLine now r a (figure w a .1)
       go (begin t op) = enters (nextLine x) now r (begin t op) (figure w (begin t op) .1) tt
       go (step t) = at t (decLe n t)
+      go (drop t) = enters (nextLine x) now r (drop t) (figure w (drop t) .1) tt
 
 -- pool and figure together, for as long as they run on
 same-traces : {n v : ℕ} (l : List Action) (x : Pool) (w : World) (r : Trace) → ((m : List Action) → Together n v (run pool x m) (run figure w m)) → traces pool nextLine x r l ≡ figureTraces w r l

@@ -5,15 +5,16 @@ use mathlib.Core.Option.{Option, none, some}
 use Prim.Native.Nat.{ℕ}
 use Rattle.figure_lines.specs.declared.Record.{Record}
 use Rattle.figure_lines.specs.Answers.{Next}
+use Rattle.figure_lines.specs.Record.{idle}
 use Rattle.figure_lines.specs.Lines.{accessOf, nextOf}
 use Rattle.cells_spec.specs.Questions.{refusal, beginQuestions, swapQuestions, stepQuestions}
 use Rattle.cells_spec.specs.Answers.{Acted}
 use Rattle.cells_spec.specs.Events.{eventOf, tried}
-use Rattle.history_spec.specs.History.{Op, read, swap, Action, begin, step, taskOf, Event, untried}
+use Rattle.history_spec.specs.History.{Op, read, swap, Action, begin, step, drop, taskOf, Event, untried}
 use Rattle.history_spec.proofs.Basics.{either, upd-same, upd-off, clash, some-inj}
 use Rattle.figure_cell.specs.Memory.{Cell, accessCell}
 use Rattle.cells_spec.specs.Turn.{recordAfter, outcomeOf}
-use Rattle.figure.specs.Figure.{World, worldAfter, withTask, unlessRefused, firstOf, figureRan, figureStepped, figureBegun, triedIn, figure}
+use Rattle.figure.specs.Figure.{World, worldAfter, withTask, unlessRefused, firstOf, figureRan, figureStepped, figureBegun, figureDropped, triedIn, figure}
 use Rattle.figure.specs.Exchange.{ifAccepted, touches, Apart}
 use Rattle.figure.proofs.Records.{cell-at, cell-elsewhere}
 
@@ -42,10 +43,11 @@ step-leaves w t none = record {
 step-leaves w t (some n) = all-left w t none
 
 leaves : (w : World) (a : Action) → Leaves w (taskOf a) (touches w a) (figure w a .0)
-unfolding figureBegun figureStepped
+unfolding figureBegun figureStepped figureDropped
 leaves w (begin t (read k)) = begin-leaves w t (firstOf (read k)) (refusal (beginQuestions (w .tasks) (w .cells) (w .records t) t k))
 leaves w (begin t (swap k e n)) = begin-leaves w t (firstOf (swap k e n)) (refusal (swapQuestions (w .tasks) (w .cells) (w .records t) t k e n))
 leaves w (step t) = step-leaves w t (refusal (stepQuestions (w .tasks) (w .records t) t))
+leaves w (drop t) = begin-leaves w t idle (refusal (stepQuestions (w .tasks) (w .records t) t))
 
 -- WHAT AN ACTION DOES depends on sizes, its task's record and the cell that it touches alone
 record Alike (w w′ : World) (t : ℕ) (touch : Option ℕ) : Type 0 where
@@ -60,7 +62,7 @@ record Does (t : ℕ) (touch touch′ : Option ℕ) (x x′ : World × Event) : 
   task : x′ .0 .records t ≡ x .0 .records t
   cell : (k : ℕ) → touch ≡ some k → x′ .0 .cell k ≡ x .0 .cell k
 
--- a begin or a step of which the questions say r
+-- a begin, or a drop, or a step of which the questions say r
 abbrev beginSaid : World → ℕ → Record → Option ℕ → World × Event
 beginSaid w t q r = let x = unlessRefused r w (worldAfter (withTask w t q) Acted) in (x .world, eventOf untried (x .outcome))
 
@@ -114,7 +116,7 @@ step-does w w′ t s none c = record {
 step-does w w′ t s (some n) c = record { touch-same = refl; event = refl; task = s; cell = λ k e. absurd (clash refl e) }
 
 does : (w w′ : World) (a : Action) → Alike w w′ (taskOf a) (touches w a) → Does (taskOf a) (touches w a) (touches w′ a) (figure w a) (figure w′ a)
-unfolding figureBegun figureStepped
+unfolding figureBegun figureStepped figureDropped
 does w w′ (begin t op) s = go op
   where
     -- the same questions are answered no
@@ -130,6 +132,10 @@ does w w′ (step t) s =
     let asked : ℕ → Record → Option ℕ = λ n q. refusal (stepQuestions n q t) in
     let r = asked (w .tasks) (w .records t) in
     subst (λ r′. Does t (ifAccepted r (w .records t .cell)) (ifAccepted r′ (w′ .records t .cell)) (went w t r) (went w′ t r′)) (sym (λ i. asked (s .tasks i) (s .task i))) (step-does w w′ t (s .task) r (s .cell))
+does w w′ (drop t) s =
+    let asked : ℕ → Record → Option ℕ = λ n q. refusal (stepQuestions n q t) in
+    let r = asked (w .tasks) (w .records t) in
+    subst (λ r′. Does t none none (beginSaid w t idle r) (beginSaid w′ t idle r′)) (sym (λ i. asked (s .tasks i) (s .task i))) (begin-does w w′ t idle (s .task) r)
 
 -- TWO ACTIONS THAT ARE APART
 

@@ -4,7 +4,6 @@ pub mod Tallies
 pub mod Views
 pub mod Operations
 pub mod Worlds
-pub mod Marks
 pub mod Quietly
 pub mod TracedCalls
 pub mod Exchange

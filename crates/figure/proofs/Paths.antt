@@ -10,7 +10,7 @@ use Rattle.figure_lines.specs.Answers.{Next, Go, Done}
 use Rattle.figure_lines.specs.Lines.{Line, for13, for25, for28, l2, l3, l30, nowhere, lineOf, accessAt, accessOf, counted, nextOf, hardware}
 use Rattle.figure_lines.specs.Record.{firstSwap}
 use Rattle.history_spec.specs.Basics.{_∈_}
-use Rattle.history_spec.specs.History.{Op, Action, begin, step, untried, No}
+use Rattle.history_spec.specs.History.{Op, Action, begin, step, drop, untried, No}
 use Rattle.figure_cell.specs.Memory.{accessCell}
 use Rattle.cells_spec.specs.Turn.{outcomeOf}
 use Rattle.figure.specs.Figure.{World, WorldAfter, figureRan, opening, figure, triedIn}
@@ -20,7 +20,7 @@ use Rattle.figure_cell.specs.Paths.{paths, by25, pathCounts, countRows}
 use Rattle.figure.specs.Traces.{Traced, Trace, noTrace, enterLine, figureTraces}
 use Rattle.history_spec.proofs.ListTests.{has}
 use Rattle.figure_cell.proofs.LineLaws.{every-line, same, Leads, goes, done}
-use Rattle.figure.proofs.Records.{Pending, Complete, Then, led, one-line, Begun, starts, begin-cases, Stepped, runs, step-cases, Sound, its-op, with-first, act-sound}
+use Rattle.figure.proofs.Records.{Pending, Complete, Then, led, one-line, Begun, starts, begin-cases, Stepped, runs, step-cases, Dropped, leaves, drop-cases, Sound, its-op, with-first, act-sound}
 
 -- FINISHED CALLS
 
@@ -51,9 +51,14 @@ module _ (w : World) (r : Trace) (s : Sound w r) (h : AllComplete r) where
   begin-complete t op (Begun.refuses n) = h
   begin-complete t op (starts a) = h
 
+  drop-complete : (t : ℕ) {f : WorldAfter} → Dropped w t (r .did t) f → AllComplete (enterLine now r (drop t) (eventOf untried (f .outcome)))
+  drop-complete t (Dropped.refuses n i) = h
+  drop-complete t (leaves m o) = h
+
   act-complete : (a : Action) → AllComplete (enterLine now r a (figure w a .1))
   act-complete (begin t op) = begin-complete t op (begin-cases w t op)
   act-complete (step t) = step-complete t (step-cases w t (r .did t) (s .pending t))
+  act-complete (drop t) = drop-complete t (drop-cases w t (r .did t) (s .pending t))
 
 traces-complete : (w : World) (r : Trace) → Sound w r → AllComplete r → (l : List Action) → AllComplete (figureTraces w r l)
 traces-complete w r s h [] = h

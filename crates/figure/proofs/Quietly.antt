@@ -1,4 +1,4 @@
--- Quiet tasks in the whole figure: steps and begins of others leave them quiet, and marks stay where they are.
+-- Quiet tasks in the whole figure: steps, begins and drops of others leave them quiet.
 use mathlib.Core.Path.{_≡_, refl, sym, ap, subst, _∙_}
 use mathlib.Core.Logic.{_≢_, _⊎_, inl, inr}
 use mathlib.Core.Bool.{Bool, true, false, cond}
@@ -15,7 +15,7 @@ use Rattle.history_spec.specs.Basics.{upd}
 use Rattle.history_spec.specs.History.{Op, read, swap, cellOf, untried}
 use Rattle.history_spec.specs.Demand3.{Unequal}
 use Rattle.history_spec.proofs.Basics.{either, clash, some-inj, upd-at, upd-same, upd-off}
-use Rattle.history_linearization.proofs.Simulation.{Ghost, Tally, QuietStarts, QuietSteps, Free}
+use Rattle.history_linearization.proofs.Simulation.{Tally, QuietStarts, QuietSteps, Free}
 use Rattle.figure_cell.specs.Memory.{Cell, accessCell}
 use Rattle.cells_spec.specs.Turn.{recordAfter}
 use Rattle.figure.specs.Figure.{World, withTask, clear, figureAnswers, triedIn, firstOf}
@@ -23,12 +23,10 @@ use Rattle.figure_cell.proofs.LineLaws.{Leads, goes, done}
 use Rattle.figure.proofs.Records.{Pending, OnPath, AllOnPath, Accepted, led, cell-there, cell-elsewhere}
 use Rattle.figure_cell.proofs.AsBegun.{cell-of}
 use Rattle.figure.proofs.Tallies.{tally, tallyOf, doing}
-use Rattle.figure_cell.proofs.Classes.{busy, swapping, marking, lies-in, holding, uncontended}
-use Rattle.figure_cell.proofs.Invariant.{Knowledge, line}
-use Rattle.figure.proofs.Views.{on, on-in, on-it, on-changed, on-elsewhere, view, on-others}
+use Rattle.figure_cell.proofs.Classes.{busy, swapping, lies-in, holding, uncontended}
+use Rattle.figure.proofs.Views.{on, on-in, on-it, on-changed, on-elsewhere, on-others}
 use Rattle.figure.proofs.Operations.{busy-line, busy-doing, is-unequal}
-use Rattle.figure.proofs.Worlds.{Good, cellAfter, nextAfter, stepAfter, pending-at, was-idle, idle-to, its-cell}
-use Rattle.figure.proofs.Marks.{Marks, marks-kept}
+use Rattle.figure.proofs.Worlds.{cellAfter, nextAfter, stepAfter, pending-at, was-idle, idle-to, its-cell}
 use Rattle.figure_cell.proofs.Quiet.{signed, Quiet, quiet-step, no-attempt, others-step, others-begin}
 
 -- a task is quiet on its own cell
@@ -45,7 +43,7 @@ is-busy w p u n d = go (p u .1)
 
 -- A STEP OF TASK t
 
-module _ (w : World) (g : Ghost) (κ : Knowledge) (G : Good w g κ) (marks : (k : ℕ) → Marks (w .cell k) (on (w .records) k)) (t : ℕ) (did : List Line) (o : Pending (w .cells) did (w .records t)) where
+module _ (w : World) (t : ℕ) (did : List Line) (o : Pending (w .cells) did (w .records t)) where
   abbrev q : Record
   q = w .records t
 
@@ -71,15 +69,6 @@ module _ (w : World) (g : Ghost) (κ : Knowledge) (G : Good w g κ) (marks : (k 
       go : {x : Next} → Leads (lineOf q) (counted q (triedIn w t q)) x → ((recordAfter x .cell ≡ k) ⊎ (recordAfter x ≡ idle)) × (T (swapping (lineOf (recordAfter x))) → T (swapping (lineOf q)))
       go (goes f) = (inl refl, λ b. subst T (sym (f .1 false true)) b)
       go (done f) = (inr refl, λ b. absurd b)
-
-  pub marks-after : (j : ℕ) → Marks (w′ .cell j) (on (w′ .records) j)
-  marks-after j = go (either j k)
-    where
-      go : (j ≡ k) ⊎ (j ≢ k) → Marks (w′ .cell j) (on (w′ .records) j)
-      go (inl e) = subst (λ j. Marks (upd (w .cell) k m j) (on (upd (w .records) t (recordAfter n)) j)) (sym e) (rw (cell-there w k m t (recordAfter n), on-changed (w .records) t (recordAfter n) k (stays .0))
-          (subst (λ (r : Record). let x = accessCell (w .cell k) (accessOf t r) in Marks (x .cell) (upd (on (w .records) k) t (recordAfter (nextOf t r (x .value))))) here
-          (marks-kept (view w g k) κ t (G .cells k) (marks k) (lineOf (on (w .records) k t)) refl (rw here (busy-line q (o .line))))))
-      go (inr e) = rw (cell-elsewhere w k m t (recordAfter n) j e, on-others (w .records) t (recordAfter n) j e (stays .0)) (marks j)
 
   own-kept : (x : Next) → n ≡ x → (a : Tally) → tallyOf (recordAfter x) ≡ some a → QuietIn w t → Quiet (upd (w .cell) k m (recordAfter n .cell)) (on (w′ .records) (recordAfter n .cell)) t
   own-kept (Go r) e a d z =
@@ -132,29 +121,18 @@ module _ (w : World) (g : Ghost) (κ : Knowledge) (G : Good w g κ) (marks : (k 
 
 -- A BEGIN
 
-module _ (w : World) (g : Ghost) (κ : Knowledge) (G : Good w g κ) (marks : (k : ℕ) → Marks (w .cell k) (on (w .records) k)) (t : ℕ) (op : Op) (a : Accepted w t op) where
+module _ (w : World) (path : AllOnPath w) (t : ℕ) (op : Op) (a : Accepted w t op) where
   abbrev v′ : World
   v′ = withTask w t (firstOf op)
 
   idle-here : (j : ℕ) → on (w .records) j t ≡ idle
-  idle-here j = idle-to w g κ G t op a j
+  idle-here j = idle-to w path t op a j
 
   on-its-cell : on (v′ .records) (cellOf op) ≡ upd (on (w .records) (cellOf op)) t (firstOf op)
   on-its-cell = on-changed (w .records) t (firstOf op) (cellOf op) (inl (its-cell op))
 
   on-another : (j : ℕ) → j ≢ cellOf op → on (v′ .records) j ≡ on (w .records) j
-  on-another j n = on-elsewhere (w .records) t (firstOf op) j (inr (was-idle w g κ G t op a)) (inl (λ z. n (sym z ∙ its-cell op)))
-
-  pub begun-marks : (j : ℕ) → Marks (w .cell j) (on (v′ .records) j)
-  begun-marks j = go (either j (cellOf op))
-    where
-      go : (j ≡ cellOf op) ⊎ (j ≢ cellOf op) → Marks (w .cell j) (on (v′ .records) j)
-      go (inr e) = rw (on-another j e) (marks j)
-      go (inl e) = subst (λ j. Marks (w .cell j) (on (v′ .records) j)) (sym e) (rw on-its-cell (λ c y.
-          let x = marks (cellOf op) c y in
-          let ne : x .who ≢ t = λ z. rw (idle-here (cellOf op)) at (subst (λ u. T (marking (lineOf (on (w .records) (cellOf op) u)))) z (x .marks)) in
-          let f = upd-off (on (w .records) (cellOf op)) t (firstOf op) (x .who) ne in
-          record { who = x .who; marks = rw f (x .marks); here = rw f (x .here) }))
+  on-another j n = on-elsewhere (w .records) t (firstOf op) j (inr (was-idle w path t op a)) (inl (λ z. n (sym z ∙ its-cell op)))
 
   -- a first line is of a swap of unequal values only if the operation is one
   first-unequal : (p : Op) → T (swapping (lineOf (firstOf p))) → Unequal p
@@ -171,7 +149,7 @@ module _ (w : World) (g : Ghost) (κ : Knowledge) (G : Good w g κ) (marks : (k 
       let e = on-it (w .records) j u (lies-in swapping busy tt (lineOf (on (w .records) j u)) b) in
       let b′ : T (swapping (lineOf (w .records u))) = subst (λ (q : Record). T (swapping (lineOf q))) (on-in (w .records) j u e) b in
       let y = lies-in swapping busy tt (lineOf (w .records u)) b′ in
-      (busy-doing (w .records u) y, is-unequal (w .records u) (pending-at w (G .on-path) u y .1 .line) b′, cell-of (w .records u) ∙ e)
+      (busy-doing (w .records u) y, is-unequal (w .records u) (pending-at w path u y .1 .line) b′, cell-of (w .records u) ∙ e)
 
   pub begin-quietly : QuietStarts doing clear QuietIn w v′ t op
   begin-quietly = record { new = new; others = others }
@@ -185,24 +163,17 @@ module _ (w : World) (g : Ghost) (κ : Knowledge) (G : Good w g κ) (marks : (k 
           nobody : (u : ℕ) → T (swapping (lineOf (f u))) → ⊥
           nobody u b = let s = sees (cellOf op) u b in free u (tally (w .records u)) (s .0) (s .1) (s .2)
 
-          clear : w .cell (cellOf op) .y (w .cell (cellOf op) .current) ≡ 0
-          clear = go (either (w .cell (cellOf op) .y (w .cell (cellOf op) .current)) 0)
-            where
-              go : (w .cell (cellOf op) .y (w .cell (cellOf op) .current) ≡ 0) ⊎ (w .cell (cellOf op) .y (w .cell (cellOf op) .current) ≢ 0) → w .cell (cellOf op) .y (w .cell (cellOf op) .current) ≡ 0
-              go (inl z) = z
-              go (inr z) = let x = marks (cellOf op) c z in absurd (nobody (x .who) (lies-in marking swapping tt (lineOf (f (x .who))) (x .marks)))
-
           lonely : (p : Op) (u : ℕ) → u ≢ t → T (swapping (lineOf (upd f t (firstOf p) u))) → ⊥
           lonely p u ne = rw (upd-off f t (firstOf p) u ne) (nobody u)
 
           -- at line 10 or 15 nothing is held yet
           at-first : (p : Op) (ℓ : Line) → lineOf (firstOf p) ≡ ℓ → T (uncontended ℓ) → (T (holding ℓ) → ⊥) → (T (signed ℓ) → ⊥) → Quiet (w .cell (cellOf op)) (upd f t (firstOf p)) t
           at-first p ℓ e b n x = record {
-            active = c;
+            active = c .0;
             lonely = lonely p;
             line = rw (upd-same f t (firstOf p), e) b;
             here = rw (upd-same f t (firstOf p), e) (λ z. absurd (n z));
-            clear = λ z. clear;
+            clear = λ z. c .1;
             mine = rw (upd-same f t (firstOf p), e) (λ z. absurd (x z));
           }
 
@@ -218,12 +189,25 @@ module _ (w : World) (g : Ghost) (κ : Knowledge) (G : Good w g κ) (marks : (k 
       others u n d apart z = rw (upd-off (w .records) t (firstOf op) u ne) (go (either (w .records u .cell) (cellOf op)))
         where
           ne : u ≢ t
-          ne e = clash (ap (doing w) e ∙ ap tallyOf (was-idle w g κ G t op a)) d
+          ne e = clash (ap (doing w) e ∙ ap tallyOf (was-idle w path t op a)) d
 
           its : cellOf (n .op) ≡ w .records u .cell
-          its = ap (λ (n : Tally). cellOf (n .op)) (some-inj d (busy-doing (w .records u) (is-busy w (G .on-path) u n d))) ∙ cell-of (w .records u)
+          its = ap (λ (n : Tally). cellOf (n .op)) (some-inj d (busy-doing (w .records u) (is-busy w path u n d))) ∙ cell-of (w .records u)
 
           go : (w .records u .cell ≡ cellOf op) ⊎ (w .records u .cell ≢ cellOf op) → Quiet (w .cell (w .records u .cell)) (on (v′ .records) (w .records u .cell)) u
           go (inr e) = rw (on-another (w .records u .cell) e) z
           go (inl e) = subst (λ j. Quiet (w .cell j) (on (v′ .records) j) u) (sym e) (rw on-its-cell
               (others-begin (w .cell (cellOf op)) (on (w .records) (cellOf op)) u t (firstOf op) (subst (λ (j : ℕ). Quiet (w .cell j) (on (w .records) j) u) e z) ne (λ b. apart (first-unequal op b) (sym e ∙ sym its))))
+
+-- A DROP
+
+module _ (w : World) (t : ℕ) where
+  pub drop-quietly : (u : ℕ) (n : Tally) → doing (withTask w t idle) u ≡ some n → QuietIn w u → QuietIn (withTask w t idle) u
+  drop-quietly u n d z = rw (upd-off (w .records) t idle u ne) (go (either (w .records u .cell) (w .records t .cell)))
+    where
+      ne : u ≢ t
+      ne e = clash (ap tallyOf (upd-at (w .records) t idle u e)) d
+
+      go : (w .records u .cell ≡ w .records t .cell) ⊎ (w .records u .cell ≢ w .records t .cell) → Quiet (w .cell (w .records u .cell)) (on (upd (w .records) t idle) (w .records u .cell)) u
+      go (inl e) = rw (on-changed (w .records) t idle (w .records u .cell) (inr refl)) (others-begin (w .cell (w .records u .cell)) (on (w .records) (w .records u .cell)) u t idle z ne (λ b. b))
+      go (inr e) = rw (on-elsewhere (w .records) t idle (w .records u .cell) (inl (λ z. e (sym z))) (inr refl)) z

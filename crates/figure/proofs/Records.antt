@@ -16,11 +16,11 @@ use Rattle.figure_lines.specs.Lines.{Line, lineAt, lineOf, accessAt, accessOf, 
 use Rattle.figure_cell.proofs.Tries.{tries}
 use Rattle.cells_spec.specs.Questions.{Question, refusal, ofKind, reads, swaps, lineFit, valuesFit, beginQuestions, swapQuestions, stepQuestions}
 use Rattle.history_spec.specs.Basics.{upd, _∈_}
-use Rattle.history_spec.specs.History.{Op, read, swap, cellOf, kindOf, Action, begin, step, Report, untried, wins, losses, run}
+use Rattle.history_spec.specs.History.{Op, read, swap, cellOf, kindOf, Action, begin, step, drop, Report, untried, wins, losses, run}
 use Rattle.history_spec.proofs.Basics.{either, upd-at, upd-same, upd-off, upd-cases}
 use Rattle.figure_cell.specs.Memory.{Cell, accessCell}
 use Rattle.cells_spec.specs.Turn.{recordAfter, outcomeOf}
-use Rattle.figure.specs.Figure.{World, withTask, withBoth, WorldAfter, worldAfter, unlessRefused, figureRan, figureStepped, figureBegun, opening, figure, triedIn, firstOf}
+use Rattle.figure.specs.Figure.{World, withTask, withBoth, WorldAfter, worldAfter, unlessRefused, figureRan, figureStepped, figureBegun, figureDropped, opening, figure, triedIn, firstOf}
 use Rattle.cells_spec.specs.Events.{reportOf, eventOf}
 use Rattle.figure_cell.specs.Paths.{accessCount}
 use Rattle.figure.specs.Traces.{Trace, didLine, enterLine}
@@ -174,6 +174,21 @@ step-cases w t did p = go (ask (stepQuestions (w .tasks) (w .records t) t)) p
     go (granted y) (inl i) = absurd (false≢true (rw (i .0) at (y .1 .0)))
     go (granted y) (inr (m, o)) = runs m o
 
+-- and so is a drop
+pub data Dropped (w : World) (t : ℕ) (did : List Line) : WorldAfter → Type 0 where
+  refuses : (n : ℕ) → w .records t ≡ idle → Dropped w t did (worldAfter w (Refused n))
+  leaves : t < w .tasks → Pending (w .cells) did (w .records t) → Dropped w t did (worldAfter (withTask w t idle) Acted)
+
+pub drop-cases : (w : World) (t : ℕ) (did : List Line) → OnPath (w .tasks) (w .cells) t did (w .records t) → Dropped w t did (figureDropped w t)
+unfolding figureDropped
+drop-cases w t did p = go (ask (stepQuestions (w .tasks) (w .records t) t)) p
+  where
+    go : {o : Option ℕ} → Asked (stepQuestions (w .tasks) (w .records t) t) o → OnPath (w .tasks) (w .cells) t did (w .records t) → Dropped w t did (unlessRefused o w (worldAfter (withTask w t idle) Acted))
+    go (denied n h) (inl i) = Dropped.refuses n (i .0)
+    go (denied n h) (inr (m, o)) = absurd (h (lt-ltb _ _ m, (rw (not-idle (w .records t) (o .line)), tt)))
+    go (granted y) (inl i) = absurd (false≢true (rw (i .0) at (y .1 .0)))
+    go (granted y) (inr (m, o)) = leaves m o
+
 -- ALL TASKS
 
 abbrev pub AllOnPath : World → Type 0
@@ -271,15 +286,34 @@ module _ (w : World) (r : Trace) (s : Sound w r) where
       let c = accessCell (w .cell (w .records t .cell)) (accessOf t (w .records t)) in
       line-sound t m o (c .cell) (led (w .cells) (r .did t) (w .records t) o t (c .value)) (one-line (w .cells) (r .did t) (w .records t) o t (c .value))
 
+  drop-sound : (t : ℕ) {f : WorldAfter} → Dropped w t (r .did t) f → Sound (f .world) (enterLine now r (drop t) (eventOf untried (f .outcome)))
+  drop-sound t (Dropped.refuses n i) = s
+  drop-sound t (leaves m o) = record { pending = put t idle [] (inl (refl, refl)); as-begun = put-begun t idle (inl refl) }
+
   pub act-sound : (a : Action) → Sound (figure w a .0) (enterLine now r a (figure w a .1))
   act-sound (begin t op) = begin-sound t op (begin-cases w t op)
   act-sound (step t) = step-sound t (step-cases w t (r .did t) (s .pending t))
+  act-sound (drop t) = drop-sound t (drop-cases w t (r .did t) (s .pending t))
 
 pub act-on-path : (w : World) → AllOnPath w → (a : Action) → AllOnPath (figure w a .0)
 act-on-path w p a =
     let r : Trace = record { op = λ t. opOf (w .records t); did = λ t. p t .0; done = [] } in
     let s : Sound w r = record { pending = λ t. p t .1; as-begun = λ t. inr refl } in
     λ t. (enterLine (λ t. lineOf (w .records t)) r a (figure w a .1) .did t, act-sound w r s a .pending t)
+
+-- another record for a task; a call that begins; a call's next line
+pub put-on-path : (w : World) → AllOnPath w → (t : ℕ) (q : Record) (did : List Line) → OnPath (w .tasks) (w .cells) t did q → (u : ℕ) → (d : List Line) × OnPath (w .tasks) (w .cells) u d (upd (w .records) t q u)
+put-on-path w p t q did o u = upd-cases (λ r. (d : List Line) × OnPath (w .tasks) (w .cells) u d r) (w .records) t q u (λ e. (did, rw e o)) (λ e. p u)
+
+pub begun-on-path : (w : World) → AllOnPath w → (t : ℕ) (op : Op) → Accepted w t op → AllOnPath (withTask w t (firstOf op))
+begun-on-path w p t op a = put-on-path w p t (firstOf op) [] (inr (a .task, first-on-path w t op a))
+
+pub next-on-path : (w : World) → AllOnPath w → (t : ℕ) (did : List Line) → t < w .tasks → Pending (w .cells) did (w .records t) → (k : ℕ) (c : Cell) (v : ℕ) → AllOnPath (withBoth w k c t (recordAfter (nextOf t (w .records t) v)))
+next-on-path w p t did m o k c v = go (nextOf t (w .records t) v) (one-line (w .cells) did (w .records t) o t v)
+  where
+    go : (x : Next) → Then (w .cells) did (w .records t) o x → AllOnPath (withBoth w k c t (recordAfter x))
+    go (Go r) h = put-on-path w p t r (did ++ (lineOf (w .records t) ∷ [])) (inr (m, h))
+    go (Done f) h = put-on-path w p t idle [] (inl (refl, refl))
 
 pub run-on-path : (w : World) → AllOnPath w → (l : List Action) → AllOnPath (run figure w l)
 run-on-path w p [] = p
@@ -290,7 +324,7 @@ abbrev pub SameSizes : World → World → Type 0
 SameSizes w w' = (w' .tasks ≡ w .tasks) × (w' .cells ≡ w .cells)
 
 pub act-sizes : (w : World) (a : Action) → SameSizes w (figure w a .0)
-unfolding figureStepped figureRan
+unfolding figureStepped figureRan figureDropped
 act-sizes w (begin t op) = go (begin-cases w t op)
   where
     go : {f : WorldAfter} → Begun w t op f → SameSizes w (f .world)
@@ -299,6 +333,11 @@ act-sizes w (begin t op) = go (begin-cases w t op)
 act-sizes w (step t) = go (refusal (stepQuestions (w .tasks) (w .records t) t))
   where
     go : (o : Option ℕ) → SameSizes w (unlessRefused o w (figureRan w t (w .records t)) .world)
+    go none = (refl, refl)
+    go (some n) = (refl, refl)
+act-sizes w (drop t) = go (refusal (stepQuestions (w .tasks) (w .records t) t))
+  where
+    go : (o : Option ℕ) → SameSizes w (unlessRefused o w (worldAfter (withTask w t idle) Acted) .world)
     go none = (refl, refl)
     go (some n) = (refl, refl)
 

@@ -16,7 +16,7 @@ use Rattle.figure.specs.StandIns.{denying, idling}
 pub denying-fails : (Clear : List Action → ℕ → Type 0) → Meets denying (opening 1 1 (5 ∷ [])) Clear 1 five → ⊥
 unfolding upd figureRan figureStepped figureBegun
 denying-fails Clear m = let calls = m (begin 0 (swap 0 5 7) ∷ replicate 10 (step 0)) .calls in
-    no-such-no 10 _ (λ t p. rw (ne-eqb t 0 p)) refl refl (calls .linearization) (calls .linearizes)
+    no-such-no 10 _ (λ t p. rw (ne-eqb t 0 p)) refl refl refl (calls .linearization) (calls .linearizes)
 
 -- a read does not end, however often it steps
 pub idling-fails : (Clear : List Action → ℕ → Type 0) → Meets idling (opening 1 1 (5 ∷ [])) Clear 1 five → ⊥

@@ -13,7 +13,7 @@ use Rattle.figure_lines.specs.Answers.{Next}
 use Rattle.figure_lines.specs.Record.{idle, isIdle, opOf}
 use Rattle.figure_lines.specs.Lines.{Line, lineOf, accessOf, counted, hardware}
 use Rattle.history_spec.specs.Basics.{upd, _∈_}
-use Rattle.history_spec.specs.History.{Op, read, swap, Action, begin, step, untried, Response}
+use Rattle.history_spec.specs.History.{Op, read, swap, Action, begin, step, drop, untried, Response}
 use Rattle.history_spec.specs.Demand3.{most, mostHard}
 use Rattle.history_spec.proofs.Basics.{either, clash, some-inj, upd-at, upd-off}
 use Rattle.history_linearization.proofs.Simulation.{Tally, first, Follows}
@@ -24,7 +24,7 @@ use Rattle.cells_spec.specs.Events.{eventOf}
 use Rattle.figure_cell.specs.Paths.{readPaths, paths, accessCount}
 use Rattle.history_spec.proofs.ListTests.{every-in, by-test}
 use Rattle.figure_cell.proofs.LineLaws.{waysOf, on-paths, on-read-paths, Leads, goes, done}
-use Rattle.figure.proofs.Records.{Pending, not-idle, led, Then, one-line, pending-bounds, read-bounds, Begun, starts, begin-cases, Stepped, runs, step-cases, OnPath, AllOnPath}
+use Rattle.figure.proofs.Records.{Pending, not-idle, led, Then, one-line, pending-bounds, read-bounds, Begun, starts, begin-cases, Stepped, runs, step-cases, Dropped, leaves, drop-cases, OnPath, AllOnPath}
 
 abbrev pub tally : Record → Tally
 tally q = record { op = opOf q; steps = q .steps; won = q .won; lost = q .lost }
@@ -105,6 +105,11 @@ module _ (w : World) where
       let c = accessCell (w .cell (w .records t .cell)) (accessOf t (w .records t)) in
       line-follows t did o (c .cell) (led (w .cells) did (w .records t) o t (c .value)) (one-line (w .cells) did (w .records t) o t (c .value))
 
+  drop-follows : (t : ℕ) (did : List Line) {f : WorldAfter} → Dropped w t did f → Follows doing (w .cells) w (drop t) (f .world) (eventOf untried (f .outcome))
+  drop-follows t did (Dropped.refuses n i) = (refl, rw i)
+  drop-follows t did (leaves m o) = record { now = tally (w .records t); was = was-doing (w .cells) did (w .records t) o; rest = put t idle none refl; no-attempt = refl }
+
 pub follows : (w : World) → AllOnPath w → (a : Action) → Follows doing (w .cells) w a (figure w a .0) (figure w a .1)
 follows w p (begin t op) = begin-follows w t op (begin-cases w t op)
 follows w p (step t) = step-follows w t (p t .0) (step-cases w t (p t .0) (p t .1))
+follows w p (drop t) = drop-follows w t (p t .0) (drop-cases w t (p t .0) (p t .1))

@@ -5,7 +5,7 @@ use mathlib.Core.List.{List, [], _∷_, map}
 use Prim.Native.Nat.{ℕ}
 use Rattle.figure_lines.specs.Lines.{Line}
 use Rattle.history_spec.specs.Basics.{upd}
-use Rattle.history_spec.specs.History.{Op, Action, begin, step, Attempt, Event, refused, accepted, answered, history, Call, Calls, noCalls, called, advanced, closed, enter, enterAll, callsOf, IsBusy, Allowed, WellFormed}
+use Rattle.history_spec.specs.History.{Op, Action, begin, step, drop, Attempt, Event, refused, accepted, answered, history, Call, Calls, noCalls, called, advanced, closed, enter, enterAll, callsOf, IsBusy, Allowed, WellFormed}
 use Rattle.history_spec.proofs.Basics.{upd-cases}
 use Rattle.figure.specs.Traces.{Trace, noTrace, enterLine, traces, finishedReport, tracedReport}
 use Rattle.figure.proofs.Records.{upd-both}
@@ -32,6 +32,8 @@ module _ (next : ℕ → Line) (size : ℕ) (b : Calls) (r : Trace) (s : Same b 
   enters (begin t op) (accepted x) w = record { pending = upd-both (λ u. OfOp) (b .pending) (r .op) t (some (called b t op)) op refl (s .pending); finished = s .finished }
   enters (begin t op) (answered x y) w = absurd w
   enters (step t) (accepted x) w = record { pending = put t (advanced b x (b .pending t)) (advances (b .pending t) (r .op t) x (s .pending t)); finished = s .finished }
+  enters (drop t) (accepted x) w = record { pending = put t none tt; finished = s .finished }
+  enters (drop t) (answered x y) w = absurd w
   enters (step t) (answered x y) w = record { pending = put t none tt; finished = go (b .pending t) (s .pending t) w }
     where
       go : (o : Option Call) → OfOp o (r .op t) → IsBusy o → map finishedReport (closed (advanced b x o) y (b .finished)) ≡ ((r .op t, y) ∷ map tracedReport (r .done))

@@ -24,7 +24,7 @@ on = OnCell.on (λ (r : Record). r .cell) idle
 pub on-in : (f : ℕ → Record) (k u : ℕ) → f u .cell ≡ k → on f k u ≡ f u
 on-in = OnCell.on-in (λ (r : Record). r .cell) idle
 
-on-out : (f : ℕ → Record) (k u : ℕ) → f u .cell ≢ k → on f k u ≡ idle
+pub on-out : (f : ℕ → Record) (k u : ℕ) → f u .cell ≢ k → on f k u ≡ idle
 on-out = OnCell.on-out (λ (r : Record). r .cell) idle
 
 pub on-idle : (f : ℕ → Record) (k u : ℕ) → f u ≡ idle → on f k u ≡ idle

@@ -70,11 +70,11 @@ pub its-cell : (op : Op) → firstOf op .cell ≡ cellOf op
 its-cell (read k) = refl
 its-cell (swap k e n) = refl
 
-module _ (w : World) (g : Ghost) (κ : Knowledge) (G : Good w g κ) (t : ℕ) (op : Op) (a : Accepted w t op) where
+module _ (w : World) (p : AllOnPath w) (t : ℕ) (op : Op) (a : Accepted w t op) where
   pub was-idle : w .records t ≡ idle
-  was-idle = go (G .on-path t .1)
+  was-idle = go (p t .1)
     where
-      go : OnPath (w .tasks) (w .cells) t (G .on-path t .0) (w .records t) → w .records t ≡ idle
+      go : OnPath (w .tasks) (w .cells) t (p t .0) (w .records t) → w .records t ≡ idle
       go (inl i) = i .0
       go (inr o) = absurd (false≢true (sym (not-idle (w .records t) (o .1 .line)) ∙ a .free))
 

@@ -5,17 +5,18 @@ use mathlib.Core.Option.{Option, none, some}
 use mathlib.Core.List.{List, [], _∷_}
 use Prim.Native.Nat.{ℕ, zero, suc}
 use Rattle.cells_spec.specs.Questions.{refusal, stepQuestions}
-use Rattle.history_spec.specs.History.{Action, begin, step, taskOf}
+use Rattle.history_spec.specs.History.{Action, begin, step, drop, taskOf}
 use Rattle.figure.specs.Figure.{World, figure}
 
 abbrev pub ifAccepted : (refusal : Option ℕ) → (cell : ℕ) → Option ℕ
 ifAccepted none k = some k
 ifAccepted (some n) k = none
 
--- a step that is not refused touches its task's cell; a begin, and a refused action, touch none
+-- a step that is not refused touches its task's cell; a begin, a drop, and a refused action, touch none
 abbrev pub touches : World → Action → Option ℕ
 touches w (begin t op) = none
 touches w (step t) = ifAccepted (refusal (stepQuestions (w .tasks) (w .records t) t)) (w .records t .cell)
+touches w (drop t) = none
 
 -- actions of different tasks that do not touch the same cell
 pub record Apart (w : World) (a b : Action) : Type 0 where

@@ -18,7 +18,7 @@ use Rattle.cells_spec.specs.Look.{shownValue, shown}
 use Rattle.cells_spec.specs.Events.{eventOf, tried}
 use Rattle.cells_spec.specs.Turn.{recordAfter, outcomeOf}
 use Rattle.history_spec.specs.Basics.{upd}
-use Rattle.history_spec.specs.History.{Op, read, swap, Action, begin, step, Attempt, untried, Event}
+use Rattle.history_spec.specs.History.{Op, read, swap, Action, begin, step, drop, Attempt, untried, Event}
 use Rattle.figure_cell.specs.Memory.{Cell, accessCell}
 
 pub record World : Type 0 where
@@ -61,6 +61,10 @@ unfoldable pub figureBegun : World → ℕ → Op → WorldAfter
 figureBegun w t (read k) = unlessRefused (refusal (beginQuestions (w .tasks) (w .cells) (w .records t) t k)) w (worldAfter (withTask w t (firstOf (read k))) Acted)
 figureBegun w t (swap k e n) = unlessRefused (refusal (swapQuestions (w .tasks) (w .cells) (w .records t) t k e n)) w (worldAfter (withTask w t (firstOf (swap k e n))) Acted)
 
+-- a busy task's call is withdrawn
+unfoldable pub figureDropped : World → ℕ → WorldAfter
+figureDropped w t = unlessRefused (refusal (stepQuestions (w .tasks) (w .records t) t)) w (worldAfter (withTask w t idle) Acted)
+
 -- cell k's first block, number 0, has its starting value
 abbrev pub opening : (tasks cells : ℕ) → List ℕ → World
 opening n v vs = record {
@@ -86,7 +90,8 @@ triedIn w t q = tried t q (figureAnswers w q)
 abbrev pub figure : World → Action → World × Event
 figure w (begin t op) = let r = figureBegun w t op in (r .world, eventOf untried (r .outcome))
 figure w (step t) = let r = figureStepped w t in (r .world, eventOf (triedIn w t (w .records t)) (r .outcome))
+figure w (drop t) = let r = figureDropped w t in (r .world, eventOf untried (r .outcome))
 
--- nothing is left of an earlier collision: the current block of cell k is active
+-- nothing is left of an earlier collision: the current block of cell k is active; and its Y is false, which a withdrawn winner leaves true
 abbrev pub clear : World → ℕ → Type 0
-clear w k = w .cell k .c (w .cell k .current) ≡ 0
+clear w k = let m = w .cell k in (m .c (m .current) ≡ 0) × (m .y (m .current) ≡ 0)

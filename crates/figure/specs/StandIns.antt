@@ -1,5 +1,5 @@
 -- Two of the stand-ins that document 01 wants rejected by demand 3, made of the figure: each gives wrong events, or leaves a wrong world.
-use Rattle.history_spec.specs.History.{Action, begin, step, No, Report, Event, refused, accepted, answered}
+use Rattle.history_spec.specs.History.{Action, begin, step, drop, No, Report, Event, refused, accepted, answered}
 use Rattle.figure.specs.Figure.{World, figure}
 
 -- every call answers no
@@ -18,3 +18,4 @@ denying w a = (figure w a .0, answersNo (figure w a .1))
 abbrev pub idling : World → Action → World × Event
 idling w (begin t op) = figure w (begin t op)
 idling w (step t) = (w, figure w (step t) .1)
+idling w (drop t) = figure w (drop t)

@@ -6,7 +6,7 @@ use Rattle.figure_lines.specs.Paths.{table}
 use Rattle.figure_lines.specs.Lines.{Line, lineOf, hardware}
 use Rattle.history_spec.specs.Basics.{upd, _∈_}
 use Rattle.figure.specs.Figure.{World, figure}
-use Rattle.history_spec.specs.History.{Op, read, cellOf, kindOf, Action, begin, step, Report, Event, refused, accepted, answered, FinishedCall}
+use Rattle.history_spec.specs.History.{Op, read, cellOf, kindOf, Action, begin, step, drop, Report, Event, refused, accepted, answered, FinishedCall}
 use Rattle.figure_cell.specs.Paths.{accessCount, pathCounts, pathsOf, reached, steps}
 
 -- a finished call: what it is as begun, its lines in order, and what its last step reported
@@ -29,13 +29,15 @@ module _ (next : ℕ → Line) (r : Trace) where
   abbrev pub didLine : ℕ → List Line
   didLine t = r .did t ++ (next t ∷ [])
 
-  -- a begin that is accepted starts with no line; an accepted step adds its line; a refused action changes nothing
+  -- a begin that is accepted starts with no line; an accepted step adds its line; an accepted drop leaves none; a refused action changes nothing
   abbrev pub enterLine : Action → Event → Trace
   enterLine a (refused n) = r
   enterLine (begin t op) (accepted x) = record { op = upd (r .op) t op; did = upd (r .did) t []; done = r .done }
   enterLine (begin t op) (answered x y) = r
   enterLine (step t) (accepted x) = record { op = r .op; did = upd (r .did) t (didLine t); done = r .done }
   enterLine (step t) (answered x y) = record { op = r .op; did = upd (r .did) t []; done = record { op = r .op t; lines = didLine t; report = y } ∷ r .done }
+  enterLine (drop t) (accepted x) = record { op = r .op; did = upd (r .did) t []; done = r .done }
+  enterLine (drop t) (answered x y) = r
 
 -- the trace of a list of actions, from a state and what is traced already
 module _ {S : Type 0} (act : S → Action → S × Event) (next : S → ℕ → Line) where

@@ -87,32 +87,32 @@ pub record Grows (s : View) (κ κ′ : Knowledge) (u : ℕ) (ℓ : Line) : Type
   pub early : T (busy ℓ) → κ .early u → κ′ .early u
   pub storedActive : T (stored ℓ) → κ′ .storedActive u ≡ κ .storedActive u
 
+pub grown-task : (s : View) (κ κ′ : Knowledge) (u : ℕ) (ℓ : Line) → Grows s κ κ′ u ℓ → TaskOf s κ u ℓ (s .task u) → TaskOf s κ′ u ℓ (s .task u)
+grown-task s κ κ′ u ℓ m k = record {
+  self = k .self;
+  split = k .split;
+  value = k .value;
+  decided = k .decided;
+  planned = k .planned;
+  fresh = k .fresh;
+  owner = k .owner;
+  early = λ a. m .early (lies-in (is 23) busy tt ℓ a) (k .early a);
+  store = record {
+    active-placed = λ a z. k .store .active-placed a (subst T (m .storedActive a) z);
+    late-placed = λ a z. k .store .late-placed a (subst (λ b. T (not b)) (m .storedActive a) z);
+    late-store = λ a z. k .store .late-store a (subst (λ b. T (not b)) (m .storedActive a) z);
+    yes-active = λ a. subst T (sym (m .storedActive (lies-in (is 26) stored tt ℓ a))) (k .store .yes-active a);
+  };
+  seen = record {
+    active-value = λ a c. m .loaded (lies-in checking viewing tt ℓ a) _ (k .seen .active-value a c);
+    refusing = λ a. m .loaded (lies-in (is 22) viewing tt ℓ a) _ (k .seen .refusing a);
+    decision = λ a d. m .decided a d _ (k .seen .decision a d);
+    replaced = λ a h. let r = k .seen .replaced a h in (r .0, m .replaced a h _ (r .1), r .2);
+  };
+}
+
 pub grow : (s : View) (κ κ′ : Knowledge) → ((u : ℕ) → Grows s κ κ′ u (line s u)) → Inv s κ → Inv s κ′
-grow s κ κ′ m i = record { current = i .current; tasks = λ u. more u (line s u) (m u) (i .tasks u); rivals = i .rivals; apart = i .apart; unheld = i .unheld }
-  where
-    more : (u : ℕ) (ℓ : Line) → Grows s κ κ′ u ℓ → TaskOf s κ u ℓ (s .task u) → TaskOf s κ′ u ℓ (s .task u)
-    more u ℓ m k = record {
-      self = k .self;
-      split = k .split;
-      value = k .value;
-      decided = k .decided;
-      planned = k .planned;
-      fresh = k .fresh;
-      owner = k .owner;
-      early = λ a. m .early (lies-in (is 23) busy tt ℓ a) (k .early a);
-      store = record {
-        active-placed = λ a z. k .store .active-placed a (subst T (m .storedActive a) z);
-        late-placed = λ a z. k .store .late-placed a (subst (λ b. T (not b)) (m .storedActive a) z);
-        late-store = λ a z. k .store .late-store a (subst (λ b. T (not b)) (m .storedActive a) z);
-        yes-active = λ a. subst T (sym (m .storedActive (lies-in (is 26) stored tt ℓ a))) (k .store .yes-active a);
-      };
-      seen = record {
-        active-value = λ a c. m .loaded (lies-in checking viewing tt ℓ a) _ (k .seen .active-value a c);
-        refusing = λ a. m .loaded (lies-in (is 22) viewing tt ℓ a) _ (k .seen .refusing a);
-        decision = λ a d. m .decided a d _ (k .seen .decision a d);
-        replaced = λ a h. let r = k .seen .replaced a h in (r .0, m .replaced a h _ (r .1), r .2);
-      };
-    }
+grow s κ κ′ m i = record { current = i .current; tasks = λ u. grown-task s κ κ′ u (line s u) (m u) (i .tasks u); rivals = i .rivals; apart = i .apart; unheld = i .unheld }
 
 -- C stays set, and who stored stays placed or not; what is said anew is of the current block, the value and the phase
 pub decided-with : {u : ℕ} {ℓ : Line} {q : Record} {placed placed′ : Bool} {d c c′ L L′ P P′ : ℕ} {p p′ : Phase} → Decided u ℓ q placed d c L P p

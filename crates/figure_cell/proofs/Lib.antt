@@ -6,6 +6,7 @@ pub mod Stores
 pub mod Invariant
 pub mod Frame
 pub mod Looking
+pub mod Dropping
 pub mod Splitter
 pub mod Storing
 pub mod Deciding

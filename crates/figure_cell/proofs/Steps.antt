@@ -73,8 +73,8 @@ Can s κ t still = Unit {0}
 Can s κ t act = T (not (s .placed t)) × (s .phase ≡ settled) × (s .value ≡ s .task t .expected) × T (swapping (line s t)) × ((T (is 23 (line s t)) × (s .cell .c (held s t) ≡ 0)) ⊎ T (is 30 (line s t)))
 Can s κ t freeze = (s .phase ≡ settled) × T (is 27 (line s t)) × (s .cell .c (held s t) ≡ 0) × (held s t ≡ s .cell .current)
 Can s κ t delay = T (not (s .placed t)) × (s .phase ≡ frozen) × κ .early t × T (is 23 (line s t))
-Can s κ t settle = Unit {0}
-Can s κ t (land u) = (s .phase ≡ late u) × (s .value ≡ s .task u .expected) × T (swapping (line s u)) × T (is 2 (line s t))
+Can s κ t settle = T (is 2 (line s t)) × (s .cell .d (held s t) ≡ none) × (s .task t .loaded ≡ s .value)
+Can s κ t (land u) = (s .phase ≡ late u) × (s .value ≡ s .task u .expected) × T (swapping (line s u)) × T (is 2 (line s t)) × (s .cell .d (held s t) ≡ none) × (s .task t .loaded ≡ s .task u .new)
 
 -- what is known after t's step, if the cell has the phase p and the value v then: what was, and in a settled cell its value by those for
 -- whom this step is noted
@@ -173,7 +173,7 @@ module _ (s : View) (κ : Knowledge) (κ⁺ : Phase → ℕ → Knowledge) (t : 
       go : (q .loaded ≡ s .value) ⊎ (q .loaded ≢ s .value) → Step s κ κ⁺ t (store m (q .held) D (q .loaded)) r
       go (inl p) = record {
         change = settle;
-        can = tt;
+        can = (rw e tt, d, p);
         current = λ n. refl;
         kept = subst (λ v. Inv (record { cell = store m (q .held) D (q .loaded); task = upd (s .task) t r; value = v; placed = s .placed; phase = settled }) (κ⁺ settled (s .value))) p
             (Deciding.kept-done s (κ⁺ settled (s .value)) t x (more settled (s .value)) e d a 3 (q .wanted) (s .placed)
@@ -187,7 +187,7 @@ module _ (s : View) (κ : Knowledge) (κ⁺ : Phase → ℕ → Knowledge) (t : 
           record {
             change = land (o .0);
             current = λ n. refl;
-            can = (o .1, sym (k .expected-is), lies-in stored swapping tt (line s (o .0)) (k .has-stored), rw e tt);
+            can = (o .1, sym (k .expected-is), lies-in stored swapping tt (line s (o .0)) (k .has-stored), rw e tt, d, sym new);
             kept = subst (λ v. Inv (record { cell = store m (q .held) D (q .loaded); task = upd (s .task) t r; value = v; placed = upd (s .placed) (o .0) true; phase = settled }) κ′) (sym new)
                 (Deciding.kept-done s κ′ t x (more settled (s .task (o .0) .new)) e d a 3 (q .wanted) (upd (s .placed) (o .0) true)
                 (Deciding.land s κ t x i e d a 3 (q .wanted) p) (seen (s .task (o .0) .new) new) (same-wanted q x .1 e));

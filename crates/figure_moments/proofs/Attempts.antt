@@ -45,7 +45,7 @@ module _ (t : ℕ) (r : Record) (fits : lineFit r ≡ true) where
   at-line : (l : Line) → T (same (lineOf r) l) → accessOf t r ≡ accessAt l t r
   at-line l h = ap (λ l. accessAt l t r) {x = lineOf r} (same-is (lineOf r) l h)
 
-  at-2 : r .line ≡ 2 → accessOf t r ≡ DecideCas (r .held) (r .loaded)
+  pub at-2 : r .line ≡ 2 → accessOf t r ≡ DecideCas (r .held) (r .loaded)
   at-2 e =
       ⊎-elim (at-line (l2 for13)) (λ h. ⊎-elim (at-line (l2 for25)) (at-line (l2 for28)) (or-cases (same (lineOf r) (l2 for25)) (same (lineOf r) (l2 for28)) h))
       (or-cases (same (lineOf r) (l2 for13)) (same (lineOf r) (l2 for25) || same (lineOf r) (l2 for28))

@@ -52,10 +52,10 @@ values-some e n = go (eqb e noValue) (eqb n noValue) refl refl
 
 module _ (w : World) (g : Ghost) (κ : Knowledge) (G : Good w g κ) (t : ℕ) (op : Op) (a : Accepted w t op) where
   busy-other : (j u : ℕ) → T (busy (line (view w g j) u)) → u ≢ t
-  busy-other j u b z = rw (z, idle-to w g κ G t op a j) at b
+  busy-other j u b z = rw (z, idle-to w (G .on-path) t op a j) at b
 
   not-late : (j : ℕ) → g .phase j ≢ late t
-  not-late j z = rw (idle-to w g κ G t op a j) at (G .cells j .tasks t .owner z .has-stored)
+  not-late j z = rw (idle-to w (G .on-path) t op a j) at (G .cells j .tasks t .owner z .has-stored)
 
 module _ (w : World) (notes : Notes) (g : Ghost) (κ : Sim.Knowledge) (G : Good w g (known notes κ)) (t : ℕ) (op : Op) (a : Accepted w t op) where
   abbrev w′ : World
@@ -101,7 +101,7 @@ module _ (w : World) (notes : Notes) (g : Ghost) (κ : Sim.Knowledge) (G : Good 
   here = λ i. record { cell = w .cell (cellOf op); task = on-changed (w .records) t (firstOf op) (cellOf op) (inl (its-cell op)) i; value = g .cells (cellOf op); placed = g′ .placed; phase = g .phase (cellOf op) }
 
   there : (j : ℕ) → j ≢ cellOf op → view w′ g′ j ≡ before j
-  there j n = λ i. record { cell = w .cell j; task = on-elsewhere (w .records) t (firstOf op) j (inr (was-idle w g (known notes κ) G t op a)) (inl (λ z. n (sym z ∙ its-cell op))) i; value = g .cells j; placed = g′ .placed; phase = g .phase j }
+  there j n = λ i. record { cell = w .cell j; task = on-elsewhere (w .records) t (firstOf op) j (inr (was-idle w (G .on-path) t op a)) (inl (λ z. n (sym z ∙ its-cell op))) i; value = g .cells j; placed = g′ .placed; phase = g .phase j }
 
   pub begun-good : AllOnPath w′ → (κ′ : Sim.Knowledge) → Grown doingIn clock (names figure sees) (w, notes) (w′, nothingNoted notes) g′ κ κ′ → Good w′ g′ (known (nothingNoted notes) κ′)
   begun-good p κ′ grown = record { on-path = p; eager = grown .fresh-early; cells = λ j. knows-more (view w′ g′ j) notes others κ′ (knows j) (go j (either j (cellOf op))) }

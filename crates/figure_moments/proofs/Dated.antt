@@ -16,7 +16,7 @@ use Rattle.figure_lines.specs.Lines.{Line, l10, l15, l21, l30, lineAt, lineOf, 
 use Rattle.cells_spec.specs.Questions.{lineFit}
 use Rattle.history_spec.specs.Basics.{upd}
 use Rattle.history_spec.specs.History.{Op, read, swap, cellOf, Response, Value, Yes, No}
-use Rattle.history_spec.specs.Moments.{before, after, C3, C4, Rule, Spot, changes}
+use Rattle.history_spec.specs.Moments.{before, itself, after, C3, C4, Rule, Spot, changes}
 use Rattle.history_spec.proofs.Basics.{either, upd-at, upd-same, upd-off, upd-cases}
 use Rattle.history_linearization.proofs.Simulation as Sim
 use Rattle.history_linearization.proofs.Simulation.{Phase, settled, frozen, late, Ghost, unplaced, Tally, Why, Sided, Named}
@@ -104,8 +104,9 @@ module _ (w : World) (notes : Notes) (g : Ghost) (κ : Sim.Knowledge) (G : Good 
     abbrev spot : Bool → Option Spot
     spot a = cond a (cond (notes .storedActive t) (some (spotAt (notes .stored t) C4)) (cond (see .asNew) (some (spotAt (notes .inactive t) C3)) none)) none
 
-    pub placed-named : T (g .placed t) → Named (stands notes t see) (g .when t)
-    placed-named z = go (notes .storedActive t) refl
+    -- the rule, and the moment, by what is noted
+    pub placed-spot : T (g .placed t) → stands notes t see ≡ some (cond (notes .storedActive t) (spotAt (notes .stored t) C4) (spotAt (notes .inactive t) C3))
+    placed-spot z = go (notes .storedActive t) refl
       where
         st : T (stored ℓ)
         st = f .self .placed-stored b z
@@ -113,12 +114,23 @@ module _ (w : World) (notes : Notes) (g : Ghost) (κ : Sim.Knowledge) (G : Good 
         stood : stands notes t see ≡ spot true
         stood = cond-true (within (see .figureLine) 24 26) (spot true) none (subst (λ n. T (within n 24 26)) (sym (figure-line-is q fit)) (lies-in stored (λ ℓ. within (figureLine ℓ) 24 26) tt ℓ st))
 
-        go : (a : Bool) → notes .storedActive t ≡ a → Named (stands notes t see) (g .when t)
-        go true i = record { spot = spotAt (notes .stored t) C4; is = stood ∙ rw i refl; moment = sym (D .placed t b z ∙ rw i refl); side = refl }
+        go : (a : Bool) → notes .storedActive t ≡ a → stands notes t see ≡ some (cond (notes .storedActive t) (spotAt (notes .stored t) C4) (spotAt (notes .inactive t) C3))
+        go true i = stood ∙ rw i refl
         go false i =
             let e = f .decided .placed-decided st z (f .store .late-placed st (rw i tt) z) in
             let new : T (see .asNew) = rw e (with (holdsBlock q) (eqb (q .new) (q .new)) (holds-block q fit (lies-in stored holding tt ℓ st)) (equal (q .new) (q .new) refl)) in
-            record { spot = spotAt (notes .inactive t) C3; is = stood ∙ rw i (cond-true (see .asNew) _ _ new); moment = sym (D .placed t b z ∙ rw i refl); side = refl }
+            stood ∙ rw i (cond-true (see .asNew) _ _ new)
+
+    pub placed-named : T (g .placed t) → Named (stands notes t see) (g .when t)
+    placed-named z = record { spot = _; is = placed-spot z; moment = go (notes .storedActive t) ∙ sym (D .placed t b z); side = itself-there (notes .storedActive t) }
+      where
+        go : (a : Bool) → cond a (spotAt (notes .stored t) C4) (spotAt (notes .inactive t) C3) .moment ≡ cond a (notes .stored t) (notes .inactive t)
+        go true = refl
+        go false = refl
+
+        itself-there : (a : Bool) → cond a (spotAt (notes .stored t) C4) (spotAt (notes .inactive t) C3) .side ≡ itself
+        itself-there true = refl
+        itself-there false = refl
 
     pub unplaced-unnamed : T (not (g .placed t)) → stands notes t see ≡ none
     unplaced-unnamed z = go (within (see .figureLine) 24 26) (λ b. lies-in (λ ℓ. within (figureLine ℓ) 24 26) stored tt ℓ (subst (λ n. T (within n 24 26)) (figure-line-is q fit) b))

@@ -204,7 +204,7 @@ module _ (w : World) (notes : Notes) (g : Ghost) (κ : Sim.Knowledge) (G : Good 
     phase-off : (p : Phase) → upd (g .phase) (cellOf op) p j ≡ g .phase j
     phase-off p = upd-off (g .phase) (cellOf op) p j (λ z. n (z ∙ on-k))
 
-    phase-there : (x : Change) → g′ x .phase j ≡ g .phase j
+    pub phase-there : (x : Change) → g′ x .phase j ≡ g .phase j
     phase-there still = refl
     phase-there act = refl
     phase-there freeze = phase-off frozen

@@ -1,8 +1,12 @@
+pub mod Attempts
 pub mod Notes
 pub mod Known
 pub mod Begins
 pub mod Dated
+pub mod Drops
+pub mod Beyond
+pub mod Withdrawn
+pub mod Leaving
 pub mod Simulation
 pub mod Reachable
-pub mod Attempts
 pub mod RunExamples

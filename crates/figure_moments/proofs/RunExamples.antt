@@ -4,8 +4,8 @@ use mathlib.Core.Path.{_≡_, refl}
 use mathlib.Core.List.{List, [], _∷_, _++_}
 use Prim.Native.Nat.{ℕ}
 use Rattle.history_spec.specs.Basics.{upd}
-use Rattle.history_spec.specs.History.{Op, swap, aSwap, Action, begin, Response, Yes, No, Attempt, success, failure, untried, Event, refused, accepted, answered, history}
-use Rattle.figure.specs.Figure.{opening, figureRan, figureStepped, figureBegun, figure}
+use Rattle.history_spec.specs.History.{Op, swap, aSwap, Action, begin, drop, Response, Yes, No, Attempt, success, failure, untried, Event, refused, accepted, answered, history}
+use Rattle.figure.specs.Figure.{opening, figureRan, figureStepped, figureBegun, figureDropped, figure}
 use Rattle.figure_moments.specs.MomentExamples.{stepsBy, meeting}
 
 abbrev ends : List (Action × Event) → List Event
@@ -47,3 +47,13 @@ p10 = refl
 pub halted-filling : five (meeting ++ stepsBy 5 0 ++ stepsBy 11 1 ++ stepsBy 6 0 ++ alone (swap 0 7 4) 10) ≡ swapped success Yes 13 2 0 ∷ swapped untried Yes 10 0 0 ∷ []
 unfolding upd figureRan figureStepped figureBegun
 halted-filling = refl
+
+-- CR 12: a winner is withdrawn after it set Y (its fourth step): Y stays true, so that the next swap, though alone and on an active block, goes by
+-- 27 and attempts two hardware CAS. Withdrawn one step earlier, it leaves nothing.
+pub dropped-winner : five (alone (swap 0 5 7) 4 ++ drop 0 ∷ alone (swap 0 5 9) 13) ≡ swapped success Yes 13 2 0 ∷ []
+unfolding upd figureRan figureStepped figureBegun figureDropped
+dropped-winner = refl
+
+pub dropped-before : five (alone (swap 0 5 7) 3 ++ drop 0 ∷ alone (swap 0 5 9) 10) ≡ swapped untried Yes 10 0 0 ∷ []
+unfolding upd figureRan figureStepped figureBegun figureDropped
+dropped-before = refl

@@ -5,9 +5,9 @@ use mathlib.Core.List.{List, [], _∷_, _++_, map}
 use Prim.Native.Nat.{ℕ}
 use lib.ListN.{replicate}
 use Rattle.history_spec.specs.Basics.{upd}
-use Rattle.history_spec.specs.History.{Op, read, swap, Action, begin, step}
+use Rattle.history_spec.specs.History.{Op, read, swap, Action, begin, step, drop}
 use Rattle.history_spec.specs.Moments.{Side, itself, after, Rule, R1, R2, C1, C2, C3, C4, C5, C6, Mark}
-use Rattle.figure.specs.Figure.{figureRan, figureStepped, figureBegun}
+use Rattle.figure.specs.Figure.{figureRan, figureStepped, figureBegun, figureDropped}
 use Rattle.figure_moments.specs.Moments.{moments}
 
 -- a mark as it will be printed
@@ -67,7 +67,19 @@ pub moments-hold :
     (lateStore ++ stepsBy 2 0 ++ alone 2 (read 0) 6, entry 12 itself 1 C3 ∷ entry 17 itself 2 R2 ∷ []) ∷
     -- the same as a swap of equal values
     (lateStore ++ stepsBy 2 0 ++ alone 2 (swap 0 9 9) 6, entry 12 itself 1 C3 ∷ entry 17 itself 2 C1 ∷ []) ∷
+    -- CR 12: a swap that stored late is withdrawn (action 14). It is listed as soon as its value is decided, where C was set, and not before;
+    -- also where its task has begun another call by then, which replaces the block.
+    (lateStore ++ drop 1 ∷ stepsBy 1 0, []) ∷
+    (lateStore ++ drop 1 ∷ stepsBy 2 0, entry 12 itself 1 C3 ∷ []) ∷ (
+      lateStore ++ drop 1 ∷ alone 1 (swap 0 9 4) 13 ++ stepsBy 3 0 ++ alone 2 (swap 0 4 9) 10,
+      entry 12 itself 1 C3 ∷ entry 21 itself 0 C5 ∷ entry 28 itself 1 C6 ∷ entry 40 itself 2 C4 ∷ [],
+    ) ∷
+    -- not if another value is decided: task 0 loaded V before the late store
+    (meeting ++ stepsBy 3 0 ++ stepsBy 1 1 ++ drop 1 ∷ stepsBy 2 0, []) ∷
+    -- one that stored in an active block is listed at its store; one that has not stored is not listed
+    (alone 0 (swap 0 5 7) 8 ++ drop 0 ∷ alone 1 (read 0) 3, entry 8 itself 0 C4 ∷ entry 12 itself 1 R1 ∷ []) ∷
+    (alone 0 (swap 0 5 7) 7 ++ drop 0 ∷ alone 1 (read 0) 3, entry 11 itself 1 R1 ∷ []) ∷
     []
     )
-unfolding upd figureRan figureStepped figureBegun
-moments-hold = (refl, (refl, (refl, (refl, (refl, (refl, (refl, (refl, (refl, (refl, (refl, tt)))))))))))
+unfolding upd figureRan figureStepped figureBegun figureDropped
+moments-hold = (refl, (refl, (refl, (refl, (refl, (refl, (refl, (refl, (refl, (refl, (refl, (refl, (refl, (refl, (refl, (refl, (refl, tt)))))))))))))))))

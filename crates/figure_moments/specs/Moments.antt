@@ -11,7 +11,8 @@ use Rattle.figure_lines.specs.declared.Field.{Field}
 use Rattle.figure_lines.specs.declared.Field.the-variants.{C, D}
 use Rattle.figure_lines.specs.Record.{noValue, isIdle}
 use Rattle.cells_spec.specs.Questions.{holds}
-use Rattle.history_spec.specs.History.{Action, begin, step, Response, Value, Yes, No, Event, refused, accepted, answered}
+use Rattle.history_spec.specs.Basics.{upd}
+use Rattle.history_spec.specs.History.{Action, begin, step, drop, Response, Value, Yes, No, Event, refused, accepted, answered}
 use Rattle.history_spec.specs.Moments.{itself, before, after, Rule, R1, R2, C1, C2, C3, C4, C5, C6, Spot, Mark, Names, beside, linearized}
 use Rattle.figure_cell.specs.Memory.{wordOf}
 use Rattle.figure.specs.Figure.{World, figure, opening}
@@ -36,6 +37,10 @@ pub record Sight : Type 0 where
   pub asNew : Bool
   -- who holds this block
   pub holders : ℕ → Bool
+  -- its cell, the value loaded, which line 2 decides, and its new value
+  pub cell : ℕ
+  pub loaded : ℕ
+  pub new : ℕ
 
 -- of all records, each cell's current block, and the words of its blocks
 abbrev pub sight : (ℕ → Record) → (ℕ → ℕ) → (ℕ → ℕ → Field → ℕ) → ℕ → Sight
@@ -49,9 +54,18 @@ sight records current words t = let r = records t in let h = holdsBlock r in let
   asExpected = h && eqb (word D) (r .expected);
   asNew = h && eqb (word D) (r .new);
   holders = λ u. h && (holdsBlock (records u) && (eqb (records u .cell) (r .cell) && eqb (records u .held) (r .held)));
+  cell = r .cell;
+  loaded = r .loaded;
+  new = r .new;
 }
 
 -- WHAT IS NOTED
+
+-- a withdrawn swap that stored late in a block that is not decided yet: the drop's number, its new value, and the action that made the block inactive
+pub record Waiting : Type 0 where
+  pub drop : ℕ
+  pub new : ℕ
+  pub inactive : ℕ
 
 -- the next action's number, and of each task's call o, with the block o.b that it holds, the actions that
 pub record Notes : Type 0 where
@@ -67,16 +81,21 @@ pub record Notes : Type 0 where
   pub decided : ℕ → ℕ
   -- replaced o.b
   pub replaced : ℕ → ℕ
+  -- for each cell, the withdrawn swap that waits for the decision of its block
+  pub waiting : ℕ → Option Waiting
 
 abbrev pub noNotes : Notes
-noNotes = record { now = 0; loaded = λ t. 0; stored = λ t. 0; storedActive = λ t. false; inactive = λ t. 0; decided = λ t. 0; replaced = λ t. 0 }
+noNotes = record { now = 0; loaded = λ t. 0; stored = λ t. 0; storedActive = λ t. false; inactive = λ t. 0; decided = λ t. 0; replaced = λ t. 0; waiting = λ k. none }
 
 abbrev pub nothingNoted : Notes → Notes
-nothingNoted o = record { now = suc (o .now); loaded = o .loaded; stored = o .stored; storedActive = o .storedActive; inactive = o .inactive; decided = o .decided; replaced = o .replaced }
+nothingNoted o = record { now = suc (o .now); loaded = o .loaded; stored = o .stored; storedActive = o .storedActive; inactive = o .inactive; decided = o .decided; replaced = o .replaced; waiting = o .waiting }
 
 -- a, of those for whom it is noted
 abbrev pub noteFor : {A : Type 0} → (ℕ → Bool) → A → (ℕ → A) → ℕ → A
 noteFor who a old u = cond (who u) a (old u)
+
+abbrev pub spotAt : ℕ → Rule → Spot
+spotAt n r = record { moment = n; side = itself; rule = r }
 
 -- at a step of task t that saw x
 abbrev pub noted : Notes → ℕ → Sight → Notes
@@ -88,12 +107,10 @@ noted o t x = let at : ℕ → Bool = λ n. eqb (x .line) n in let own : ℕ →
   inactive = noteFor (λ u. (at 27 && x .active) && x .holders u) (o .now) (o .inactive);
   decided = noteFor (λ u. ((at 10 || at 15) && own u) || ((at 2 && x .undecided) && x .holders u)) (o .now) (o .decided);
   replaced = noteFor (λ u. (at 30 && x .current) && x .holders u) (o .now) (o .replaced);
+  waiting = cond (at 2 && x .undecided) (upd (o .waiting) (x .cell) none) (o .waiting);
 }
 
 -- THE RULES
-
-abbrev pub spotAt : ℕ → Rule → Spot
-spotAt n r = record { moment = n; side = itself; rule = r }
 
 -- C6: who installs its block takes effect there. Who fails: o.b was replaced; before that, if another value than the expected was decided,
 -- else after it.
@@ -131,7 +148,41 @@ abbrev pub stands : Notes → ℕ → Sight → Option Spot
 stands o t x = cond (within (x .figureLine) 24 26)
     (cond (o .storedActive t) (some (spotAt (o .stored t) C4)) (cond (x .asNew) (some (spotAt (o .inactive t) C3)) none)) none
 
+-- WITHDRAWN SWAPS: by the rule for pending ones. What it says at the drop stays, but of a swap that stored late in a block that is not decided
+-- yet: that one waits for the decision, which comes in the same life of the block, for nobody replaces a block that is not decided. In each
+-- cell at most one waits.
+
+-- the block is decided as v: who waited for it takes effect, where the block became inactive, if v is its new value
+abbrev pub landed : Option Waiting → (v : ℕ) → Option (ℕ × Spot)
+landed none v = none
+landed (some w) v = cond (eqb v (w .new)) (some (w .drop, spotAt (w .inactive) C3)) none
+
+-- at a step that saw x
+abbrev pub lands : Notes → Sight → Option (ℕ × Spot)
+lands o x = cond (eqb (x .line) 2 && x .undecided) (landed (o .waiting (x .cell)) (x .loaded)) none
+
+abbrev pub waits : Notes → ℕ → Sight → Bool
+waits o t x = within (x .figureLine) 24 26 && (not (o .storedActive t) && x .undecided)
+
+-- at a drop of task t that saw x
+abbrev pub dropNoted : Notes → ℕ → Sight → Notes
+dropNoted o t x = record {
+  now = suc (o .now);
+  loaded = o .loaded;
+  stored = o .stored;
+  storedActive = o .storedActive;
+  inactive = o .inactive;
+  decided = o .decided;
+  replaced = o .replaced;
+  waiting = cond (waits o t x) (upd (o .waiting) (x .cell) (some (record { drop = o .now; new = x .new; inactive = o .inactive t }))) (o .waiting);
+}
+
 -- BESIDE A MACHINE, by what its tasks see
+
+abbrev pub noteDrop : Event → Notes → ℕ → Sight → Notes
+noteDrop (refused n) o t x = nothingNoted o
+noteDrop (accepted y) o t x = dropNoted o t x
+noteDrop (answered y r) o t x = nothingNoted o
 
 -- a refused step notes nothing, nor does a begin
 abbrev pub noteStep : Event → Notes → ℕ → Sight → Notes
@@ -143,12 +194,13 @@ module _ {S : Type 0} (machine : S → Action → S × Event) (see : S → ℕ �
   abbrev pub note : Notes → S → Action → Event → Notes
   note o s (begin t op) e = nothingNoted o
   note o s (step t) e = noteStep e o t (see s t)
+  note o s (drop t) e = noteDrop e o t (see s t)
 
   abbrev pub noting : S × Notes → Action → (S × Notes) × Event
   noting = beside machine note
 
   abbrev pub names : Names (S × Notes)
-  names = record { ending = λ x t a. ruled (x .1) t (see (x .0) t) a; standing = λ x t. stands (x .1) t (see (x .0) t) }
+  names = record { ending = λ x t a. ruled (x .1) t (see (x .0) t) a; standing = λ x t. stands (x .1) t (see (x .0) t); landing = λ x t. lands (x .1) (see (x .0) t) }
 
 -- THE FIGURE
 

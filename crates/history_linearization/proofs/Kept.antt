@@ -16,6 +16,8 @@ use Rattle.history_spec.proofs.Basics.{either, upd-at, upd-same, upd-off, some-
 use Rattle.history_linearization.proofs.Simulation.{Phase, settled, late, Ghost, Sided}
 use Rattle.history_linearization.proofs.MovesOne.{Onward, From, MovesOne, from-where}
 use Rattle.history_linearization.proofs.Timeline.{apply-at, apply-off, cell, Timeline}
+use Rattle.history_linearization.proofs.Distinct.{callBegins}
+use Rattle.history_linearization.proofs.Order.{begins}
 use Rattle.history_linearization.proofs.Growing.{Joins, regarded, since, since-other, since-after, changed}
 
 abbrev pub cell-of : Call → ℕ
@@ -42,6 +44,10 @@ Marked [] [] = Unit {0}
 Marked [] (m ∷ l) = ⊥
 Marked (f ∷ k) [] = ⊥
 Marked (f ∷ k) (m ∷ l) = MarkOf f m × Marked k l
+
+pub same-begins : (k : List FinishedCall) (l : List Mark) → Marked k l → begins l ≡ callBegins k
+same-begins [] [] M = refl
+same-begins (f ∷ k) (m ∷ l) M = ap (λ n. n ∷ begins l) (ap (λ s. s .at) (M .0 .call)) ∙ ap (λ n. f .call .start .at ∷ n) (same-begins k l (M .1))
 
 -- WHAT IS KEPT
 

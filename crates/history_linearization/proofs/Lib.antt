@@ -6,11 +6,15 @@ pub mod NoHardware
 pub mod Order
 pub mod Timeline
 pub mod Growing
+pub mod Parked
 pub mod Kept
 pub mod Moves
+pub mod Parking
 pub mod Linearize
 pub mod Distinct
+pub mod Emitted
 pub mod EveryAction
 pub mod Moments
 pub mod Meets
 pub mod EndsWithin
+pub mod Unnamed

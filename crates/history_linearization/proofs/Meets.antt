@@ -22,7 +22,7 @@ meets {machine = machine} {note = note} {start = start} {blank = blank} {clear =
       calls = record {
         linearization = map pointOf (placing M l);
         linearizes = marks-linearize M l;
-        bounds = bounds-of (within M (run (beside machine note) (start, blank) l) _ (r .finished) G) (G .ended);
+        bounds = bounds-of (within M (run (beside machine note) (start, blank) l) _ (r .finished) (r .emitted) G) (G .ended) (G .gone);
         no-hardware = no-hardware machine start clear (M .doing) (M .Quiet) (G .quiet);
       };
     }

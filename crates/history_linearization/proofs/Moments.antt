@@ -4,21 +4,23 @@ use mathlib.Core.Logic.{_≢_, _⊎_, inl, inr}
 use mathlib.Core.Bool.{Bool, true, false}
 use mathlib.Core.Option.{Option, none, some}
 use mathlib.Core.List.{List, [], _∷_, _++_, map}
-use Prim.Native.Nat.{ℕ, zero, suc, _<_}
+use Prim.Native.Nat.{ℕ, zero, suc, _+_, _<_}
 use native.Mathlib.Omega.{arith}
 use lib.Dec.{T}
 use Rattle.history_spec.specs.Basics.{_∈_, Once}
-use Rattle.history_spec.specs.History.{Action, Event, history, run, Response, Yes, Call, FinishedCall, Calls, noCalls, callsOf, pending, finished}
+use Rattle.history_spec.specs.History.{Action, Event, history, run, Response, Yes, Call, FinishedCall, WithdrawnCall, Calls, noCalls, callsOf, CallOf, pending, finished, withdrawn}
 use Rattle.history_spec.specs.Linearization.{Point, replies, Placed, Linearizes}
 use Rattle.history_spec.specs.Moments.{before, itself, Spot, Mark, pointOf, replyOf, Names, beside, markOfPending, pendingMarks, sort, linearized}
 use Rattle.history_spec.proofs.Basics.{either, clash, some-inj, mem-append, point}
-use Rattle.history_linearization.proofs.Simulation.{Knowledge, Sided, Simulation}
+use Rattle.history_linearization.proofs.Simulation.{Knowledge, Sided, Named, Simulation}
 use Rattle.history_linearization.proofs.Tracks.{tallied, tallyOf}
 use Rattle.history_linearization.proofs.MovesOne.{Dated}
-use Rattle.history_linearization.proofs.Distinct.{callBegins}
+use Rattle.history_linearization.proofs.Distinct.{callBegins, dropBegins}
+use Rattle.history_linearization.proofs.Parked.{is-there, was-there, everyone, withParked, task-is, parked-is, task-or-parked}
 use Rattle.history_linearization.proofs.Order.{sort-in, in-sort, begins, from-begins, to-begins, sort-once}
 use Rattle.history_linearization.proofs.Timeline.{Marks, points-in, sorted-answers, sorted-points}
-use Rattle.history_linearization.proofs.Kept.{Entry, of-finished, of-pending, MarkOf, Marked}
+use Rattle.history_linearization.proofs.Kept.{Entry, of-finished, of-pending, MarkOf, Marked, same-begins}
+use Rattle.history_linearization.proofs.Emitted.{in-drops}
 use Rattle.history_linearization.proofs.Moves.{firm, knows}
 use Rattle.history_linearization.proofs.Linearize.{Simulated}
 use Rattle.history_linearization.proofs.EveryAction.{Good, AtEnd, at-end}
@@ -59,10 +61,6 @@ of-mark : (k : List FinishedCall) (l : List Mark) → Marked k l → (m : Mark) 
 of-mark [] (x ∷ l) M m i = absurd M
 of-mark (f ∷ k) (x ∷ l) M m (inl e) = (f, inl refl, rw e (M .0))
 of-mark (f ∷ k) (x ∷ l) M m (inr i) = let r = of-mark k l (M .1) m i in (r .0, inr (r .1), r .2)
-
-same-begins : (k : List FinishedCall) (l : List Mark) → Marked k l → begins l ≡ callBegins k
-same-begins [] [] M = refl
-same-begins (f ∷ k) (m ∷ l) M = ap (λ n. n ∷ begins l) (ap (λ s. s .at) (M .0 .call)) ∙ ap (λ n. f .call .start .at ∷ n) (same-begins k l (M .1))
 
 -- MARKS OF PENDING SWAPS
 
@@ -129,94 +127,152 @@ module _ {S N : Type 0} {machine : S → Action → S × Event} {note : N → S 
   abbrev b : Calls
   b = callsOf (history machine start l)
 
-  abbrev G : Good M x b (r .finished)
+  abbrev G : Good M x b (r .finished) (r .emitted)
   G = r .good
 
-  abbrev m : Simulated M x b (r .finished)
+  abbrev m : Simulated M x (withParked tasks b) (r .finished)
   m = G .simulated
 
   abbrev κ : Knowledge
-  κ = knows b (m .past) (firm (m .ghost) (b .now))
+  κ = knows (withParked tasks b) (m .past) (firm (m .ghost) (b .now))
 
   abbrev waiting : List Mark
   waiting = pendingMarks (beside machine note) names x b tasks
 
   abbrev E : Point → Response → Type 0
-  E = Entry (m .ghost .placed) (m .ghost .when) (b .pending) (r .finished)
+  E = Entry (m .ghost .placed) (m .ghost .when) (everyone tasks b) (r .finished)
 
   doing : (t : ℕ) (c : Call) → b .pending t ≡ some c → M .doing (x .0) t ≡ some (tallied c)
   doing t c h = G .tracks t ∙ ap tallyOf h
 
-  -- a listed swap took effect, where it is listed
-  record Effect (t : ℕ) (w : Mark) (y : Listed (beside machine note) names x b t w) : Type 0 where
-    placed : T (m .ghost .placed t)
-    when : y .spot .moment ≡ m .ghost .when t
-    itself-there : y .spot .side ≡ itself
+  -- a listed swap took effect, where it is listed: under the number u
+  record Effect (u : ℕ) (p : Spot) : Type 0 where
+    placed : T (m .ghost .placed u)
+    when : p .moment ≡ m .ghost .when u
+    itself-there : p .side ≡ itself
 
-  effect : (t : ℕ) (w : Mark) (y : Listed (beside machine note) names x b t w) → Effect t w y
-  effect t w y = go (m .ghost .placed t) refl
+  effect-of : (u : ℕ) (o : Option Spot) (p : Spot) → o ≡ some p → (T (m .ghost .placed u) → Named o (m .ghost .when u)) → ((m .ghost .placed u ≡ false) → o ≡ none) → Effect u p
+  effect-of u o p is named unnamed = go (m .ghost .placed u) refl
     where
-      d : M .doing (x .0) t ≡ some (tallied (y .call))
-      d = doing t (y .call) (y .busy)
-
-      go : (z : Bool) → m .ghost .placed t ≡ z → Effect t w y
-      go false e = absurd (clash (M .unlisted x (m .ghost) κ (m .inv) t (tallied (y .call)) d (rw e tt)) (y .stands))
+      go : (z : Bool) → m .ghost .placed u ≡ z → Effect u p
+      go false e = absurd (clash (unnamed e) is)
       go true e =
-          let q = M .listed x (m .ghost) κ (m .inv) t (tallied (y .call)) d (rw e tt) in
-          let p : y .spot ≡ q .spot = some-inj (y .stands) (q .is) in
-          record { placed = rw e tt; when = ap (λ (p : Spot). p .moment) p ∙ q .moment; itself-there = ap (λ (p : Spot). p .side) p ∙ q .side }
+          let q = named (rw e tt) in
+          let s : p ≡ q .spot = some-inj is (q .is) in
+          record { placed = rw e tt; when = ap (λ (p : Spot). p .moment) s ∙ q .moment; itself-there = ap (λ (p : Spot). p .side) s ∙ q .side }
+
+  effect : (t : ℕ) (w : Mark) (y : Listed (beside machine note) names x b t w) → Effect t (y .spot)
+  effect t w y = let d = doing t (y .call) (y .busy) in effect-of t (names .standing x t) (y .spot) (y .stands)
+      (M .listed x (m .ghost) κ (m .inv) t (tallied (y .call)) d) (λ e. M .unlisted x (m .ghost) κ (m .inv) t (tallied (y .call)) d (rw e tt))
+
+  left-effect : (v : WithdrawnCall) → v ∈ b .withdrawn → (p : Spot) → M .left x (v .end) ≡ some p → Effect (tasks + v .end) p
+  left-effect v i p y = let h = subst (λ n. v .end < n) (sym (m .clock)) (is-there (b .withdrawn) (b .now) (G .ordered) v i .0) in effect-of (tasks + v .end) (M .left x (v .end)) p y
+      (M .listed-withdrawn x (m .ghost) κ (m .inv) (v .end) h) (λ e. M .unlisted-withdrawn x (m .ghost) κ (m .inv) (v .end) h (rw e tt))
 
   waits : (w : Mark) → w ∈ waiting → (t : ℕ) × (t < tasks) × Listed (beside machine note) names x b t w
   waits = listed-in (beside machine note) names x b tasks
 
-  all-marks : Marks E (waiting ++ r .finished)
+  -- the call has this number, its swap took effect, and the mark says where
+  record Stands (w : Mark) : Type 0 where
+    call : Call
+    end : ℕ
+    number : ℕ
+    spot : Spot
+    of-history : CallOf b call end
+    there : everyone tasks b number ≡ some call
+    effect-there : Effect number spot
+    is : w ≡ record { spot = spot; call = call .start; answer = Yes }
+
+  waits-there : (w : Mark) → w ∈ waiting → Stands w
+  waits-there w i =
+      let y = waits w i in
+      record { call = y .2 .call; end = b .now; number = y .0; spot = y .2 .spot; of-history = pending (y .0) (y .2 .call) (y .2 .busy); there = task-is tasks b (y .0) (y .1) ∙ y .2 .busy; effect-there = effect (y .0) w (y .2); is = y .2 .is }
+
+  abbrev every-mark : List Mark
+  every-mark = waiting ++ r .emitted
+
+  -- whence a mark is
+  whence : (w : Mark) → w ∈ every-mark → Stands w ⊎ (w ∈ r .finished)
+  whence w i = go (mem-append waiting (r .emitted) w i)
+    where
+      made : (w ∈ r .finished) ⊎ ((v : WithdrawnCall) × (v ∈ b .withdrawn) × (p : Spot) × (M .left x (v .end) ≡ some p) × (w ≡ record { spot = p; call = v .call .start; answer = Yes })) → Stands w ⊎ (w ∈ r .finished)
+      made (inl j) = inr j
+      made (inr (v, j, p, z, q)) = inl (record {
+        call = v .call;
+        end = v .end;
+        number = tasks + v .end;
+        spot = p;
+        of-history = withdrawn v j;
+        there = parked-is tasks b (v .end) ∙ is-there (b .withdrawn) (b .now) (G .ordered) v j .1;
+        effect-there = left-effect v j p z;
+        is = q;
+      })
+
+      go : (w ∈ waiting) ⊎ (w ∈ r .emitted) → Stands w ⊎ (w ∈ r .finished)
+      go (inl j) = inl (waits-there w j)
+      go (inr j) = made (G .emits .from w j)
+
+  all-marks : Marks E every-mark
   all-marks = record {
-    theirs = λ w i. theirs w (mem-append waiting (r .finished) w i);
+    theirs = λ w i. theirs w (whence w i);
     all = all;
-    once = once-both waiting (r .finished) (pending-once (beside machine note) names x b (G .dated) tasks) (subst Once (sym same) (G .distinct .once))
-        (λ w i j. let y = waits w i .2 in G .distinct .apart _ (y .call) (y .busy) (subst (λ n. n ∈ callBegins (b .finished)) (ap (λ (w : Mark). w .call .at) (y .is)) (subst (λ k. w .call .at ∈ k) same j)));
-    sided = λ w i. sided w (mem-append waiting (r .finished) w i);
+    once = once-both waiting (r .emitted) (pending-once (beside machine note) names x b (G .dated) tasks) (G .emits .once)
+        (λ w i j. let y = waits w i .2 in let f = from-begins (r .emitted) (w .call .at) j in apart (y .call) _ (y .busy) (f .0) (sym (ap (λ (w : Mark). w .call .at) (y .is)) ∙ f .2) (G .emits .from (f .0) (f .1)));
+    sided = λ w i. sided w (whence w i);
   }
     where
       same : begins (r .finished) ≡ callBegins (b .finished)
       same = same-begins (b .finished) (r .finished) (m .kept .marked)
 
-      theirs : (w : Mark) → (w ∈ waiting) ⊎ (w ∈ r .finished) → E (pointOf w) (w .answer)
-      theirs w (inl i) =
-          let y = waits w i in
-          let f = effect (y .0) w (y .2) in
-          subst (λ (w : Mark). E (pointOf w) (w .answer)) (sym (y .2 .is)) (subst (λ n. E (point (y .2 .call) n) Yes) (sym (f .when)) (of-pending (y .0) (y .2 .call) (y .2 .busy) (f .placed)))
+      apart : (c : Call) (t : ℕ) → b .pending t ≡ some c → (f : Mark) → c .start .at ≡ f .call .at → (f ∈ r .finished) ⊎ ((v : WithdrawnCall) × (v ∈ b .withdrawn) × (p : Spot) × (M .left x (v .end) ≡ some p) × (f ≡ record { spot = p; call = v .call .start; answer = Yes })) → ⊥
+      apart c t h f e (inl j) = G .distinct .apart t c h (inl (subst (λ n. n ∈ callBegins (b .finished)) (sym e) (subst (λ k. f .call .at ∈ k) same (to-begins (r .finished) f j))))
+      apart c t h f e (inr (v, j, p, z, q)) = G .distinct .apart t c h (inr (subst (λ n. n ∈ dropBegins (b .withdrawn)) (sym (e ∙ ap (λ (w : Mark). w .call .at) q)) (in-drops (b .withdrawn) v j)))
+
+      theirs : (w : Mark) → Stands w ⊎ (w ∈ r .finished) → E (pointOf w) (w .answer)
+      theirs w (inl y) = subst (λ (w : Mark). E (pointOf w) (w .answer)) (sym (y .is)) (subst (λ n. E (point (y .call) n) Yes) (sym (y .effect-there .when)) (of-pending (y .number) (y .call) (y .there) (y .effect-there .placed)))
       theirs w (inr i) = of-finished w i
 
-      all : (e : Point) (a : Response) → E e a → (w : Mark) × (w ∈ (waiting ++ r .finished)) × (e ≡ pointOf w) × (a ≡ w .answer)
-      all e a (of-finished w i) = (w, mem-right waiting (r .finished) w i, refl, refl)
-      all e a (of-pending t c h p) =
-          let q = M .listed x (m .ghost) κ (m .inv) t (tallied c) (doing t c h) p in
-          let w : Mark = record { spot = q .spot; call = c .start; answer = Yes } in
-          (w, mem-left waiting (r .finished) w (in-listed (beside machine note) names x b tasks t c (q .spot) (M .low x (m .ghost) κ (m .inv) t (tallied c) (doing t c h)) h (q .is)), ap (λ n. point c n) (sym (q .moment)), refl)
+      all : (e : Point) (a : Response) → E e a → (w : Mark) × (w ∈ every-mark) × (e ≡ pointOf w) × (a ≡ w .answer)
+      all e a (of-finished w i) = (w, mem-right waiting (r .emitted) w (G .emits .ended w i), refl, refl)
+      all e a (of-pending u c h p) = go (task-or-parked tasks u)
+        where
+          go : (u < tasks) ⊎ ((n : ℕ) × (u ≡ tasks + n)) → (w : Mark) × (w ∈ every-mark) × (point c (m .ghost .when u) ≡ pointOf w) × (Yes ≡ w .answer)
+          go (inl k) =
+              let i : b .pending u ≡ some c = sym (task-is tasks b u k) ∙ h in
+              let q = M .listed x (m .ghost) κ (m .inv) u (tallied c) (doing u c i) p in
+              let w : Mark = record { spot = q .spot; call = c .start; answer = Yes } in
+              (w, mem-left waiting (r .emitted) w (in-listed (beside machine note) names x b tasks u c (q .spot) k i (q .is)), ap (λ n. point c n) (sym (q .moment)), refl)
+          go (inr (n, k)) =
+              let v = was-there (b .withdrawn) n c (sym (parked-is tasks b n) ∙ subst (λ u. everyone tasks b u ≡ some c) k h) in
+              let f = is-there (b .withdrawn) (b .now) (G .ordered) (v .0) (v .1) .0 in
+              let q = M .listed-withdrawn x (m .ghost) κ (m .inv) n (rw (v .2, sym (m .clock)) at f) (subst (λ u. T (m .ghost .placed u)) k p) in
+              let w : Mark = record { spot = q .spot; call = v .0 .call .start; answer = Yes } in (
+                w,
+                mem-right waiting (r .emitted) w (G .emits .left (v .0) (v .1) (q .spot) (ap (M .left x) (v .2) ∙ q .is)),
+                ap (λ (c : Call). point c (m .ghost .when u)) (sym (v .3)) ∙ ap (λ n. point (v .0 .call) n) (ap (m .ghost .when) k ∙ sym (q .moment)),
+                refl,
+              )
 
       itself-is : itself ≡ before → ⊥
       itself-is z = let w : _≡_ {A = ℕ} 0 1 = cc in omega arith
 
-      sided : (w : Mark) → (w ∈ waiting) ⊎ (w ∈ r .finished) → Sided (w .call .op) (w .answer) (w .spot)
-      sided w (inl i) =
-          let y = waits w i in
-          let s : w .spot .side ≡ itself = ap (λ (w : Mark). w .spot .side) (y .2 .is) ∙ effect (y .0) w (y .2) .itself-there in
+      sided : (w : Mark) → Stands w ⊎ (w ∈ r .finished) → Sided (w .call .op) (w .answer) (w .spot)
+      sided w (inl y) =
+          let s : w .spot .side ≡ itself = ap (λ (w : Mark). w .spot .side) (y .is) ∙ y .effect-there .itself-there in
           record { never-before = λ z. itself-is (sym s ∙ z); change-itself = λ z. s }
       sided w (inr i) = of-mark (b .finished) (r .finished) (m .kept .marked) w i .2 .sided
 
   abbrev sorted : List Mark
-  sorted = sort (waiting ++ r .finished)
+  sorted = sort every-mark
 
   answers-sorted : replies values (map pointOf sorted) ≡ map replyOf sorted
   answers-sorted = sorted-answers (m .kept .line) all-marks
 
-  placed : (w : Mark) → (w ∈ waiting) ⊎ (w ∈ r .finished) → Placed b (pointOf w)
-  placed w (inl i) =
-      let y = waits w i in
-      let f = effect (y .0) w (y .2) in
-      let s = m .kept .stands (y .0) (y .2 .call) (y .2 .busy) (f .placed) in
-      subst (λ (w : Mark). Placed b (pointOf w)) (sym (y .2 .is)) (record { call = y .2 .call; end = b .now; of-history = pending (y .0) (y .2 .call) (y .2 .busy); is = refl; after-begin = omega (arith, f .when); by-last-step = omega (arith, f .when) })
+  placed : (w : Mark) → Stands w ⊎ (w ∈ r .finished) → Placed b (pointOf w)
+  placed w (inl y) =
+      let f = y .effect-there in
+      let s = m .kept .stands (y .number) (y .call) (y .there) (f .placed) in
+      subst (λ (w : Mark). Placed b (pointOf w)) (sym (y .is)) (record { call = y .call; end = y .end; of-history = y .of-history; is = refl; after-begin = omega (arith, f .when); by-last-step = omega (arith, f .when) })
   placed w (inr i) =
       let f = of-mark (b .finished) (r .finished) (m .kept .marked) w i in
       record { call = f .0 .call; end = f .0 .call .last; of-history = finished (f .0) (f .1); is = f .2 .call; after-begin = f .2 .after-begin; by-last-step = f .2 .by-last-step }
@@ -224,15 +280,15 @@ module _ {S N : Type 0} {machine : S → Action → S × Event} {note : N → S 
   linearizes : Linearizes values b (map pointOf sorted)
   linearizes = record {
     sorted = sorted-points (m .kept .line) all-marks;
-    placed = λ e i. let w = points-in sorted e i in subst (Placed b) (sym (w .2)) (placed (w .0) (mem-append waiting (r .finished) (w .0) (sort-in (waiting ++ r .finished) (w .0) (w .1))));
-    once = subst Once (sym (point-begins sorted)) (sort-once (waiting ++ r .finished) (all-marks .once));
+    placed = λ e i. let w = points-in sorted e i in subst (Placed b) (sym (w .2)) (placed (w .0) (whence (w .0) (sort-in every-mark (w .0) (w .1))));
+    once = subst Once (sym (point-begins sorted)) (sort-once every-mark (all-marks .once));
     answers = λ f i. let w = mark-of (b .finished) (r .finished) (m .kept .marked) f i in (
       pointOf (w .0),
       w .2 .call,
       w .2 .after-begin,
       w .2 .by-last-step,
       subst (λ q. (pointOf (w .0), f .report .answer) ∈ q) (sym answers-sorted) (subst (λ a. (pointOf (w .0), a) ∈ map replyOf sorted) (w .2 .answer)
-          (in-answers sorted (w .0) (in-sort (waiting ++ r .finished) (w .0) (mem-right waiting (r .finished) (w .0) (w .1))))),
+          (in-answers sorted (w .0) (in-sort every-mark (w .0) (mem-right waiting (r .emitted) (w .0) (G .emits .ended (w .0) (w .1)))))),
     );
   }
 
@@ -242,14 +298,14 @@ module _ {S N : Type 0} {machine : S → Action → S × Event} {note : N → S 
   are-sorted : placing ≡ sorted
   are-sorted = ap sort (r .all-marks)
 
-  -- The marks in their order are a linearization of the history: of every finished call, and of the pending swaps that are listed.
+  -- The marks in their order are a linearization of the history: of every finished call, and of the pending and withdrawn swaps that are listed.
   pub marks-linearize : Linearizes values (callsOf (history machine start l)) (map pointOf placing)
   marks-linearize = subst (λ ms. Linearizes values b (map pointOf ms)) (sym are-sorted) linearizes
 
-  -- Fed the calls in this order, the sequential cells give each the answer that it had, and yes to the listed pending swaps.
+  -- Fed the calls in this order, the sequential cells give each the answer that it had, and yes to the listed pending and withdrawn swaps.
   pub marks-answers : replies values (map pointOf placing) ≡ map replyOf placing
   marks-answers = subst (λ ms. replies values (map pointOf ms) ≡ map replyOf ms) (sym are-sorted) answers-sorted
 
   -- No call takes effect immediately before an action.
   pub never-before : (w : Mark) → w ∈ placing → w .spot .side ≢ before
-  never-before w i = all-marks .sided w (sort-in (waiting ++ r .finished) w (subst (λ ms. w ∈ ms) are-sorted i)) .never-before
+  never-before w i = all-marks .sided w (sort-in every-mark w (subst (λ ms. w ∈ ms) are-sorted i)) .never-before

@@ -13,7 +13,7 @@ use Rattle.history_spec.specs.Linearization.{reply, valueLeft, Point}
 use Rattle.history_spec.specs.Moments.{Spot, Mark, pointOf, Names}
 use Rattle.history_spec.proofs.Basics.{either, upd-at, upd-same, upd-off, upd-cases, clash, some-inj, point}
 use Rattle.history_linearization.proofs.Simulation.{Phase, settled, frozen, late, Ghost, Knowledge, Move, still, act, freeze, store, settle, land, freezes, takesEffect, inPhase, shift, unplaced, Tally, May, Sided, Why, acts, acted, observes}
-use Rattle.history_linearization.proofs.Tracks.{call-of, Tracks}
+use Rattle.history_linearization.proofs.Tracks.{Acts}
 use Rattle.history_linearization.proofs.MovesOne.{onward, Dated, MovesOne, same-begin, going-pending, steps-on, goes-on, ended-finished, ended-idle, leaves, starts-on, passes-on}
 use Rattle.history_linearization.proofs.Timeline.{cell, Timeline}
 use Rattle.history_linearization.proofs.Growing.{Joins, regarded, observed, since-other, since-before}
@@ -29,7 +29,7 @@ firmOf (late u) now froze = froze
 abbrev pub firm : Ghost → ℕ → ℕ → ℕ
 firm g now k = firmOf (g .phase k) now (g .since k)
 
-firm-later : (p : Phase) (now froze : ℕ) → firmOf p now froze ≤ now → (firmOf p now froze ≤ firmOf p (suc now) froze) × (firmOf p (suc now) froze ≤ suc now)
+pub firm-later : (p : Phase) (now froze : ℕ) → firmOf p now froze ≤ now → (firmOf p now froze ≤ firmOf p (suc now) froze) × (firmOf p (suc now) froze ≤ suc now)
 firm-later settled now froze h = omega arith
 firm-later frozen now froze h = omega arith
 firm-later (late u) now froze h = omega arith
@@ -89,7 +89,7 @@ module _ {values : ℕ → ℕ} (g : Ghost) {b : Calls} {past : ℕ → ℕ → 
 
   -- A STEP of task t's call c
 
-  module _ {S : Type 0} (doing : S → ℕ → Option Tally) (s : S) (same : Tracks doing s b) (t : ℕ) (x : Attempt) (c : Call) (busy : b .pending t ≡ some c) where
+  module _ {S : Type 0} (doing : S → ℕ → Option Tally) (s : S) (same : Acts doing s b) (t : ℕ) (x : Attempt) (c : Call) (busy : b .pending t ≡ some c) where
     abbrev pub going : Calls
     going = enter b (step t) (accepted x)
 
@@ -184,7 +184,7 @@ module _ {values : ℕ → ℕ} (g : Ghost) {b : Calls} {past : ℕ → ℕ → 
 
         e : q .call .start .op ≡ o
         e =
-            let d = call-of (b .pending u) (w .0) (sym (same u) ∙ w .1) in
+            let d = same u (w .0) (w .1) in
             let i = same-begin goes u (d .0) (q .call) (d .1) (q .busy) in
             cc (d .2, w .2)
 

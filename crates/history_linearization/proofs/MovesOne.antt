@@ -6,10 +6,10 @@ use mathlib.Core.List.{_∷_}
 use Prim.Native.Nat.{ℕ, suc, _+_, _≤_, _<_}
 use native.Mathlib.Omega.{arith}
 use Rattle.history_spec.specs.Basics.{_∈_}
-use Rattle.history_spec.specs.History.{Op, Action, begin, step, taskOf, Attempt, untried, Event, refused, accepted, answered, Report, CallId, Call, FinishedCall, Calls, called, advance, advanced, closed, enter}
-use Rattle.history_spec.specs.History.{CallOf, finished, pending}
+use Rattle.history_spec.specs.History.{Op, Action, begin, step, drop, taskOf, Attempt, untried, Event, refused, accepted, answered, Report, CallId, Call, FinishedCall, WithdrawnCall, Calls, called, advance, advanced, closed, alsoWithdrawn, enter}
+use Rattle.history_spec.specs.History.{CallOf, finished, pending, withdrawn}
 use Rattle.history_spec.proofs.Basics.{either, upd-same, upd-off, clash, some-inj}
-use Rattle.history_linearization.proofs.Tracks.{Change, refuses, starts, goes, ends}
+use Rattle.history_linearization.proofs.Tracks.{Change, refuses, starts, goes, ends, drops}
 
 -- a call and the same call later
 pub record Onward (c d : Call) : Type 0 where
@@ -37,12 +37,14 @@ pub record MovesOne (slack t : ℕ) (b b' : Calls) : Type 0 where
   pub later : b .now ≤ b' .now
   pub others : (u : ℕ) → u ≢ t → b' .pending u ≡ b .pending u
   pub kept : (f : FinishedCall) → f ∈ b .finished → f ∈ b' .finished
+  pub kept-withdrawn : (w : WithdrawnCall) → w ∈ b .withdrawn → w ∈ b' .withdrawn
   pub on : (c : Call) → b .pending t ≡ some c → (d : Call) × (m : ℕ) × CallOf b' d m × Onward c d × (b .now ≤ slack + m)
   pub from : (d : Call) → b' .pending t ≡ some d → (d .start .at < b' .now) × (d .last < b' .now) × From b t d
 
 module _ {slack t : ℕ} {b b' : Calls} (m : MovesOne slack t b b') where
   pub continues : Continues slack b b'
   continues c n (finished f i) = (f .call, f .call .last, finished f (m .kept f i), onward (f .call), omega arith)
+  continues c n (withdrawn w i) = (w .call, w .end, withdrawn w (m .kept-withdrawn w i), onward (w .call), omega arith)
   continues c n (pending u d h) = go (either u t)
     where
       go : (u ≡ t) ⊎ (u ≢ t) → (d : Call) × (k : ℕ) × CallOf b' d k × Onward c d × (b .now ≤ slack + k)
@@ -109,6 +111,7 @@ module _ (b : Calls) (dated : Dated b) where
       later = omega arith;
       others = upd-off (b .pending) t (advanced b x (b .pending t));
       kept = λ f i. i;
+      kept-withdrawn = λ w i. i;
       on = λ e h. (advance b x c, suc (b .now), pending t (advance b x c) going-pending, rw (some-inj h busy) steps-on, omega arith);
       from = λ d h. rw (some-inj h going-pending) (omega (arith, dated .past t c busy .0), omega arith, inl (c, busy, steps-on));
     }
@@ -134,6 +137,7 @@ module _ (b : Calls) (dated : Dated b) where
         later = omega arith;
         others = upd-off (b .pending) t none;
         kept = ended-kept;
+        kept-withdrawn = λ w i. i;
         on = λ e i. (advance b x c, b .now, ended-last, rw (some-inj i busy) steps-on, omega arith);
         from = λ d i. absurd (ended-idle d i);
       }
@@ -144,15 +148,35 @@ module _ (b : Calls) (dated : Dated b) where
         later = omega arith;
         others = λ u q. upd-off (b .pending) t none u q ∙ sym (upd-off (b .pending) t (advanced b x (b .pending t)) u q);
         kept = ended-kept;
+        kept-withdrawn = λ w i. i;
         on = λ e i. (advance b x c, b .now, ended-last, rw (some-inj i going-pending) (onward (advance b x c)), omega arith);
         from = λ d i. absurd (ended-idle d i);
       }
+
+  -- a call is withdrawn
+  module _ (t : ℕ) (x : Attempt) (c : Call) (busy : b .pending t ≡ some c) where
+    abbrev pub last-withdrawn : WithdrawnCall
+    last-withdrawn = record { call = c; end = b .now }
+
+    pub dropped-withdrawn : enter b (drop t) (accepted x) .withdrawn ≡ last-withdrawn ∷ b .withdrawn
+    dropped-withdrawn = ap (λ o. alsoWithdrawn o (b .now) (b .withdrawn)) busy
+
+    pub drops-on : MovesOne 0 t b (enter b (drop t) (accepted x))
+    drops-on = record {
+      later = omega arith;
+      others = upd-off (b .pending) t none;
+      kept = λ f i. i;
+      kept-withdrawn = λ w i. rw dropped-withdrawn (inr i);
+      on = λ e h. (c, b .now, withdrawn last-withdrawn (rw dropped-withdrawn (inl refl)), rw (some-inj h busy) (onward c), omega arith);
+      from = λ d i. absurd (clash (upd-same (b .pending) t none) i);
+    }
 
   pub starts-on : (t : ℕ) (op : Op) → b .pending t ≡ none → MovesOne 0 t b (enter b (begin t op) (accepted untried))
   starts-on t op idle = record {
     later = omega arith;
     others = upd-off (b .pending) t (some (called b t op));
     kept = λ f i. i;
+    kept-withdrawn = λ w i. i;
     on = λ c h. absurd (clash idle h);
     from = λ d h. rw (some-inj h (upd-same (b .pending) t (some (called b t op)))) (omega arith, omega arith, inr (idle, refl));
   }
@@ -162,6 +186,7 @@ module _ (b : Calls) (dated : Dated b) where
     later = omega arith;
     others = λ u q. refl;
     kept = λ f i. i;
+    kept-withdrawn = λ w i. i;
     on = λ c h. (c, suc (b .now), pending t c h, onward c, omega arith);
     from = λ d h. let p = dated .past t d h in (omega arith, omega arith, inl (d, h, onward d));
   }
@@ -171,3 +196,4 @@ module _ (b : Calls) (dated : Dated b) where
   moves-one (starts {t} {op} idle) = starts-on t op idle
   moves-one (goes {t} {x} c busy) = goes-on t x c busy
   moves-one (ends {t} {x} {r} c busy p q) = ends-on t x c busy r
+  moves-one (drops {t} {x} c busy) = drops-on t x c busy

@@ -6,13 +6,13 @@ use mathlib.Core.List.{_∷_}
 use Prim.Native.Nat.{ℕ, suc, _+_, _≤_}
 use native.Mathlib.Omega.{arith}
 use Rattle.history_spec.specs.Basics.{_∈_}
-use Rattle.history_spec.specs.History.{cellOf, Action, begin, step, Attempt, untried, Event, accepted, answered, CallId, Call, attempts, FinishedCall, Calls, called, advance, advanced, enter, CallOf, finished, pending}
+use Rattle.history_spec.specs.History.{cellOf, Action, begin, step, drop, Attempt, untried, Event, accepted, answered, CallId, Call, attempts, FinishedCall, WithdrawnCall, Calls, called, advance, advanced, enter, CallOf, finished, pending, withdrawn}
 use Rattle.history_spec.specs.History.{run}
 use Rattle.history_spec.specs.Demand3.{Unequal, Alone, NoHardware, clearAfter}
 use Rattle.history_spec.proofs.Basics.{upd-same, clash, some-inj}
 use Rattle.history_linearization.proofs.Simulation.{Tally, QuietSteps, Quietly}
-use Rattle.history_linearization.proofs.Tracks.{upd-some, tallied, tallyOf, call-of, Tracks, Change, refuses, starts, goes, ends}
-use Rattle.history_linearization.proofs.MovesOne.{Onward, Dated, MovesOne, continues, last-one, ended-finished, moves-one}
+use Rattle.history_linearization.proofs.Tracks.{upd-some, tallied, tallyOf, call-of, Tracks, Change, refuses, starts, goes, ends, drops}
+use Rattle.history_linearization.proofs.MovesOne.{Onward, Dated, MovesOne, continues, last-one, ended-finished, last-withdrawn, dropped-withdrawn, moves-one}
 
 -- a call that is alone was so before
 alone-before : {t : ℕ} {b b' : Calls} → MovesOne 0 t b b' → (c d : Call) (n n' : ℕ) → c .start ≡ d .start → n ≤ n' → Alone b' d n' → Alone b c n
@@ -34,10 +34,12 @@ module _ {S : Type 0} (machine : S → Action → S × Event) (start : S) (clear
   pub record AllQuiet (s : S) (b : Calls) : Type 0 where
     pub quiet : (t : ℕ) (c : Call) → b .pending t ≡ some c → Calm b c (b .now) → Quiet s t × (attempts c ≡ 0)
     pub past : (f : FinishedCall) → f ∈ b .finished → Calm b (f .call) (f .call .last) → attempts (f .call) ≡ 0
+    pub gone : (w : WithdrawnCall) → w ∈ b .withdrawn → Calm b (w .call) (w .end) → attempts (w .call) ≡ 0
 
   pub no-hardware : {s : S} {b : Calls} → AllQuiet s b → NoHardware (clearAfter machine start clear) b
   no-hardware G c n (finished f i) a l = G .past f i (a, l)
   no-hardware G c n (pending t d h) a l = G .quiet t c h (a, l) .1
+  no-hardware G c n (withdrawn w i) a l = G .gone w i (a, l)
 
   module _ (s s' : S) (b : Calls) (G : AllQuiet s b) (same : Tracks doing s b) (dated : Dated b) where
     module _ {a : Action} {e : Event} (k : Change s s' b a e) where
@@ -48,6 +50,9 @@ module _ {S : Type 0} (machine : S → Action → S × Event) (start : S) (clear
 
       was-past : (f : FinishedCall) → f ∈ b .finished → Calm (enter b a e) (f .call) (f .call .last) → attempts (f .call) ≡ 0
       was-past f i (r, l) = G .past f i (r, alone-before (moves-one b dated k) (f .call) (f .call) (f .call .last) (f .call .last) refl (omega arith) l)
+
+      was-gone : (w : WithdrawnCall) → w ∈ b .withdrawn → Calm (enter b a e) (w .call) (w .end) → attempts (w .call) ≡ 0
+      was-gone w i (r, l) = G .gone w i (r, alone-before (moves-one b dated k) (w .call) (w .call) (w .end) (w .end) refl (omega arith) l)
 
     -- the stepper's call has made no attempt
     no-attempt : (t : ℕ) (x : Attempt) {e : Event} (k : Change s s' b (step t) e) (c : Call) (n : ℕ) → b .pending t ≡ some c → b .now ≤ n → QuietSteps doing clear Quiet s s' t x →
@@ -64,8 +69,9 @@ module _ {S : Type 0} (machine : S → Action → S × Event) (start : S) (clear
     quiet-next (refuses {a} {r} z) reached same' p = record {
       quiet = λ t c h l. rw z (was-quiet (refuses {a = a} {r = r} z) t c c (suc (b .now)) h refl (omega arith) l);
       past = was-past (refuses {a = a} {r = r} z);
+      gone = was-gone (refuses {a = a} {r = r} z);
     }
-    quiet-next (starts {t} {op} {x} idle) reached same' p = record { quiet = λ u d h l. quiet u d l (upd-some (b .pending) t (some c0) u d h); past = was-past (starts {x = x} idle) }
+    quiet-next (starts {t} {op} {x} idle) reached same' p = record { quiet = λ u d h l. quiet u d l (upd-some (b .pending) t (some c0) u d h); past = was-past (starts {x = x} idle); gone = was-gone (starts {x = x} idle) }
       where
         c0 : Call
         c0 = called b t op
@@ -101,7 +107,7 @@ module _ {S : Type 0} (machine : S → Action → S × Event) (start : S) (clear
               w .1,
             )
     quiet-next (goes {t} {x} c busy) reached same' p =
-        record { quiet = λ u d h l. quiet u d h l (upd-some (b .pending) t (advanced b x (b .pending t)) u d h); past = was-past (goes {x = x} c busy) }
+        record { quiet = λ u d h l. quiet u d h l (upd-some (b .pending) t (advanced b x (b .pending t)) u d h); past = was-past (goes {x = x} c busy); gone = was-gone (goes {x = x} c busy) }
       where
         b' : Calls
         b' = enter b (step t) (accepted x)
@@ -116,6 +122,7 @@ module _ {S : Type 0} (machine : S → Action → S × Event) (start : S) (clear
     quiet-next (ends {t} {x} {r} c busy p q) reached same' p' = record {
       quiet = λ u d i l. quiet u d i l (upd-some (b .pending) t none u d i);
       past = λ f i l. past f l (rw (ended-finished b dated t x c busy r) at i);
+      gone = was-gone (ends {x = x} {r = r} c busy p q);
     }
       where
         b' : Calls
@@ -131,3 +138,22 @@ module _ {S : Type 0} (machine : S → Action → S × Event) (start : S) (clear
         past : (f : FinishedCall) → Calm b' (f .call) (f .call .last) → f ∈ (last-one b dated t x c busy r ∷ b .finished) → attempts (f .call) ≡ 0
         past f l (inl z) = rw z (no-attempt t x k c (b .now) busy (omega arith) p' (rw z at l) .1)
         past f l (inr i) = was-past k f i l
+    quiet-next (drops {t} {x} c busy) reached same' stays = record {
+      quiet = λ u d i l. quiet u d i l (upd-some (b .pending) t none u d i);
+      past = was-past (drops {x = x} c busy);
+      gone = λ w i l. gone w l (rw (dropped-withdrawn b dated t x c busy) at i);
+    }
+      where
+        b' : Calls
+        b' = enter b (drop t) (accepted x)
+
+        k : Change s s' b (drop t) (accepted x)
+        k = drops c busy
+
+        quiet : (u : ℕ) (d : Call) → b' .pending u ≡ some d → Calm b' d (b' .now) → ((u ≡ t) × (none ≡ some d)) ⊎ ((u ≢ t) × (b .pending u ≡ some d)) → Quiet s' u × (attempts d ≡ 0)
+        quiet u d i l (inl (z, j)) = absurd (clash refl j)
+        quiet u d i l (inr (z, j)) = let w = was-quiet k u d d (suc (b .now)) j refl (omega arith) l in (stays u (tallied d) (same' u ∙ ap tallyOf i) (w .0), w .1)
+
+        gone : (w : WithdrawnCall) → Calm b' (w .call) (w .end) → w ∈ (last-withdrawn b dated t x c busy ∷ b .withdrawn) → attempts (w .call) ≡ 0
+        gone w l (inl z) = rw z (was-quiet k t c c (b .now) busy refl (omega arith) (rw z at l) .1)
+        gone w l (inr i) = was-gone k w i l

@@ -1,13 +1,13 @@
 -- What a machine's own proof has to give for demand 3: a forward simulation by the sequential specification, with counts and quiet tasks, and
 -- that the moments which the machine names are right.
 use mathlib.Core.Path.{_≡_}
-use mathlib.Core.Logic.{_≢_, Lift}
-use mathlib.Core.Bool.{Bool, true, false, not}
+use mathlib.Core.Logic.{_≢_, _⊎_, Lift}
+use mathlib.Core.Bool.{Bool, true, false, not, cond}
 use mathlib.Core.Option.{Option, none, some}
 use Prim.Native.Nat.{ℕ, suc, _+_, _≤_, _<_}
-use lib.Dec.{T}
+use lib.Dec.{eqb, T}
 use Rattle.history_spec.specs.Basics.{upd}
-use Rattle.history_spec.specs.History.{Op, cellOf, kindOf, Action, begin, step, Attempt, untried, wins, losses, Event, refused, accepted, answered, Response, Yes, Report}
+use Rattle.history_spec.specs.History.{Op, cellOf, kindOf, Action, begin, step, drop, Attempt, untried, wins, losses, Event, refused, accepted, answered, Response, Yes, Report}
 use Rattle.history_spec.specs.Linearization.{reply, valueLeft, apply}
 use Rattle.history_spec.specs.Demand3.{most, mostHard, Unequal}
 use Rattle.history_spec.specs.Moments.{before, itself, Spot, changes, Names, beside}
@@ -68,6 +68,15 @@ shift g n t op (land u o) = inPhase (takesEffect g u o (g .since (cellOf op))) (
 abbrev pub unplaced : Ghost → ℕ → Ghost
 unplaced g t = record { cells = g .cells; placed = upd (g .placed) t false; when = g .when; phase = g .phase; since = g .since }
 
+-- task t's call is withdrawn: its place is kept under the number u, for its swap took effect, or may yet
+abbrev pub renamed : (t u : ℕ) → Phase → Phase
+renamed t u settled = settled
+renamed t u frozen = frozen
+renamed t u (late v) = cond (eqb v t) (late u) (late v)
+
+abbrev pub parks : Ghost → (t u : ℕ) → Ghost
+parks g t u = record { cells = g .cells; placed = upd (g .placed) u (g .placed t); when = upd (g .when) u (g .when t); phase = λ k. renamed t u (g .phase k); since = g .since }
+
 -- what a machine counts of a task's pending call
 pub record Tally : Type 0 where
   pub op : Op
@@ -106,7 +115,13 @@ module _ {S : Type 0} (doing : S → ℕ → Option Tally) where
     pub rest : (u : ℕ) → doing s' u ≡ upd (doing s) t (some (first op)) u
     pub no-attempt : x ≡ untried
 
-  -- a refused action changes nothing; a step is refused only where no call is pending
+  pub record Drops (s s' : S) (t : ℕ) (x : Attempt) : Type 0 where
+    pub now : Tally
+    pub was : doing s t ≡ some now
+    pub rest : (u : ℕ) → doing s' u ≡ upd (doing s) t none u
+    pub no-attempt : x ≡ untried
+
+  -- a refused action changes nothing; a step or a drop is refused only where no call is pending
   abbrev pub Follows : ℕ → S → Action → S → Event → Type 0
   Follows size s (begin t op) s' (refused n) = s' ≡ s
   Follows size s (begin t op) s' (accepted x) = Starts size s s' t op x
@@ -114,6 +129,9 @@ module _ {S : Type 0} (doing : S → ℕ → Option Tally) where
   Follows size s (step t) s' (refused n) = (s' ≡ s) × (doing s t ≡ none)
   Follows size s (step t) s' (accepted x) = Goes s s' t x
   Follows size s (step t) s' (answered x r) = Ends s s' t x r
+  Follows size s (drop t) s' (refused n) = (s' ≡ s) × (doing s t ≡ none)
+  Follows size s (drop t) s' (accepted x) = Drops s s' t x
+  Follows size s (drop t) s' (answered x r) = ⊥
 
   -- FORWARD SIMULATION: what an action makes of the ghost
 
@@ -147,6 +165,8 @@ module _ {S : Type 0} (doing : S → ℕ → Option Tally) where
     Quietly s (begin t op) s' (answered x r) = ⊥
     Quietly s (step t) s' (accepted x) = QuietSteps s s' t x
     Quietly s (step t) s' (answered x r) = QuietSteps s s' t x
+    Quietly s (drop t) s' (accepted x) = (u : ℕ) (n : Tally) → doing s' u ≡ some n → Quiet s u → Quiet s' u
+    Quietly s (drop t) s' (answered x r) = ⊥
 
 -- never before an action, and who changes its cell at the action itself
 pub record Sided (op : Op) (a : Response) (p : Spot) : Type 0 where
@@ -169,7 +189,12 @@ module _ {X : Type 0} (doing : X → ℕ → Option Tally) (clock : X → ℕ) (
     acted : T (g .placed t) → a ≡ Yes → m ≡ g .when t → Why x g κ t op a m still
     observes : (v : ℕ) → κ .saw t m v → reply v op ≡ a → valueLeft v op ≡ v → T (not (g .placed t)) → g .phase (cellOf op) ≢ late t → Why x g κ t op a m still
 
-  module _ (Inv : X → Ghost → Knowledge → Type 0) where
+  -- what task t knew is known under the number u
+  pub record Passes (κ κ' : Knowledge) (t u : ℕ) : Type 0 where
+    pub saw : (m v : ℕ) → κ .saw t m v → κ' .saw u m v
+    pub early : κ .early t → κ' .early u
+
+  module _ (tasks : ℕ) (Inv : X → Ghost → Knowledge → Type 0) where
     -- the invariant holds again, whatever more is known by then
     abbrev pub Keeps : X → X → Ghost → Knowledge → Type 1
     Keeps x x' g' κ = (κ' : Knowledge) → Grown x x' g' κ κ' → Inv x' g' κ'
@@ -186,12 +211,18 @@ module _ {X : Type 0} (doing : X → ℕ → Option Tally) (clock : X → ℕ) (
       pub why : Why x g κ t (moves .now .op) a (names .ending x t a .moment) (moves .move)
       pub sided : Sided (moves .now .op) a (names .ending x t a)
 
+    -- the number of a call that is withdrawn now: those below `tasks` are the tasks'
+    abbrev pub Parks : X → X → Ghost → Knowledge → ℕ → Type 1
+    Parks x x' g κ t = let u = tasks + clock x in (κ' : Knowledge) → Grown x x' (parks g t u) κ κ' → Passes κ κ' t u → Inv x' (parks g t u) κ'
+
     abbrev pub Forward : X → Ghost → Knowledge → Action → X → Event → Type 1
     Forward x g κ a x' (refused n) = Keeps x x' g κ
     Forward x g κ (begin t op) x' (accepted y) = Keeps x x' (unplaced g t) κ
     Forward x g κ (begin t op) x' (answered y r) = Lift {0, 1} ⊥
     Forward x g κ (step t) x' (accepted y) = Moves x x' g κ t
     Forward x g κ (step t) x' (answered y r) = Answers x x' g κ t (r .answer)
+    Forward x g κ (drop t) x' (accepted y) = Parks x x' g κ t
+    Forward x g κ (drop t) x' (answered y r) = Lift {0, 1} ⊥
 
 -- a pending swap that took effect is named, with its moment
 pub record Named (names : Option Spot) (when : ℕ) : Type 0 where
@@ -200,24 +231,51 @@ pub record Named (names : Option Spot) (when : ℕ) : Type 0 where
   pub moment : spot .moment ≡ when
   pub side : spot .side ≡ itself
 
+-- WITHDRAWN SWAPS: f says where those stand that were withdrawn before an action, h after it
+
+abbrev pub Lands : Option (ℕ × Spot) → (f h : ℕ → Option Spot) → Type 0
+Lands none f h = (n : ℕ) → h n ≡ f n
+Lands (some (m, p)) f h = (f m ≡ none) × (h m ≡ some p) × ((n : ℕ) → n ≢ m → h n ≡ f n)
+
+abbrev pub Leaves : {X : Type 0} → Names X → (clock : X → ℕ) → X → Action → Event → (f h : ℕ → Option Spot) → Type 0
+Leaves names clock x (begin t op) e f h = (n : ℕ) → h n ≡ f n
+Leaves names clock x (step t) (refused r) f h = (n : ℕ) → h n ≡ f n
+Leaves names clock x (step t) (accepted y) f h = Lands (names .landing x t) f h
+Leaves names clock x (step t) (answered y r) f h = (n : ℕ) → h n ≡ f n
+Leaves names clock x (drop t) (refused r) f h = (n : ℕ) → h n ≡ f n
+Leaves names clock x (drop t) (accepted y) f h = (h (clock x) ≡ names .standing x t) × ((n : ℕ) → n ≢ clock x → h n ≡ f n)
+Leaves names clock x (drop t) (answered y r) f h = (n : ℕ) → h n ≡ f n
+
 -- ALL OF IT, of a machine with notes beside it
 
 pub record Simulation {S N : Type 0} (machine : S → Action → S × Event) (note : N → S → Action → Event → N) (names : Names (S × N)) (start : S) (blank : N)
     (clear : S → ℕ → Type 0) (tasks size : ℕ) (values : ℕ → ℕ) : Type 1 where
   pub doing : S → ℕ → Option Tally
   pub clock : S × N → ℕ
+  -- the pending calls; and, under the numbers from `tasks` on, those withdrawn calls that took effect or may yet: by the moments of their drops
+  pub acting : S × N → ℕ → Option Tally
+  -- where the call stands that was withdrawn at a moment, if it took effect
+  pub left : S × N → ℕ → Option Spot
   pub Inv : S × N → Ghost → Knowledge → Type 0
   pub Quiet : S → ℕ → Type 0
   pub idle : (t : ℕ) → doing start t ≡ none
+  pub none-acting : (u : ℕ) → acting (start, blank) u ≡ none
   pub first-moment : clock (start, blank) ≡ 0
   pub next-moment : (x : S × N) (a : Action) → clock (beside machine note x a .0) ≡ suc (clock x)
   pub opened : (κ : Knowledge) → Inv (start, blank) (fresh values) κ
   pub within : (x : S × N) (g : Ghost) (κ : Knowledge) → Inv x g κ → (t : ℕ) (n : Tally) → doing (x .0) t ≡ some n → (n .steps < most (n .op)) × (n .won + n .lost ≤ mostHard (n .op))
   pub follows : (x : S × N) (g : Ghost) (κ : Knowledge) → Inv x g κ → (a : Action) → Follows doing size (x .0) a (machine (x .0) a .0) (machine (x .0) a .1)
-  pub forward : (x : S × N) (g : Ghost) (κ : Knowledge) → Inv x g κ → (a : Action) →
-      Forward (λ (y : S × N). doing (y .0)) clock names Inv x g κ a (beside machine note x a .0) (machine (x .0) a .1)
+  pub forward : (x : S × N) (g : Ghost) (κ : Knowledge) → Inv x g κ → (a : Action) → Forward acting clock names tasks Inv x g κ a (beside machine note x a .0) (machine (x .0) a .1)
   pub quietly : (x : S × N) (g : Ghost) (κ : Knowledge) → Inv x g κ → (a : Action) → Quietly doing clear Quiet (x .0) a (machine (x .0) a .0) (machine (x .0) a .1)
-  -- where the pending swaps of the tasks are named
+  -- the tasks have the numbers below `tasks`
   pub low : (x : S × N) (g : Ghost) (κ : Knowledge) → Inv x g κ → (t : ℕ) (n : Tally) → doing (x .0) t ≡ some n → t < tasks
+  pub low-begin : (x : S × N) (g : Ghost) (κ : Knowledge) → Inv x g κ → (t : ℕ) (op : Op) (y : Attempt) → machine (x .0) (begin t op) .1 ≡ accepted y → t < tasks
+  pub present : (x : S × N) (g : Ghost) (κ : Knowledge) → Inv x g κ → (a : Action) (t : ℕ) → t < tasks → acting (beside machine note x a .0) t ≡ doing (machine (x .0) a .0) t
+  pub parked : (x : S × N) (g : Ghost) (κ : Knowledge) → Inv x g κ → (a : Action) (n : ℕ) (y : Tally) → acting (beside machine note x a .0) (tasks + n) ≡ some y →
+      (acting x (tasks + n) ≡ some y) ⊎ ((t : ℕ) × (z : Attempt) × (a ≡ drop t) × (machine (x .0) a .1 ≡ accepted z) × (n ≡ clock x) × (doing (x .0) t ≡ some y))
+  -- where the pending swaps of the tasks are named, and where the withdrawn ones stand
   pub listed : (x : S × N) (g : Ghost) (κ : Knowledge) → Inv x g κ → (t : ℕ) (n : Tally) → doing (x .0) t ≡ some n → T (g .placed t) → Named (names .standing x t) (g .when t)
   pub unlisted : (x : S × N) (g : Ghost) (κ : Knowledge) → Inv x g κ → (t : ℕ) (n : Tally) → doing (x .0) t ≡ some n → T (not (g .placed t)) → names .standing x t ≡ none
+  pub listed-withdrawn : (x : S × N) (g : Ghost) (κ : Knowledge) → Inv x g κ → (n : ℕ) → n < clock x → T (g .placed (tasks + n)) → Named (left x n) (g .when (tasks + n))
+  pub unlisted-withdrawn : (x : S × N) (g : Ghost) (κ : Knowledge) → Inv x g κ → (n : ℕ) → n < clock x → T (not (g .placed (tasks + n))) → left x n ≡ none
+  pub leaves : (x : S × N) (g : Ghost) (κ : Knowledge) → Inv x g κ → (a : Action) → Leaves names clock x a (machine (x .0) a .1) (left x) (left (beside machine note x a .0))

@@ -4,7 +4,7 @@ use mathlib.Core.Logic.{_≢_, _⊎_, inl, inr}
 use mathlib.Core.Option.{Option, none, some}
 use Prim.Native.Nat.{ℕ, _≤_, _+_}
 use Rattle.history_spec.specs.Basics.{upd}
-use Rattle.history_spec.specs.History.{Op, cellOf, kindOf, Action, begin, step, Attempt, Event, refused, accepted, answered, Report, Call, Calls, called, advance, advanced, enter, IsBusy, Allowed}
+use Rattle.history_spec.specs.History.{Op, cellOf, kindOf, Action, begin, step, drop, Attempt, Event, refused, accepted, answered, Report, Call, Calls, called, advance, advanced, enter, IsBusy, Allowed}
 use Rattle.history_spec.specs.Demand3.{mostHard, Reports}
 use Rattle.history_spec.proofs.Basics.{either, upd-at, upd-off, clash, some-inj}
 use Rattle.history_linearization.proofs.Simulation.{Tally, first, further, Follows}
@@ -49,12 +49,17 @@ is-busy h = rw h tt
 abbrev pub Tracks : {S : Type 0} → (S → ℕ → Option Tally) → S → Calls → Type 0
 Tracks doing s b = (t : ℕ) → doing s t ≡ tallyOf (b .pending t)
 
--- what an action did: it was refused, or a call began, went on, or ended
+-- each call that a machine follows, under whatever number, is one of these, with its tally
+abbrev pub Acts : {X : Type 0} → (X → ℕ → Option Tally) → X → Calls → Type 0
+Acts acting x b = (u : ℕ) (n : Tally) → acting x u ≡ some n → (c : Call) × (b .pending u ≡ some c) × (tallied c ≡ n)
+
+-- what an action did: it was refused, or a call began, went on, ended, or was withdrawn
 pub data Change {S : Type 0} (s s' : S) (b : Calls) : Action → Event → Type 0 where
   refuses : {a : Action} {r : ℕ} → s' ≡ s → Change s s' b a (refused r)
   starts : {t : ℕ} {op : Op} {x : Attempt} → b .pending t ≡ none → Change s s' b (begin t op) (accepted x)
   goes : {t : ℕ} {x : Attempt} (c : Call) → b .pending t ≡ some c → Change s s' b (step t) (accepted x)
   ends : {t : ℕ} {x : Attempt} {r : Report} (c : Call) → b .pending t ≡ some c → Reports (advance b x c) r → r .won + r .lost ≤ mostHard (c .start .op) → Change s s' b (step t) (answered x r)
+  drops : {t : ℕ} {x : Attempt} (c : Call) → b .pending t ≡ some c → Change s s' b (drop t) (accepted x)
 
 pub record Tracked {S : Type 0} (doing : S → ℕ → Option Tally) (size : ℕ) (s s' : S) (b : Calls) (a : Action) (e : Event) : Type 0 where
   pub allowed : Allowed size b a e
@@ -87,3 +92,7 @@ module _ {S : Type 0} (doing : S → ℕ → Option Tally) (size : ℕ) (s s' : 
             (subst (λ (n : Tally). r .won + r .lost ≤ mostHard (n .op)) (sym (c .2)) (f .few));
         tracks = changed t none none refl (f .rest);
       }
+  tracked (drop t) (refused n) f = record { allowed = idle-of (b .pending t) (sym (same t) ∙ f .1); change = refuses (f .0); tracks = rw (f .0) same }
+  tracked (drop t) (accepted x) f =
+      let c = call-of (b .pending t) (f .now) (sym (same t) ∙ f .was) in
+      record { allowed = (is-busy (c .1), f .no-attempt); change = drops (c .0) (c .1); tracks = changed t none none refl (f .rest) }

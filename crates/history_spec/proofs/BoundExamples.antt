@@ -1,6 +1,6 @@
 -- What the statement says of events, bounds and contention, at histories written out: what it accepts, and what it rules out.
 use mathlib.Core.Path.{_≡_, refl, ap, subst}
-use mathlib.Core.Logic.{_⊎_, inl, inr}
+use mathlib.Core.Logic.{_≢_, _⊎_, inl, inr}
 use mathlib.Core.Option.{none}
 use mathlib.Core.List.{List, [], _∷_, _++_}
 use Prim.Native.Nat.{ℕ, _≤_}
@@ -8,10 +8,10 @@ use native.Mathlib.Omega.{arith}
 use lib.ListN.{replicate}
 use borrow.Author.Tests.{ne-eqb}
 use Rattle.history_spec.specs.Basics.{upd, _∈_}
-use Rattle.history_spec.specs.History.{aRead, aSwap, read, swap, Action, begin, step, untried, success, failure, Event, refused, accepted, Value, Yes, Call, attempts, FinishedCall, Calls, noCalls, callsOf}
-use Rattle.history_spec.specs.History.{finished, pending, WellFormed}
+use Rattle.history_spec.specs.History.{aRead, aSwap, read, swap, Action, begin, step, drop, untried, success, failure, Event, refused, accepted, Value, Yes, Call, attempts, FinishedCall, WithdrawnCall, Calls, noCalls, callsOf}
+use Rattle.history_spec.specs.History.{finished, pending, withdrawn, WellFormed}
 use Rattle.history_spec.specs.Demand3.{most, mostHard, Reports, Bounds, Unequal, Alone, NoHardware}
-use Rattle.history_spec.proofs.Basics.{clash, some-inj}
+use Rattle.history_spec.proofs.Basics.{either, clash, some-inj}
 use Rattle.history_spec.proofs.Examples.{answers, TwoCalls, two-calls, ended, both-ended, one-of}
 
 -- WRONG EVENTS: no well-formed history has them
@@ -72,10 +72,10 @@ no-swap-of-four-hardware-CAS c = omega (arith, c .unended 0 _ refl .1)
 
 -- RIGHT: the longest calls, a read that decides and a swap that ends at 30 by 25 (21 steps: CR 2)
 abbrev only : FinishedCall → Calls
-only f = record { now = 22; accepted = []; pending = λ t. none; finished = f ∷ [] }
+only f = record { now = 22; accepted = []; pending = λ t. none; finished = f ∷ []; withdrawn = [] }
 
 within-bounds : (f : FinishedCall) → (f .call .steps ≤ most (f .call .start .op)) × (attempts (f .call) ≤ mostHard (f .call .start .op)) → Reports (f .call) (f .report) → Bounds (only f)
-within-bounds f h r = record { ended = ended; reported = reported; unended = λ t c e. absurd (clash refl e) }
+within-bounds f h r = record { ended = ended; reported = reported; unended = λ t c e. absurd (clash refl e); withdrawn = λ w i. absurd i }
   where
     ended : (g : FinishedCall) → g ∈ (f ∷ []) → (g .call .steps ≤ most (g .call .start .op)) × (attempts (g .call) ≤ mostHard (g .call .start .op))
     ended g (inl q) = rw q h
@@ -101,7 +101,7 @@ no-hardware-CAS-alone h = omega (arith, h (needless .call) 1 (finished needless 
     b = callsOf ((begin 0 (swap 0 5 7), accepted untried) ∷ (step 0, answers success aSwap Yes 1 1 0) ∷ [])
 
     alone : Alone b (needless .call) 1
-    alone d n i u q ne = absurd (go (both-ended b needless needless (λ t p q. rw (ne-eqb t 0 p)) refl refl (one-of needless) d n i))
+    alone d n i u q ne = absurd (go (both-ended b needless needless (λ t p q. rw (ne-eqb t 0 p)) refl refl refl (one-of needless) d n i))
       where
         go : (d ≡ needless .call) ⊎ (d ≡ needless .call) → ⊥
         go (inl q) = ne (ap (λ (c : Call). c .start .at) q)
@@ -129,7 +129,7 @@ no-hardware-CAS-beside-an-equal-swap h = omega (arith, h (beside .call) 2 (finis
     done f (inl q) = inr (ap (λ (f : FinishedCall). f .call) q)
 
     two : TwoCalls (callsOf beside-equal) equal (beside .call)
-    two = two-calls (callsOf beside-equal) equal (beside .call) (λ t p q. rw (ne-eqb t 0 p, ne-eqb t 1 q)) (λ e h. some-inj h refl) refl done
+    two = two-calls (callsOf beside-equal) equal (beside .call) (λ t p q. rw (ne-eqb t 0 p, ne-eqb t 1 q)) (λ e h. some-inj h refl) refl refl done
 
     alone : Alone (callsOf beside-equal) (beside .call) 2
     alone d n i u q ne = absurd (go (two d n i))
@@ -137,3 +137,24 @@ no-hardware-CAS-beside-an-equal-swap h = omega (arith, h (beside .call) 2 (finis
         go : (d ≡ equal) ⊎ (d ≡ beside .call) → ⊥
         go (inl q) = subst (λ (d : Call). Unequal (d .start .op)) q u refl
         go (inr q) = ne (ap (λ (c : Call). c .start .at) q)
+
+-- a swap that begins after the drop of another tries the hardware CAS: a withdrawn call contends until its drop
+abbrev after-a-drop : List (Action × Event)
+after-a-drop = (begin 0 (swap 0 5 7), accepted untried) ∷ (drop 0, accepted untried) ∷ (begin 1 (swap 0 5 9), accepted untried) ∷ (step 1, answers success aSwap Yes 1 1 0) ∷ []
+
+abbrev after : FinishedCall
+after = ended 2 1 (swap 0 5 9) (begin 0 (swap 0 5 7) ∷ drop 0 ∷ []) 3 1 1 0 Yes
+
+pub no-hardware-CAS-after-a-drop : NoHardware (λ l k. Unit {0}) (callsOf after-a-drop) → ⊥
+unfolding upd
+no-hardware-CAS-after-a-drop h = omega (arith, h (after .call) 3 (finished after (inl refl)) tt alone)
+  where
+    idle : (t : ℕ) → (t ≡ 0) ⊎ (t ≢ 0) → (t ≡ 1) ⊎ (t ≢ 1) → callsOf after-a-drop .pending t ≡ none
+    idle t (inl e) k = rw e
+    idle t (inr e) (inl k) = rw k
+    idle t (inr e) (inr k) = rw (ne-eqb t 0 e, ne-eqb t 1 k)
+
+    alone : Alone (callsOf after-a-drop) (after .call) 3
+    alone d n (finished f (inl e)) u q ne = absurd (ne (ap (λ (f : FinishedCall). f .call .start .at) e))
+    alone d n (pending t c h) u q ne = absurd (clash (idle t (either t 0) (either t 1)) h)
+    alone d n (withdrawn w (inl e)) u q ne = inl (omega (arith, ap (λ (w : WithdrawnCall). w .end) e))

@@ -12,7 +12,7 @@ use lib.Dec.{eqb, T}
 use borrow.Author.Tests.{eq-eqb, ne-eqb}
 use Rattle.history_spec.specs.Basics.{upd, _∈_, Once}
 use Rattle.history_spec.specs.History.{Op, cellOf, Kind, aRead, aSwap, kindOf, Report, read, swap, Action, begin, step, Attempt, untried, success, Event, accepted, answered, Response, Value, Yes, No, CallId, Call, attempts, FinishedCall, Calls, callsOf}
-use Rattle.history_spec.specs.History.{CallOf, finished, pending}
+use Rattle.history_spec.specs.History.{CallOf, finished, pending, withdrawn}
 use Rattle.history_spec.specs.Linearization.{reply, apply, Point, replies, Placed, Linearizes}
 use Rattle.history_spec.specs.Demand3.{most, mostHard, Reports, Unequal, Alone, Demand3}
 use Rattle.history_spec.proofs.Basics.{either, clash, some-inj, point}
@@ -80,10 +80,11 @@ answers x k a n w l = answered x (report k a n w l)
 abbrev pub TwoCalls : Calls → Call → Call → Type 0
 TwoCalls b c d = (e : Call) (n : ℕ) → CallOf b e n → (e ≡ c) ⊎ (e ≡ d)
 
-pub two-calls : (b : Calls) (c d : Call) → ((t : ℕ) → t ≢ 0 → t ≢ 1 → b .pending t ≡ none) → ((e : Call) → b .pending 0 ≡ some e → e ≡ c) → b .pending 1 ≡ none →
+pub two-calls : (b : Calls) (c d : Call) → ((t : ℕ) → t ≢ 0 → t ≢ 1 → b .pending t ≡ none) → ((e : Call) → b .pending 0 ≡ some e → e ≡ c) → b .pending 1 ≡ none → b .withdrawn ≡ [] →
     ((f : FinishedCall) → f ∈ b .finished → (f .call ≡ c) ⊎ (f .call ≡ d)) → TwoCalls b c d
-two-calls b c d rest at0 at1 done e n (finished f i) = done f i
-two-calls b c d rest at0 at1 done e n (pending t f h) = go (either t 0) (either t 1)
+two-calls b c d rest at0 at1 gone done e n (finished f i) = done f i
+two-calls b c d rest at0 at1 gone done e n (withdrawn w i) = absurd (rw gone at i)
+two-calls b c d rest at0 at1 gone done e n (pending t f h) = go (either t 0) (either t 1)
   where
     go : (t ≡ 0) ⊎ (t ≢ 0) → (t ≡ 1) ⊎ (t ≢ 1) → (e ≡ c) ⊎ (e ≡ d)
     go (inl p) q = inl (at0 e (rw p at h))
@@ -206,7 +207,7 @@ its-calls = (refl, refl, refl, refl)
 
 late-two : TwoCalls (callsOf late-swap) halted decider
 unfolding upd
-late-two = two-calls (callsOf late-swap) halted decider (λ t p q. rw (ne-eqb t 0 p, ne-eqb t 1 q)) (λ e h. some-inj h refl) refl done
+late-two = two-calls (callsOf late-swap) halted decider (λ t p q. rw (ne-eqb t 0 p, ne-eqb t 1 q)) (λ e h. some-inj h refl) refl refl done
   where
     done : (f : FinishedCall) → f ∈ (decided ∷ []) → (f .call ≡ halted) ⊎ (f .call ≡ decider)
     done f (inl q) = inr (ap (λ (f : FinishedCall). f .call) q)
@@ -253,7 +254,7 @@ late-swap-meets-demand-3 = record {
   calls = record {
     linearization = point halted 12 ∷ point decider 15 ∷ [];
     linearizes = late-swap-at-the-freezing;
-    bounds = record { ended = ended; reported = reported; unended = λ t c h. unended c (late-two c 17 (pending t c h)) };
+    bounds = record { ended = ended; reported = reported; unended = λ t c h. unended c (late-two c 17 (pending t c h)); withdrawn = λ w i. absurd i };
     no-hardware = λ c n i a l. hard c n i l (late-two c n i);
   };
 }
@@ -309,9 +310,9 @@ ended n t op l last steps won lost a = record {
 }
 
 -- all calls of the history are finished, and they are f and g
-pub both-ended : (b : Calls) (f g : FinishedCall) → ((t : ℕ) → t ≢ 0 → t ≢ 1 → b .pending t ≡ none) → b .pending 0 ≡ none → b .pending 1 ≡ none →
+pub both-ended : (b : Calls) (f g : FinishedCall) → ((t : ℕ) → t ≢ 0 → t ≢ 1 → b .pending t ≡ none) → b .pending 0 ≡ none → b .pending 1 ≡ none → b .withdrawn ≡ [] →
     ((h : FinishedCall) → h ∈ b .finished → (h ≡ f) ⊎ (h ≡ g)) → TwoCalls b (f .call) (g .call)
-both-ended b f g rest at0 at1 all = two-calls b (f .call) (g .call) rest (λ e h. absurd (clash at0 h)) at1 (λ h i. go h (all h i))
+both-ended b f g rest at0 at1 gone all = two-calls b (f .call) (g .call) rest (λ e h. absurd (clash at0 h)) at1 gone (λ h i. go h (all h i))
   where
     go : (h : FinishedCall) → (h ≡ f) ⊎ (h ≡ g) → (h .call ≡ f .call) ⊎ (h .call ≡ g .call)
     go h (inl q) = inl (ap (λ (f : FinishedCall). f .call) q)
@@ -351,7 +352,7 @@ odd = ended 0 0 (read 0) [] 3 3 0 0 (Value 6)
 
 pub no-value-never-held : (l : List Point) → Linearizes five (callsOf odd-read) l → ⊥
 unfolding upd
-no-value-never-held l r = go l (must r odd (inl refl)) (shape (odd .call) (odd .call) (both-ended (callsOf odd-read) odd odd (λ t p q. rw (ne-eqb t 0 p)) refl refl (one-of odd)) r)
+no-value-never-held l r = go l (must r odd (inl refl)) (shape (odd .call) (odd .call) (both-ended (callsOf odd-read) odd odd (λ t p q. rw (ne-eqb t 0 p)) refl refl refl (one-of odd)) r)
   where
     go : (l : List Point) → T (said 800 (replies five l)) → Shape (odd .call) (odd .call) l → ⊥
     go l h neither = h
@@ -364,11 +365,11 @@ no-value-never-held l r = go l (must r odd (inl refl)) (shape (odd .call) (odd .
 abbrev pub spurious : (steps : ℕ) → FinishedCall
 spurious n = ended 0 0 (swap 0 5 7) [] n n 0 0 No
 
-pub no-such-no : (n : ℕ) (b : Calls) → ((t : ℕ) → t ≢ 0 → b .pending t ≡ none) → b .pending 0 ≡ none → b .finished ≡ spurious n ∷ [] → (l : List Point) → Linearizes five b l → ⊥
-no-such-no n b rest at0 e l r = go l (must r (spurious n) (subst (λ (x : List FinishedCall). spurious n ∈ x) (sym e) (inl refl))) (shape (spurious n .call) (spurious n .call) two r) (r .once)
+pub no-such-no : (n : ℕ) (b : Calls) → ((t : ℕ) → t ≢ 0 → b .pending t ≡ none) → b .pending 0 ≡ none → b .withdrawn ≡ [] → b .finished ≡ spurious n ∷ [] → (l : List Point) → Linearizes five b l → ⊥
+no-such-no n b rest at0 gone e l r = go l (must r (spurious n) (subst (λ (x : List FinishedCall). spurious n ∈ x) (sym e) (inl refl))) (shape (spurious n .call) (spurious n .call) two r) (r .once)
   where
     two : TwoCalls b (spurious n .call) (spurious n .call)
-    two = both-ended b (spurious n) (spurious n) (λ t p q. rest t p) at0 (rest 1 (λ z. omega arith)) (λ h i. one-of (spurious n) h (subst (λ (x : List FinishedCall). h ∈ x) e i))
+    two = both-ended b (spurious n) (spurious n) (λ t p q. rest t p) at0 (rest 1 (λ z. omega arith)) gone (λ h i. one-of (spurious n) h (subst (λ (x : List FinishedCall). h ∈ x) e i))
 
     go : (l : List Point) → T (said 0 (replies five l)) → Shape (spurious n .call) (spurious n .call) l → Once (ats l) → ⊥
     go l h neither o = h
@@ -379,7 +380,7 @@ no-such-no n b rest at0 e l r = go l (must r (spurious n) (subst (λ (x : List F
 
 pub no-spurious-no : (l : List Point) → Linearizes five (callsOf ((begin 0 (swap 0 5 7), accepted untried) ∷ (step 0, answers untried aSwap No 1 0 0) ∷ [])) l → ⊥
 unfolding upd
-no-spurious-no = no-such-no 1 _ (λ t p. rw (ne-eqb t 0 p)) refl refl
+no-spurious-no = no-such-no 1 _ (λ t p. rw (ne-eqb t 0 p)) refl refl refl
 
 -- two swaps of the value 5 both answer yes
 abbrev two-winners : List (Action × Event)
@@ -396,7 +397,7 @@ unfolding upd
 no-two-winners l r = go l (must r winner (inr (inl refl))) (must r second-winner (inl refl)) (shape (winner .call) (second-winner .call) two r)
   where
     two : TwoCalls (callsOf two-winners) (winner .call) (second-winner .call)
-    two = both-ended (callsOf two-winners) winner second-winner (λ t p q. rw (ne-eqb t 0 p, ne-eqb t 1 q)) refl refl (two-of winner second-winner)
+    two = both-ended (callsOf two-winners) winner second-winner (λ t p q. rw (ne-eqb t 0 p, ne-eqb t 1 q)) refl refl refl (two-of winner second-winner)
 
     go : (l : List Point) → T (said 100 (replies five l)) → T (said 101 (replies five l)) → Shape (winner .call) (second-winner .call) l → ⊥
     go l h i neither = h
@@ -420,7 +421,7 @@ unfolding upd
 no-stale-read l r = go l r (must r changer (inr (inl refl))) (must r stale (inl refl)) (shape (changer .call) (stale .call) two r)
   where
     two : TwoCalls (callsOf stale-read) (changer .call) (stale .call)
-    two = both-ended (callsOf stale-read) changer stale (λ t p q. rw (ne-eqb t 0 p, ne-eqb t 1 q)) refl refl (two-of changer stale)
+    two = both-ended (callsOf stale-read) changer stale (λ t p q. rw (ne-eqb t 0 p, ne-eqb t 1 q)) refl refl refl (two-of changer stale)
 
     go : (l : List Point) → Linearizes five (callsOf stale-read) l → T (said 100 (replies five l)) → T (said 702 (replies five l)) → Shape (changer .call) (stale .call) l → ⊥
     go l r h i neither = h

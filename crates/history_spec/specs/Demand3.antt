@@ -6,7 +6,7 @@ use mathlib.Core.List.{List, _++_}
 use Prim.Native.Nat.{ℕ, _≤_, _<_}
 use lib.ListN.{replicate}
 use Rattle.history_spec.specs.Basics.{_∈_}
-use Rattle.history_spec.specs.History.{Op, read, swap, cellOf, kindOf, Report, Action, step, Event, history, run, Call, attempts, FinishedCall, Calls, noCalls, callsOf, CallOf, WellFormed}
+use Rattle.history_spec.specs.History.{Op, read, swap, cellOf, kindOf, Report, Action, step, Event, history, run, Call, attempts, FinishedCall, WithdrawnCall, Calls, noCalls, callsOf, CallOf, WellFormed}
 use Rattle.history_spec.specs.Linearization.{Point, Linearizes}
 
 -- BOUNDS
@@ -31,6 +31,7 @@ pub record Bounds (b : Calls) : Type 0 where
   pub ended : (f : FinishedCall) → f ∈ b .finished → (f .call .steps ≤ most (f .call .start .op)) × (attempts (f .call) ≤ mostHard (f .call .start .op))
   pub reported : (f : FinishedCall) → f ∈ b .finished → Reports (f .call) (f .report)
   pub unended : (t : ℕ) (c : Call) → b .pending t ≡ some c → (c .steps < most (c .start .op)) × (attempts c ≤ mostHard (c .start .op))
+  pub withdrawn : (w : WithdrawnCall) → w ∈ b .withdrawn → (w .call .steps < most (w .call .start .op)) × (attempts (w .call) ≤ mostHard (w .call .start .op))
 
 -- NO HARDWARE CAS WITHOUT CONTENTION
 
@@ -38,7 +39,7 @@ abbrev pub Unequal : Op → Type 0
 Unequal (read k) = ⊥
 Unequal (swap k e n) = e ≢ n
 
--- from c's begin to its end no other swap with unequal values is pending on its cell
+-- from c's begin to its end no other swap with unequal values is pending on its cell; a withdrawn one is so until its drop
 abbrev pub Alone : Calls → Call → ℕ → Type 0
 Alone b c end = (d : Call) (n : ℕ) → CallOf b d n → Unequal (d .start .op) → cellOf (d .start .op) ≡ cellOf (c .start .op) →
     d .start .at ≢ c .start .at → (n ≤ c .start .at) ⊎ (end ≤ d .start .at)

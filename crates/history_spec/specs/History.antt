@@ -26,10 +26,12 @@ kindOf (swap k e n) = aSwap
 pub data Action : Type 0 where
   begin : (task : ℕ) → Op → Action
   step : (task : ℕ) → Action
+  drop : (task : ℕ) → Action
 
 abbrev pub taskOf : Action → ℕ
 taskOf (begin t op) = t
 taskOf (step t) = t
+taskOf (drop t) = t
 
 pub data Response : Type 0 where
   Value : ℕ → Response
@@ -58,7 +60,7 @@ losses success = 0
 losses failure = 1
 losses untried = 0
 
--- what an action gave: the number of a refusal; that it was accepted, and its call goes on; that its call is finished
+-- what an action gave: the number of a refusal; that it was accepted, and its call goes on, or is withdrawn; that its call is finished
 pub data Event : Type 0 where
   refused : (number : ℕ) → Event
   accepted : Attempt → Event
@@ -99,16 +101,22 @@ pub record FinishedCall : Type 0 where
   pub call : Call
   pub report : Report
 
--- the calls of a history: the next action's number, the accepted actions, each task's pending call, the finished calls.
+-- a withdrawn call, with its steps before the drop, and the moment of the drop
+pub record WithdrawnCall : Type 0 where
+  pub call : Call
+  pub end : ℕ
+
+-- the calls of a history: the next action's number, the accepted actions, each task's pending call, the finished calls, the withdrawn ones.
 -- Document 01 says unfinished for pending; a pending call whose task takes no further step has halted.
 pub record Calls : Type 0 where
   pub now : ℕ
   pub accepted : List Action
   pub pending : ℕ → Option Call
   pub finished : List FinishedCall
+  pub withdrawn : List WithdrawnCall
 
 abbrev pub noCalls : Calls
-noCalls = record { now = 0; accepted = []; pending = λ t. none; finished = [] }
+noCalls = record { now = 0; accepted = []; pending = λ t. none; finished = []; withdrawn = [] }
 
 abbrev pub called : Calls → ℕ → Op → Call
 called b t op = record { start = record { at = b .now; task = t; op = op; before = b .accepted }; last = b .now; steps = 0; won = 0; lost = 0 }
@@ -124,12 +132,20 @@ abbrev pub closed : Option Call → Report → List FinishedCall → List Finish
 closed none r l = l
 closed (some c) r l = record { call = c; report = r } ∷ l
 
+abbrev pub alsoWithdrawn : Option Call → ℕ → List WithdrawnCall → List WithdrawnCall
+alsoWithdrawn none n l = l
+alsoWithdrawn (some c) n l = record { call = c; end = n } ∷ l
+
 -- an action that moves no call
 abbrev pub passed : Calls → Calls
-passed b = record { now = suc (b .now); accepted = b .accepted; pending = b .pending; finished = b .finished }
+passed b = record { now = suc (b .now); accepted = b .accepted; pending = b .pending; finished = b .finished; withdrawn = b .withdrawn }
 
 abbrev pub moved : Calls → Action → (ℕ → Option Call) → List FinishedCall → Calls
-moved b a pending finished = record { now = suc (b .now); accepted = b .accepted ++ (a ∷ []); pending = pending; finished = finished }
+moved b a pending finished = record { now = suc (b .now); accepted = b .accepted ++ (a ∷ []); pending = pending; finished = finished; withdrawn = b .withdrawn }
+
+-- task t's call is withdrawn
+abbrev pub withdraw : Calls → ℕ → Calls
+withdraw b t = record { now = suc (b .now); accepted = b .accepted ++ (drop t ∷ []); pending = upd (b .pending) t none; finished = b .finished; withdrawn = alsoWithdrawn (b .pending t) (b .now) (b .withdrawn) }
 
 abbrev pub enter : Calls → Action → Event → Calls
 enter b a (refused r) = passed b
@@ -137,6 +153,8 @@ enter b (begin t op) (accepted x) = moved b (begin t op) (upd (b .pending) t (so
 enter b (begin t op) (answered x r) = passed b
 enter b (step t) (accepted x) = moved b (step t) (upd (b .pending) t (advanced b x (b .pending t))) (b .finished)
 enter b (step t) (answered x r) = moved b (step t) (upd (b .pending) t none) (closed (advanced b x (b .pending t)) r (b .finished))
+enter b (drop t) (accepted x) = withdraw b t
+enter b (drop t) (answered x r) = passed b
 
 abbrev pub enterAll : Calls → List (Action × Event) → Calls
 enterAll b [] = b
@@ -145,10 +163,11 @@ enterAll b (x ∷ h) = enterAll (enter b (x .0) (x .1)) h
 abbrev pub callsOf : List (Action × Event) → Calls
 callsOf h = enterAll noCalls h
 
--- c is a call of the history, with `end` the moment of its end: its last step's if it is finished, else the list's
+-- c is a call of the history, with `end` the moment of its end: its last step's if it is finished, its drop's if it is withdrawn, else the list's
 pub data CallOf (b : Calls) : Call → ℕ → Type 0 where
   finished : (f : FinishedCall) → f ∈ b .finished → CallOf b (f .call) (f .call .last)
   pending : (t : ℕ) (c : Call) → b .pending t ≡ some c → CallOf b c (b .now)
+  withdrawn : (w : WithdrawnCall) → w ∈ b .withdrawn → CallOf b (w .call) (w .end)
 
 -- WELL-FORMED HISTORIES
 
@@ -157,7 +176,7 @@ IsBusy none = ⊥
 IsBusy (some c) = Unit {0}
 
 -- an event that its action may give: a task has one call at a time, on a cell that there is, and a begin attempts no hardware CAS; a step of a
--- pending call is never refused, and no other step goes on or answers
+-- pending call is never refused, and no other step goes on or answers; nor is a drop of a pending call, and it attempts no hardware CAS
 abbrev pub Allowed : ℕ → Calls → Action → Event → Type 0
 Allowed size b (begin t op) (refused n) = Unit {0}
 Allowed size b (begin t op) (accepted x) = (b .pending t ≡ none) × (cellOf op < size) × (x ≡ untried)
@@ -165,6 +184,9 @@ Allowed size b (begin t op) (answered x r) = ⊥
 Allowed size b (step t) (refused n) = b .pending t ≡ none
 Allowed size b (step t) (accepted x) = IsBusy (b .pending t)
 Allowed size b (step t) (answered x r) = IsBusy (b .pending t)
+Allowed size b (drop t) (refused n) = b .pending t ≡ none
+Allowed size b (drop t) (accepted x) = IsBusy (b .pending t) × (x ≡ untried)
+Allowed size b (drop t) (answered x r) = ⊥
 
 abbrev pub WellFormed : ℕ → Calls → List (Action × Event) → Type 0
 WellFormed size b [] = Unit {0}

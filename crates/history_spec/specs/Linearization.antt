@@ -47,7 +47,7 @@ pub record Placed (b : Calls) (e : Point) : Type 0 where
   pub after-begin : call .start .at < e .moment
   pub by-last-step : e .moment ≤ call .last
 
--- every finished call stands there once, with its own answer; some pending ones stand there once each
+-- every finished call stands there once, with its own answer; some pending ones and some withdrawn ones stand there once each
 pub record Linearizes (values : ℕ → ℕ) (b : Calls) (l : List Point) : Type 0 where
   pub sorted : Sorted l
   pub placed : (e : Point) → e ∈ l → Placed b e

@@ -5,7 +5,7 @@ use mathlib.Core.Option.{Option, none, some}
 use mathlib.Core.List.{List, [], _∷_, _++_}
 use Prim.Native.Nat.{ℕ, zero, suc}
 use lib.Dec.{eqb, leb}
-use Rattle.history_spec.specs.History.{Op, read, swap, Action, begin, step, Event, refused, accepted, answered, Response, Value, Yes, No, CallId, Call, Calls, noCalls, enter}
+use Rattle.history_spec.specs.History.{Op, read, swap, Action, begin, step, drop, Event, refused, accepted, answered, Response, Value, Yes, No, CallId, Call, WithdrawnCall, Calls, noCalls, enter}
 use Rattle.history_spec.specs.Linearization.{Point}
 
 -- MARKS
@@ -24,7 +24,7 @@ pub record Spot : Type 0 where
   pub side : Side
   pub rule : Rule
 
--- a call there. The answer is the call's; of a pending swap that is listed it is yes
+-- a call there. The answer is the call's; of a pending or withdrawn swap that is listed it is yes
 pub record Mark : Type 0 where
   pub spot : Spot
   pub call : CallId
@@ -77,33 +77,47 @@ sort (x ∷ l) = insert x (sort l)
 abbrev pub beside : {S N : Type 0} → (S → Action → S × Event) → (N → S → Action → Event → N) → S × N → Action → (S × N) × Event
 beside machine note x a = let r = machine (x .0) a in ((r .0, note (x .1) (x .0) a (r .1)), r .1)
 
--- where a task's call takes effect if its next step ends it with that answer; and where its pending swap took effect, if it did
+-- where a task's call takes effect if its next step ends it with that answer; where its pending swap took effect, if it did; and if its next
+-- step makes a withdrawn swap take effect: the number of that swap's drop, and where
 pub record Names (S : Type 0) : Type 0 where
   pub ending : S → ℕ → Response → Spot
   pub standing : S → ℕ → Option Spot
+  pub landing : S → ℕ → Option (ℕ × Spot)
+
+-- the call that was withdrawn by the action n
+abbrev pub withdrawnAt : List WithdrawnCall → ℕ → Option Call
+withdrawnAt [] n = none
+withdrawnAt (w ∷ l) n = cond (eqb n (w .end)) (some (w .call)) (withdrawnAt l n)
 
 module _ {S : Type 0} (machine : S → Action → S × Event) (names : Names S) where
   abbrev pub markOf : Option Call → Response → Spot → List Mark
   markOf none a p = []
   markOf (some c) a p = record { spot = p; call = c .start; answer = a } ∷ []
 
-  -- the mark of a call that the action ends
-  abbrev pub marked : S → Calls → Action → Event → List Mark
-  marked s b (begin t op) e = []
-  marked s b (step t) (refused n) = []
-  marked s b (step t) (accepted x) = []
-  marked s b (step t) (answered x r) = markOf (b .pending t) (r .answer) (names .ending s t (r .answer))
-
   abbrev pub markOfPending : Option Spot → Option Call → List Mark
   markOfPending none o = []
   markOfPending (some p) o = markOf o Yes p
+
+  abbrev pub markOfLanded : Option (ℕ × Spot) → List WithdrawnCall → List Mark
+  markOfLanded none l = []
+  markOfLanded (some (n, p)) l = markOf (withdrawnAt l n) Yes p
+
+  -- the mark of a call that the action ends, of a pending swap that took effect and is withdrawn, of a withdrawn swap that takes effect
+  abbrev pub marked : S → Calls → Action → Event → List Mark
+  marked s b (begin t op) e = []
+  marked s b (step t) (refused n) = []
+  marked s b (step t) (accepted x) = markOfLanded (names .landing s t) (b .withdrawn)
+  marked s b (step t) (answered x r) = markOf (b .pending t) (r .answer) (names .ending s t (r .answer))
+  marked s b (drop t) (refused n) = []
+  marked s b (drop t) (accepted x) = markOfPending (names .standing s t) (b .pending t)
+  marked s b (drop t) (answered x r) = []
 
   -- the pending swaps of tasks below n that took effect
   abbrev pub pendingMarks : S → Calls → ℕ → List Mark
   pendingMarks s b zero = []
   pendingMarks s b (suc t) = markOfPending (names .standing s t) (b .pending t) ++ pendingMarks s b t
 
-  -- of so many tasks: the finished calls' marks l so far, those to come, and those of the pending swaps
+  -- of so many tasks: the marks l so far, of finished and of withdrawn calls, those to come, and those of the pending swaps
   abbrev pub marks : ℕ → S → Calls → List Mark → List Action → List Mark
   marks n s b l [] = pendingMarks s b n ++ l
   marks n s b l (a ∷ r) = marks n (machine s a .0) (enter b a (machine s a .1)) (marked s b a (machine s a .1) ++ l) r
