@@ -6,7 +6,7 @@ use mathlib.Core.Option.{some}
 use Prim.Native.Nat.{ℕ, zero, suc, _+_, _-_, _≤_}
 use native.Mathlib.Omega.{arith}
 use lib.ListN.{length, length-append}
-use Rattle.history_spec.specs.History.{read, swap, Action, begin, step}
+use Rattle.history_spec.specs.History.{read, swap, Action, begin, step, drop}
 use Rattle.text.specs.Bytes.{bytes}
 use Rattle.text.specs.Lines.{numbers as spaced}
 use Rattle.text.specs.Readers.{Reader, _>>_, literal, isDigit}
@@ -65,6 +65,7 @@ unfolding form head body keyword literal
 action-back d (begin t (read k)) s h = rw (append-assoc (spaced (t ∷ k ∷ [])) (bytes ")") s, numbers-back (t ∷ k ∷ []) (41 ∷ s) h refl)
 action-back d (begin t (swap k e n)) s h = rw (append-assoc (spaced (t ∷ k ∷ e ∷ n ∷ [])) (bytes ")") s, numbers-back (t ∷ k ∷ e ∷ n ∷ []) (41 ∷ s) h refl)
 action-back d (step t) s h = rw (append-assoc (spaced (t ∷ [])) (bytes ")") s, numbers-back (t ∷ []) (41 ∷ s) h refl)
+action-back d (drop t) s h = rw (append-assoc (spaced (t ∷ [])) (bytes ")") s, numbers-back (t ∷ []) (41 ∷ s) h refl)
 
 parts : (a b c s : List ℕ) → (a ++ b) ++ c ++ s ≡ a ++ (b ++ (c ++ s))
 parts a b c s = append-assoc (a ++ b) c s ∙ append-assoc a b (c ++ s)

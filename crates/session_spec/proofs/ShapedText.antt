@@ -6,7 +6,7 @@ use Prim.Native.Nat.{ℕ, zero, suc, _+_, _-_, _≤_, _<_}
 use native.Mathlib.Omega.{arith}
 use borrow.Author.Tests.{lt-ltb}
 use lib.Dec.{eqb}
-use Rattle.history_spec.specs.History.{read, swap, Action, begin, step}
+use Rattle.history_spec.specs.History.{read, swap, Action, begin, step, drop}
 use Rattle.text.specs.Bytes.{bytes, decimal}
 use Rattle.text.specs.Lines.{numbers}
 use Rattle.session_spec.specs.Shape.{startsItem, fits, deeper, shapedAfter, shaped}
@@ -67,6 +67,7 @@ module _ (d p : ℕ) (s : List ℕ) (h : d < 8) (e : starts p ≡ true) where
   action-shaped (begin t (read k)) = plain-shaped (bytes "rea") 100 (t ∷ k ∷ []) refl (omega arith)
   action-shaped (begin t (swap k x n)) = plain-shaped (bytes "swa") 112 (t ∷ k ∷ x ∷ n ∷ []) refl (omega arith)
   action-shaped (step t) = plain-shaped (bytes "ste") 112 (t ∷ []) refl (omega arith)
+  action-shaped (drop t) = plain-shaped (bytes "dro") 112 (t ∷ []) refl (omega arith)
 
   again-shaped : (c : ℕ) (l : Forms) → shapedAfter (d + 1) 48 (writtenForms l ++ (41 ∷ s)) ≡ shapedAfter (d + 1) 48 (41 ∷ s) → shapedAfter d p (written (again c l) ++ s) ≡ shapedAfter d 41 s
   unfolding written

@@ -12,6 +12,7 @@ use Rattle.cells_spec.specs.Open.{opened}
 use Rattle.cells_spec.specs.StoredCounts.{recounted}
 use Rattle.cells_spec.specs.Begin.{readBegun, swapBegun}
 use Rattle.cells_spec.specs.Step.{ran, stepped}
+use Rattle.cells_spec.specs.Drop.{dropped}
 use Rattle.cells_spec.specs.Look.{looked}
 use Rattle.session_spec.specs.Shape.{fits, deeper, shapedAfter}
 use Rattle.session_spec.specs.Session as reader
@@ -52,7 +53,9 @@ prints :
     -- a file that is none, a refused action and a pending call
     ("(open 2 1 5 (5))", "(bad 13)\n") ∷
     ("(open 2 1 5 (5))\n(read 1 0)\n(step 0)\n(step 1)\n", "(no 1 11)\n(cell 0 5)\n(end 0 1 0 0)\n") ∷
+    -- CR 12: a call is withdrawn: its task is idle and begins another, which finds the block active and Y true; the end counts it nowhere
+    ("(open 2 1 5 (5))\n(swap 0 0 5 7)\n(again 5 (step 0))\n(drop 0)\n(drop 0)\n(drop 2)\n(swap 0 0 5 9)\n(again 13 (step 0))\n", "(no 7 11)\n(no 8 7)\n(done 0 swap 0 yes 13 2 0)\n(cell 0 9)\n(end 1 0 2 2000)\n") ∷
     []
     )
-unfolding digits rate literal digitsAfter number fit recordFit cellsFit recordsFit hasNone openQuestions uses countsTrue firstUnused recounted opened readBegun swapBegun ran stepped looked fits deeper shapedAfter several reader.manyWithin reader.values reader.readOpening reader.keyword reader.head reader.body reader.form reader.readLine reader.count reader.times reader.actions reader.asked14 reader.formed reader.verdict numbers doneStart eventLine eventLines cellLines pendingTasks endText played afterOpen printed reader.asked15
-prints = (refl, (refl, (refl, (refl, (refl, (refl, (refl, (refl, (refl, (refl, (refl, (refl, (refl, (refl, (refl, (refl, tt))))))))))))))))
+unfolding digits rate literal digitsAfter number fit recordFit cellsFit recordsFit hasNone openQuestions uses countsTrue firstUnused recounted opened readBegun swapBegun ran stepped dropped looked fits deeper shapedAfter several reader.manyWithin reader.values reader.readOpening reader.keyword reader.head reader.body reader.form reader.readLine reader.count reader.times reader.actions reader.asked14 reader.formed reader.verdict numbers doneStart eventLine eventLines cellLines pendingTasks endText played afterOpen printed reader.asked15
+prints = (refl, (refl, (refl, (refl, (refl, (refl, (refl, (refl, (refl, (refl, (refl, (refl, (refl, (refl, (refl, (refl, (refl, tt)))))))))))))))))

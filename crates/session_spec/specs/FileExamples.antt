@@ -8,7 +8,7 @@ use lib.ListN.{length, replicate}
 use Rattle.text.specs.Bytes.{bytes, digits}
 use Rattle.text.specs.Lines.{numbers as spaced}
 use Rattle.text.specs.Readers.{literal, digitsAfter, number, several}
-use Rattle.history_spec.specs.History.{read, swap, Action, begin, step}
+use Rattle.history_spec.specs.History.{read, swap, Action, begin, step, drop}
 use Rattle.session_spec.specs.Shape.{fits, deeper, shapedAfter}
 use Rattle.session_spec.specs.Session.{Form, act, again, empty, with, Verdict, bad, session, short, manyWithin, values, readOpening, keyword, head, body, form, readLine, count, times, actions, formed, asked15, asked14, verdict}
 use Rattle.session_spec.specs.Written.{written, writtenValues, openingLine, formLines, fileText}
@@ -32,6 +32,11 @@ p1-written = refl
 -- three times a step, and twice another: nine actions, as question 15 counts them and as they are made
 abbrev nine : Form
 nine = again 3 (with (with empty (act (step 0))) (again 2 (with empty (act (step 1)))))
+
+-- a drop
+written-drop : written (act (drop 12)) ≡ bytes "(drop 12)"
+unfolding digits spaced written
+written-drop = refl
 
 written-nine : written nine ≡ bytes "(again 3 (step 0) (again 2 (step 1)))"
 unfolding digits spaced written
@@ -71,6 +76,9 @@ judged :
     ("(read 0 00)\n", bad 14) ∷
     ("(read 0)\n", bad 14) ∷
     ("(look 0)\n", bad 14) ∷
+    ("(again 2 (step 0) (drop 4))\n", plays (step 0 ∷ drop 4 ∷ step 0 ∷ drop 4 ∷ [])) ∷
+    ("(drop)\n", bad 14) ∷
+    ("(drop 0 0)\n", bad 14) ∷
     ("(open 1 1 3 (5))\n", bad 14) ∷
     ("(again 65536 (step 0))\n", bad 15) ∷
     ("(again 65536 (step 0))\n(step)\n", bad 14) ∷
@@ -79,7 +87,7 @@ judged :
     []
     )
 unfolding literal digitsAfter number fits deeper shapedAfter several manyWithin values readOpening keyword head body form readLine count times actions formed asked15 asked14 verdict
-judged = (refl, (refl, (refl, (refl, (refl, (refl, (refl, (refl, (refl, (refl, (refl, (refl, (refl, (refl, (refl, (refl, (refl, (refl, tt))))))))))))))))))
+judged = (refl, (refl, (refl, (refl, (refl, (refl, (refl, (refl, (refl, (refl, (refl, (refl, (refl, (refl, (refl, (refl, (refl, (refl, (refl, (refl, (refl, tt)))))))))))))))))))))
 
 -- an empty file has no open
 none-open : verdict [] ≡ bad 14

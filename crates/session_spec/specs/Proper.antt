@@ -1,7 +1,7 @@
 -- Which openings and forms are read back as they were written: numbers of at most 32 bits, forms at most so many brackets deep.
 use mathlib.Core.List.{List, [], _∷_, _++_}
 use Prim.Native.Nat.{ℕ, zero, suc, _≤_}
-use Rattle.history_spec.specs.History.{read, swap, Action, begin, step}
+use Rattle.history_spec.specs.History.{read, swap, Action, begin, step, drop}
 use Rattle.session_spec.specs.Session.{Opening, Form, act, again, Forms, empty, with, actions}
 
 abbrev pub Small : List ℕ → Type 0
@@ -12,6 +12,7 @@ abbrev pub numbersOf : Action → List ℕ
 numbersOf (begin t (read k)) = t ∷ k ∷ []
 numbersOf (begin t (swap k e n)) = t ∷ k ∷ e ∷ n ∷ []
 numbersOf (step t) = t ∷ []
+numbersOf (drop t) = t ∷ []
 
 abbrev pub SmallActions : List Action → Type 0
 SmallActions [] = Unit {0}

@@ -5,7 +5,7 @@ use mathlib.Core.Option.{Option, none, some}
 use Prim.Native.Nat.{ℕ, zero, suc, _+_, _*_}
 use lib.Dec.{leb}
 use lib.ListN.{length, getD}
-use Rattle.history_spec.specs.History.{read, swap, Action, begin, step}
+use Rattle.history_spec.specs.History.{read, swap, Action, begin, step, drop}
 use Rattle.session_spec.specs.Shape.{shaped}
 use Rattle.text.specs.Bytes.{bytes}
 use Rattle.text.specs.Readers.{Reader, pure, either, _>>=_, _>>_, literal, number, several}
@@ -77,6 +77,7 @@ pub data FormKind : Type 0 where
   reading : FormKind
   swapping : FormKind
   stepping : FormKind
+  dropping : FormKind
   repeating : FormKind
 
 abbrev pub means : List ℕ → FormKind → Reader FormKind
@@ -87,12 +88,14 @@ keyword s =
     either (means (bytes "(read") reading s)
     (either (means (bytes "(swap") swapping s)
     (either (means (bytes "(step") stepping s)
-    (means (bytes "(again") repeating s)))
+    (either (means (bytes "(drop") dropping s)
+    (means (bytes "(again") repeating s))))
 
 abbrev pub arity : FormKind → ℕ
 arity reading = 2
 arity swapping = 4
 arity stepping = 1
+arity dropping = 1
 arity repeating = 1
 
 -- a form up to the last of its numbers
@@ -116,6 +119,7 @@ unfoldable pub body : Reader Forms → FormKind → List ℕ → Reader Form
 body forms reading n = close >> pure (act (begin (getD n 0 0) (read (getD n 1 0))))
 body forms swapping n = close >> pure (act (begin (getD n 0 0) (swap (getD n 1 0) (getD n 2 0) (getD n 3 0))))
 body forms stepping n = close >> pure (act (step (getD n 0 0)))
+body forms dropping n = close >> pure (act (drop (getD n 0 0)))
 body forms repeating n = forms >>= λ l. pure (again (getD n 0 0) l)
 
 abbrev pub list : Reader Form → Reader Forms

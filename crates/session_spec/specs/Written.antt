@@ -3,7 +3,7 @@ use mathlib.Core.List.{List, [], _∷_, _++_}
 use Prim.Native.Nat.{ℕ}
 use Rattle.text.specs.Bytes.{bytes, decimal}
 use Rattle.text.specs.Lines.{numbers}
-use Rattle.history_spec.specs.History.{read, swap, Action, begin, step}
+use Rattle.history_spec.specs.History.{read, swap, Action, begin, step, drop}
 use Rattle.session_spec.specs.Session.{Opening, Form, act, again, Forms, empty, with}
 
 -- a form without its last bracket: word and numbers
@@ -11,6 +11,7 @@ abbrev pub actionStart : Action → List ℕ
 actionStart (begin t (read k)) = bytes "(read" ++ numbers (t ∷ k ∷ [])
 actionStart (begin t (swap k e n)) = bytes "(swap" ++ numbers (t ∷ k ∷ e ∷ n ∷ [])
 actionStart (step t) = bytes "(step" ++ numbers (t ∷ [])
+actionStart (drop t) = bytes "(drop" ++ numbers (t ∷ [])
 
 -- forms in a list stand each after a space
 unfoldable mutual
