@@ -12,7 +12,7 @@ use Rattle.text.specs.Answers.{PlaceIs}
 use Rattle.text.proofs.Several.{stored-rest}
 use Rattle.text.specs.declared.Place.{Place}
 use Rattle.text.specs.declared.Place.the-variants as place
-use Rattle.session_spec.specs.Session.{FormKind, reading, swapping, stepping, repeating, arity, keyword, head, item, severalItems, values, readOpening}
+use Rattle.session_spec.specs.Session.{FormKind, reading, swapping, stepping, dropping, repeating, arity, keyword, head, item, severalItems, values, readOpening}
 use Rattle.session_reader.specs.Answers.{formNumber, KeywordIs, ValuesAre, Led, LeadIs}
 use Rattle.session_reader.specs.declared.reading.Word.{Word}
 use Rattle.session_reader.specs.declared.reading.Word.the-variants as key
@@ -36,6 +36,7 @@ pub few-numbers : (k : FormKind) → (1 ≤ arity k) × (arity k ≤ 4)
 few-numbers reading = (omega arith, omega arith)
 few-numbers swapping = (omega arith, omega arith)
 few-numbers stepping = (omega arith, omega arith)
+few-numbers dropping = (omega arith, omega arith)
 few-numbers repeating = (omega arith, omega arith)
 
 -- behind a form's numbers the buffer is as it was

@@ -3,11 +3,12 @@ use mathlib.Core.Path.{_≡_, refl, sym, ap, _∙_}
 use mathlib.Core.List.{List, [], _∷_, _++_, map, append-assoc, append-nil}
 use Prim.Native.Nat.{ℕ, zero, suc, _+_, _*_, _≤_}
 use native.Mathlib.Omega.{arith}
-use lib.ListN.{length, take, drop, length-append, length-drop, List·getD-append}
+use lib.ListN as list
+use lib.ListN.{length, take, length-append, length-drop, List·getD-append}
 use lib.Seq.{drop-append-le, take-append-le, getD-at, drop-append-add, take-at}
 use Rattle.session_spec.specs.Session.{Form, act, again, Forms, empty, with, times, actions, actionsOf, counts}
 use Rattle.session_spec.proofs.LinesBack.{counts-length}
-use Rattle.history_spec.specs.History.{Action, read, swap, step, begin}
+use Rattle.history_spec.specs.History.{Action, read, swap, step, drop, begin}
 use Rattle.session_reader.specs.Reading.{actAt}
 use Rattle.session_reader.specs.Kept.{FormNumbers}
 use Rattle.session_reader.specs.Tables.{wordsOf, tableOf, done, doneOf, formNames, formNamesOf, over}
@@ -20,6 +21,7 @@ length-table [] = refl
 length-table (begin t (read c) ∷ l) = omega (arith, length-table l)
 length-table (begin t (swap c e n) ∷ l) = omega (arith, length-table l)
 length-table (step t ∷ l) = omega (arith, length-table l)
+length-table (drop t ∷ l) = omega (arith, length-table l)
 
 pub table-append : (k l : List Action) → tableOf (k ++ l) ≡ tableOf k ++ tableOf l
 unfolding tableOf
@@ -62,7 +64,7 @@ actAt-grown : (table more : List ℕ) (i : ℕ) → 5 * i + 5 ≤ length table �
 unfolding actAt
 actAt-grown table more i h =
     let d = drop-append-le (5 * i + 1) table more (omega arith) in
-    let t = take-append-le 4 (drop (5 * i + 1) table) more (omega (arith, length-drop (5 * i + 1) table)) in
+    let t = take-append-le 4 (list.drop (5 * i + 1) table) more (omega (arith, length-drop (5 * i + 1) table)) in
     rw (List·getD-append table more 0 (5 * i) (omega arith), d, t)
 
 denotes-grown : {table w : List ℕ} {l : List Action} (more : List ℕ) → Denotes table w l → Denotes (table ++ more) w l
@@ -83,6 +85,7 @@ module _ (P : List ℕ) (n : ℕ) (p : length P ≡ 5 * n) where
   words-denoted (begin t (read c)) = one-denoted {i = n} (omega (arith, p, length-append P (wordsOf (begin t (read c))))) (made 1 _) none-denoted
   words-denoted (begin t (swap c e m)) = one-denoted {i = n} (omega (arith, p, length-append P (wordsOf (begin t (swap c e m))))) (made 2 _) none-denoted
   words-denoted (step t) = one-denoted {i = n} (omega (arith, p, length-append P (wordsOf (step t)))) (made 3 _) none-denoted
+  words-denoted (drop t) = one-denoted {i = n} (omega (arith, p, length-append P (wordsOf (drop t)))) (made 4 _) none-denoted
 
 -- THE NAMES OF FORMS
 
@@ -113,5 +116,5 @@ module _ (l : Forms) where
 
   pub kept-actions : (F A : List ℕ) (n : ℕ) → n ≡ counts l → (map (actAt (over table F)) (take n (over (formNamesOf 0 l) A)) ≡ actionsOf l) × FormNumbers (length (over table F)) (take n (over (formNamesOf 0 l) A))
   kept-actions F A n e =
-      let x = denotes-grown (drop (length table) F) (forms-denoted l [] 0 refl) in
-      rw (take-at (formNamesOf 0 l) (drop (length (formNamesOf 0 l)) A) n (length-names ∙ sym e)) (denotes-actions x, denotes-named x)
+      let x = denotes-grown (list.drop (length table) F) (forms-denoted l [] 0 refl) in
+      rw (take-at (formNamesOf 0 l) (list.drop (length (formNamesOf 0 l)) A) n (length-names ∙ sym e)) (denotes-actions x, denotes-named x)

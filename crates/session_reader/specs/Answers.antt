@@ -10,7 +10,7 @@ use Rattle.text.specs.Bytes.{bytes}
 use Rattle.text.specs.Readers.{Reader, Reads, literal}
 use Rattle.text.specs.declared.Place.{Place}
 use Rattle.text.specs.declared.Place.the-variants as place
-use Rattle.session_spec.specs.Session.{FormKind, reading, swapping, stepping, repeating, severalItems, values, readOpening, keyword, arity, head, Form, Forms, counts, lines}
+use Rattle.session_spec.specs.Session.{FormKind, reading, swapping, stepping, dropping, repeating, severalItems, values, readOpening, keyword, arity, head, Form, Forms, counts, lines}
 use Rattle.session_reader.specs.Tables.{tableOf, done, doneOf, formNames, formNamesOf, over, wiped}
 use Rattle.session_reader.specs.declared.reading.ValuesRead.{ValuesRead}
 use Rattle.session_reader.specs.declared.reading.ValuesRead.the-variants as valuesRead
@@ -50,7 +50,8 @@ abbrev pub formNumber : FormKind → ℕ
 formNumber reading = 1
 formNumber swapping = 2
 formNumber stepping = 3
-formNumber repeating = 4
+formNumber dropping = 4
+formNumber repeating = 0
 
 abbrev pub KeywordIs : List ℕ → ℕ → Word → Type 0
 KeywordIs s at word.Unknown = keyword (drop at s) ≡ none

@@ -4,8 +4,9 @@ use mathlib.Core.List.{List, [], _∷_, _++_}
 use mathlib.Core.Option.{Option, none, some}
 use Prim.Native.Nat.{ℕ, zero, suc, _+_}
 use lib.Dec.{leb}
-use lib.ListN.{length, drop, replicate}
-use Rattle.history_spec.specs.History.{Action, read, swap, step, begin}
+use lib.ListN as list
+use lib.ListN.{length, replicate}
+use Rattle.history_spec.specs.History.{Action, read, swap, step, drop, begin}
 use Rattle.session_spec.specs.Shape.{shaped}
 use Rattle.session_spec.specs.Session.{Opening, Form, act, again, Forms, empty, with, times, counts, short, formed}
 use Rattle.session_reader.specs.Reading.{sized}
@@ -15,6 +16,7 @@ abbrev pub wordsOf : Action → List ℕ
 wordsOf (begin t (read c)) = 1 ∷ t ∷ c ∷ 0 ∷ 0 ∷ []
 wordsOf (begin t (swap c e n)) = 2 ∷ t ∷ c ∷ e ∷ n ∷ []
 wordsOf (step t) = 3 ∷ t ∷ 0 ∷ 0 ∷ 0 ∷ []
+wordsOf (drop t) = 4 ∷ t ∷ 0 ∷ 0 ∷ 0 ∷ []
 
 unfoldable pub tableOf : List Action → List ℕ
 tableOf [] = []
@@ -44,7 +46,7 @@ unfoldable mutual
 
 -- words written over the start of a buffer
 abbrev pub over : List ℕ → List ℕ → List ℕ
-over l b = l ++ drop (length l) b
+over l b = l ++ list.drop (length l) b
 
 -- all of it set to 0
 abbrev pub wiped : List ℕ → List ℕ

@@ -13,6 +13,9 @@ ghost use Rattle.text.specs.Append.{Appended};
 ghost use Rattle.session_spec.specs.Session.{times, form as «formOf», list as «listOf», readLine, lines as «linesOf»};
 ghost use Rattle.session_reader.specs.Answers.{KeywordIs, HeadIs, kept, Stands, KeptIs, HasRoom, ofForm, ofForms, GotIs, RestIs};
 
+// The kind of the form that has forms of its own; actions are numbered from 1 on.
+const AGAIN: u32 = 0;
+
 fn keyword(s: &[u8], at: usize) -> Word
     requires { ⌜ at ≤ length (now s) ⌝ }
     ensures { λ r. ⌜ KeywordIs (now (s .entry)) at r ⌝ }
@@ -29,9 +32,13 @@ fn keyword(s: &[u8], at: usize) -> Word
     if let Place::At(next) = step {
         return Word::Known(3, 1, next);
     }
+    let drop = text::readers::starts_with(s, at, b"(drop");
+    if let Place::At(next) = drop {
+        return Word::Known(4, 1, next);
+    }
     let again = text::readers::starts_with(s, at, b"(again");
     if let Place::At(next) = again {
-        return Word::Known(4, 1, next);
+        return Word::Known(AGAIN, 1, next);
     }
     Word::Unknown
 }
@@ -121,7 +128,7 @@ fn form(
     let HeadRead::Known(kind, a) = start else {
         return Got::Bad;
     };
-    if kind == 4 {
+    if kind == AGAIN {
         // Of forms that stand no times nothing is kept: they are read with no room for an action.
         if numbers[0] == 0 {
             let none = list(s, a, depth - 1, forms, f, &mut actions[..n], n);

@@ -193,7 +193,7 @@ module _ (t : ℕ) where
       let x = head-read (c .before .before .before .before .before .before .before .before .before .before .before .before .before .before) in
       let y = end-read (c .before .before .before .before .before .before .before .before .before) in
       let k = c .before .before .before .before .keep in
-      let other : formNumber (x .0) ≡ 4 → ⊥ = λ e. c .before .before .before .before .before .before .before .before .before .before .before .before .if2 .left (x .1 ∙ e) in
+      let other : formNumber (x .0) ≡ 0 → ⊥ = λ e. c .before .before .before .before .before .before .before .before .before .before .before .before .if2 .left (x .1 ∙ e) in
       let out = c .before .before .before .before .before .before .before .before .before .before .before .before .before .before .before .before .before .head .last .1 .1 .0 in
       let kind = c .before .before .before .before .before .before .before .before .before .before .before .before .before .before .start .given .0 .0 in
       let whole = act-at a.s.now a.at a.depth (c .before .before .before .before .before .before .before .before .before .before .before .before .before .before .before .before .before .before .before .if1 .left) _ (x .2) other y in
