@@ -2,7 +2,7 @@
 use mathlib.Core.Bool.{Bool, true, false}
 use Prim.Native.Nat.{ℕ}
 use Rattle.history_spec.specs.History as History
-use Rattle.history_spec.specs.History.{read, swap, begin, step}
+use Rattle.history_spec.specs.History.{read, swap, begin, step, drop}
 use Rattle.cells_spec.specs.declared.Action.{Action}
 use Rattle.cells_spec.specs.declared.Action.the-variants as action
 use Rattle.cells_spec.specs.declared.Outcome.{Outcome}
@@ -45,3 +45,4 @@ abbrev pub actOf : Action → History.Action
 actOf (action.Read t k) = begin t (read k)
 actOf (action.Swap t k e n) = begin t (swap k e n)
 actOf (action.Step t) = step t
+actOf (action.Drop t) = drop t

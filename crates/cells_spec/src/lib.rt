@@ -37,11 +37,12 @@ pub enum Found {
     Nowhere,
 }
 
-// What a list of actions is made of: a task begins a read or a swap, or takes a step.
+// What a list of actions is made of: a task begins a read or a swap, takes a step, or is dropped.
 pub enum Action {
     Read(u32, u32),
     Swap(u32, u32, u32, u32),
     Step(u32),
+    Drop(u32),
 }
 
 // What an entry answers: the number of the first question answered no; that it acted; that it acted and

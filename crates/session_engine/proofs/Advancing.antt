@@ -1,4 +1,4 @@
--- One action in place is the action: begins and steps of a fit state whose parts are lent one by one.
+-- One action in place is the action: begins, steps and drops of a fit state whose parts are lent one by one.
 use mathlib.Core.Path.{_≡_, refl, sym, ap, subst, _∙_}
 use mathlib.Core.Logic.{_⊎_, inl, inr}
 use mathlib.Core.Bool.{Bool, true, false, _&&_, _||_, not, cond, false≢true}
@@ -10,7 +10,7 @@ use lib.ListN.{length, getD, set}
 use native.Mathlib.Omega.{arith}
 use borrow.Author.Tests.{lt-ltb, le-ltb, ltb-true, ne-eqb}
 use Rattle.figure_lines.specs.declared.Record.{Record}
-use Rattle.figure_lines.specs.Record.{recordAt}
+use Rattle.figure_lines.specs.Record.{idle, recordAt}
 use Rattle.cells_spec.specs.Memory.{There}
 use Rattle.cells_spec.specs.Words.{recordsOf}
 use Rattle.cells_spec.specs.declared.State.{State}
@@ -22,9 +22,11 @@ use Rattle.cells_spec.specs.Blocks.{unused, isFound}
 use Rattle.cells_spec.specs.Answers.{Refused, Acted}
 use Rattle.cells_spec.specs.Open.{leaving, unless}
 use Rattle.cells_spec.specs.Begin.{started, begun}
-use Rattle.cells_spec.specs.StoredCounts.{recounted, Countable}
+use Rattle.cells_spec.specs.Drop.{dropAsks, dropped}
+use Rattle.cells_spec.specs.StoredCounts.{recounted, released, Named, Countable}
 use Rattle.cells_spec.specs.Step.{putBack, stepped}
 use Rattle.cells_spec.specs.Turn.{Turned, turn, Ready}
+use Rattle.cells_spec.proofs.Dropping.{its-names}
 use Rattle.cells_spec.proofs.Stepping.{Free, Acting, same-20, own-acting}
 use Rattle.session_engine.specs.Places.{stateOf, renames}
 use Rattle.session_engine.proofs.Placing.{records-length}
@@ -69,6 +71,30 @@ module _ (n v b l : ℕ) (c w k p : List ℕ) (fits : fit (stateOf n v b l c w k
       pub begin-acts : m ≡ 0 → (w′ : List ℕ) → recordsOf 32 w′ ≡ set (recordsOf 32 w) t q → leaving (stateOf n v b l c w′ k) p Acted ≡ begun s p t q
       unfolding begun
       begin-acts z w′ e = rw (fits, e) (sym (ap (λ (o : Option ℕ). unless o s p (started s p t q)) (same ∙ is-allowed (asked r) m em z refl)))
+
+    -- A DROP
+
+    pub drop-nowhere : n ≤ t → leaving s p (Refused 7) ≡ dropped s p t
+    unfolding dropped
+    drop-nowhere h = rw (fits, le-ltb t n h)
+
+    module _ (own : t < n) (r : Record) (er : r ≡ at) where
+      at-line : at .line ≡ r .line
+      at-line = ap (λ (x : Record). x .line) (sym er)
+
+      pub drop-idle : r .line ≡ 0 → leaving s p (Refused 11) ≡ dropped s p t
+      unfolding dropped
+      drop-idle z = rw (fits, lt-ltb t n own, at-line, z)
+
+      granted : (r .line ≡ 0 → ⊥) → refusal (dropAsks s p t) ≡ none
+      granted busy = rw (fits, lt-ltb t n own, at-line, ne-eqb (r .line) 0 busy)
+
+      pub drop-names : (r .line ≡ 0 → ⊥) → length c ≡ 16 → length k ≡ 128 → Named k r
+      drop-names busy ec ek = subst (Named k) (sym er) (its-names s p t (granted busy) (ec, records-length 32 w, ek))
+
+      pub drop-done : (r .line ≡ 0 → ⊥) → (w′ k′ : List ℕ) → recordsOf 32 w′ ≡ set (recordsOf 32 w) t idle → k′ ≡ released k r → leaving (stateOf n v b l c w′ k′) p Acted ≡ dropped s p t
+      unfolding dropped
+      drop-done busy w′ k′ ew ek = rw (ew, ek, granted busy, er)
 
     -- A STEP
 

@@ -18,7 +18,8 @@ pub fn action_at(forms: &[u32], f: u32) -> Action
     match kind {
         1 => Action::Read(task, forms[at + 2]),
         2 => Action::Swap(task, forms[at + 2], forms[at + 3], forms[at + 4]),
-        _ => Action::Step(task),
+        3 => Action::Step(task),
+        _ => Action::Drop(task),
     }
 }
 
@@ -29,5 +30,6 @@ pub fn task_of(a: Action) -> u32
         Action::Read(t, _) => t,
         Action::Swap(t, _, _, _) => t,
         Action::Step(t) => t,
+        Action::Drop(t) => t,
     }
 }

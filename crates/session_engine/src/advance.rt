@@ -2,6 +2,7 @@
 // session runner, and for the tools that run the same actions. Of a fit state, so question 6 is not asked: what an opening left stays fit.
 use crate::moves::move_on;
 use crate::places::Advanced;
+use cells::recounting::release;
 use cells_questions::refusals::begin_refusal;
 use cells_spec::Action;
 use cells_spec::Outcome;
@@ -12,6 +13,7 @@ use cells_step::words::record_of;
 use figure_lines::Record;
 use figure_lines::records::first_read;
 use figure_lines::records::first_swap;
+use figure_lines::records::idle;
 ghost use mathlib.Core.Path.{_≡_};
 ghost use mathlib.Core.Bool.{true};
 ghost use mathlib.Core.List.{List};
@@ -21,9 +23,10 @@ ghost use Rattle.cells_spec.specs.Questions.{fit};
 ghost use Rattle.cells_spec.specs.Answers.{said, Refused, actOf};
 ghost use Rattle.cells_spec.specs.Open.{leaving};
 ghost use Rattle.cells_spec.specs.Begin.{begun};
+ghost use Rattle.cells_spec.specs.Drop.{dropped};
 ghost use Rattle.cells_spec.specs.Machine.{does};
 ghost use Rattle.cells_spec.specs.Step.{stepped};
-ghost use Rattle.session_engine.specs.Places.{stateOf};
+ghost use Rattle.session_engine.specs.Places.{stateOf, Fits};
 
 pub fn advance(
     pool: &mut [u32],
@@ -49,6 +52,10 @@ pub fn advance(
             Advanced { last, outcome }
         }
         Action::Step(task) => step(pool, records, current, counts, tasks, blocks, last, task),
+        Action::Drop(task) => {
+            let outcome = withdraw(records, counts, tasks, task);
+            Advanced { last, outcome }
+        }
     }
 }
 
@@ -118,5 +125,24 @@ fn begin(records: &mut [u32], tasks: u32, cells: u32, task: u32, q: Record) -> O
         return Outcome::Refused(n);
     }
     put(&mut records[from..to], q);
+    Outcome::Acted
+}
+
+// The task's call is withdrawn: its record is idle, its blocks are released.
+fn withdraw(records: &mut [u32], counts: &mut [u8; 128], tasks: u32, task: u32) -> Outcome
+    requires { ⌜ (length (now records) ≡ 384) × (length (now counts) ≡ 128) × Fits tasks (now records) (now counts) ⌝ }
+    ensures { λ o. ⌜ ((v b l : ℕ) (c p : List ℕ) → fit (stateOf tasks v b l c (now (records .entry)) (now (counts .entry))) p ≡ true → leaving (stateOf tasks v b l c (now (records .exit)) (now (counts .exit))) p (said o) ≡ dropped (stateOf tasks v b l c (now (records .entry)) (now (counts .entry))) p task) ⌝ }
+{
+    if tasks <= task {
+        return Outcome::Refused(7);
+    }
+    let from = 12 * task as usize;
+    let to = from + 12;
+    let r = record_of(&records[from..to]);
+    if r.line == 0 {
+        return Outcome::Refused(11);
+    }
+    put(&mut records[from..to], idle());
+    release(counts, r);
     Outcome::Acted
 }
