@@ -4,7 +4,7 @@ use mathlib.Core.Option.{Option, none, some}
 use mathlib.Core.List.{List, [], _∷_, map, reverse, reverseAux, reverse-reverse}
 use Prim.Native.Nat.{ℕ}
 use Rattle.history_spec.specs.Basics.{upd}
-use Rattle.history_spec.specs.History.{Op, Action, begin, step, Attempt, Report, Event, refused, accepted, answered, Call, FinishedCall, Calls, noCalls, called, advanced, closed, passed, enter, enterAll, callsOf, IsBusy, WellFormed}
+use Rattle.history_spec.specs.History.{Op, Action, begin, step, drop, Attempt, Report, Event, refused, accepted, answered, Call, FinishedCall, Calls, noCalls, called, advanced, closed, passed, enter, enterAll, callsOf, IsBusy, WellFormed}
 use Rattle.history_spec.proofs.Basics.{upd-cases}
 use Rattle.figure.specs.Traces.{Traced, finishedReport, tracedReport}
 use Rattle.bus_spec.specs.Bus.{finishedCalls}
@@ -39,6 +39,8 @@ all-finished size ((step t, accepted x) ∷ h) b own w = all-finished size h (en
 all-finished size ((step t, answered x r) ∷ h) b own w =
     all-finished size h (enter b (step t) (answered x r)) (put b own t none tt) (w .1) ∙
     ap (reverseAux (finishedCalls h)) (closes b x r t (b .pending t) (own t) (w .0))
+all-finished size ((drop t, accepted x) ∷ h) b own w = all-finished size h (enter b (drop t) (accepted x)) (put b own t none tt) (w .1)
+all-finished size ((drop t, answered x r) ∷ h) b own w = absurd (w .0)
 
 -- the history's calls, which have the last one first
 pub finished-calls : (size : ℕ) (h : List (Action × Event)) → WellFormed size noCalls h → map taskAndReport (callsOf h .finished) ≡ reverse (finishedCalls h)

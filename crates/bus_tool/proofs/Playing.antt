@@ -6,7 +6,8 @@ use mathlib.Core.List.{List, [], _∷_, _++_, map, append-assoc}
 use Prim.Native.Nat.{ℕ, _+_, _≤_, _<_}
 use native.Mathlib.Omega.{arith}
 use lib.Dec.{eqb, ltb}
-use lib.ListN.{length, getD, set, drop, replicate, length-set, length-replicate, getD-replicate}
+use lib.ListN as list
+use lib.ListN.{length, getD, set, replicate, length-set, length-replicate, getD-replicate}
 use lib.Seq.{getD-set-same, getD-set-other}
 use borrow.Author.Tests.{ltb-true, eq-eqb, ne-eqb}
 use Rattle.figure_lines.specs.Basics.{ands}
@@ -18,10 +19,11 @@ use Rattle.cells_spec.proofs.Fits.{sizes}
 use Rattle.cells_spec.specs.Answers.{Said, Refused, Acted, Ended, acts}
 use Rattle.cells_spec.specs.Open.{After, leaving}
 use Rattle.cells_spec.specs.Step.{stepAsks}
+use Rattle.cells_spec.specs.Drop.{dropAsks}
 use Rattle.cells_spec.specs.Events.{reportOf, eventOf}
 use Rattle.cells_spec.specs.Machine.{does, triedBy, pool}
-use Rattle.cells_spec.proofs.Acts.{read-acts, swap-acts, step-acts}
-use Rattle.history_spec.specs.History.{read, swap, Action, begin, step, taskOf, Report, Attempt, untried, Event, refused, accepted, answered, history}
+use Rattle.cells_spec.proofs.Acts.{read-acts, swap-acts, step-acts, drop-acts}
+use Rattle.history_spec.specs.History.{read, swap, Action, begin, step, drop, taskOf, Report, Attempt, untried, Event, refused, accepted, answered, history}
 use Rattle.history_spec.proofs.Basics.{either}
 use Rattle.session_engine.proofs.Listed.{action-then, no-action as no-more}
 use Rattle.bus_spec.specs.Bus.{Times, shortTimes, finishedCalls, finishedCount, timed, timedFrom, Sums, noSums, addCall, addCalls, busCalls, callLine, callLines, allLine, callsText}
@@ -35,9 +37,10 @@ module _ (s : State) (p : List ℕ) where
   second f l t e = ltb-true t (s .tasks) (nth (answers ((6, f) ∷ (7, ltb t (s .tasks)) ∷ l)) e 1)
 
   task-below : (a : Action) → acts (does s p a .outcome) ≡ true → taskOf a < s .tasks
-  task-below (begin t (read k)) e = second (fit s p) (drop 1 (beginQuestions (s .tasks) (s .cells) (recordAt (s .records) t) t k)) t (sym (read-acts s p t k) ∙ e)
-  task-below (begin t (swap k x n)) e = second (fit s p) (drop 1 (swapQuestions (s .tasks) (s .cells) (recordAt (s .records) t) t k x n)) t (sym (swap-acts s p t k x n) ∙ e)
+  task-below (begin t (read k)) e = second (fit s p) (list.drop 1 (beginQuestions (s .tasks) (s .cells) (recordAt (s .records) t) t k)) t (sym (read-acts s p t k) ∙ e)
+  task-below (begin t (swap k x n)) e = second (fit s p) (list.drop 1 (swapQuestions (s .tasks) (s .cells) (recordAt (s .records) t) t k x n)) t (sym (swap-acts s p t k x n) ∙ e)
   task-below (step t) e = ltb-true t (s .tasks) (nth (answers (stepAsks s p t)) (sym (step-acts s p t) ∙ e) 1)
+  task-below (drop t) e = ltb-true t (s .tasks) (nth (answers (dropAsks s p t)) (sym (drop-acts s p t) ∙ e) 1)
 
 -- AFTER i ACTIONS: THE CALLS BEFORE, COUNTED AND SUMMED
 
@@ -117,12 +120,12 @@ module _ {i : ℕ} {l : List ℕ} {z : Sums} {before : List (ℕ × Report)} (c 
 
   pub one-action : (f : ℕ → Action) (kept : List ℕ) {z′ : Sums} {s′ : State} {p′ : List ℕ} {o : Said} {a : Action} → i < length kept → a ≡ f (getD kept i 0) → leaving s′ p′ o ≡ does s p a
       → EndsWithin l a (eventOf untried o) → let e = eventOf untried o in let x = added w l z a e in z′ ≡ x .sums →
-      busOn w before z (s, p) (drop i (map f kept)) ≡ x .text ++ busOn w (finishedCalls ((a, e) ∷ []) ++ before) z′ (s′, p′) (drop (i + 1) (map f kept))
+      busOn w before z (s, p) (list.drop i (map f kept)) ≡ x .text ++ busOn w (finishedCalls ((a, e) ∷ []) ++ before) z′ (s′, p′) (list.drop (i + 1) (map f kept))
   one-action f kept {a = a} h ea ed k ez =
-      let rest = drop (i + 1) (map f kept) in
+      let rest = list.drop (i + 1) (map f kept) in
       rw (action-then f kept i h, ← ea, ez) (first a rest (subst (λ (y : After). EndsWithin l a (eventOf untried (y .outcome))) ed k) ∙ ap (prints a rest) (sym ed))
 
-pub no-action : (w : Times) (before : List (ℕ × Report)) (z : Sums) (s : State) (p : List ℕ) (f : ℕ → Action) (l : List ℕ) (i : ℕ) → length l ≤ i → busOn w before z (s, p) (drop i (map f l)) ≡ allLine z (z .longest)
+pub no-action : (w : Times) (before : List (ℕ × Report)) (z : Sums) (s : State) (p : List ℕ) (f : ℕ → Action) (l : List ℕ) (i : ℕ) → length l ≤ i → busOn w before z (s, p) (list.drop i (map f l)) ≡ allLine z (z .longest)
 unfolding busOn callLines
 no-action w before z s p f l i h = rw (no-more f l i h)
 

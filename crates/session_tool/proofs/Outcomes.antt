@@ -17,11 +17,12 @@ use Rattle.cells_spec.specs.Blocks.{unused}
 use Rattle.cells_spec.specs.Open.{After, unless}
 use Rattle.cells_spec.specs.Begin.{started, readBegun, swapBegun}
 use Rattle.cells_spec.specs.Step.{current, ran, stepAsks, stepped}
+use Rattle.cells_spec.specs.Drop.{dropAsks, callWithdrawn, dropped}
 use Rattle.cells_spec.specs.Memory.{Touched, performed}
 use Rattle.cells_spec.specs.Turn.{ending, turn}
 use Rattle.cells_spec.proofs.Stepping.{Acting, own-acting}
 use Rattle.figure_cell.proofs.LineLaws.{every-line, Leads, goes, done as ends, leads}
-use Rattle.history_spec.specs.History.{read, swap, Action, begin, step, taskOf, untried}
+use Rattle.history_spec.specs.History.{read, swap, Action, begin, step, drop, taskOf, untried}
 use Rattle.cells_spec.specs.Events.{eventOf}
 use Rattle.cells_spec.specs.Machine.{does}
 use Rattle.session_spec.specs.Lines.{FewDigits}
@@ -57,7 +58,8 @@ module _ (t : ℕ) where
       turns p r (current s (r .cell)) (s .last) (unused s) (a .line) (omega (arith, a .task)) (omega (arith, a .cell)) (a .ready .steps) (a .ready .hard))
 
 pub small : (s : State) (p : List ℕ) (a : Action) → FewDigits (taskOf a) (eventOf untried (does s p a .outcome))
-unfolding readBegun swapBegun
+unfolding readBegun swapBegun dropped
 small s p (begin t (read k)) = asked t (refusal ((6, fit s p) ∷ beginQuestions (s .tasks) (s .cells) (recordAt (s .records) t) t k)) s p (started s p t (firstRead k)) (λ _. tt)
 small s p (begin t (swap k e n)) = asked t (refusal ((6, fit s p) ∷ swapQuestions (s .tasks) (s .cells) (recordAt (s .records) t) t k e n)) s p (started s p t (firstSwap k e n)) (λ _. tt)
 small s p (step t) = steps t s p
+small s p (drop t) = asked t (refusal (dropAsks s p t)) s p (callWithdrawn s p t) (λ _. tt)

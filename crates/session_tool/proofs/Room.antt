@@ -19,12 +19,13 @@ use Rattle.cells_spec.specs.Answers.{Said}
 use Rattle.cells_spec.specs.Open.{After, unless}
 use Rattle.cells_spec.specs.Begin.{started, readBegun, swapBegun}
 use Rattle.cells_spec.specs.Step.{current, ran, stepAsks, stepped}
+use Rattle.cells_spec.specs.Drop.{dropAsks, callWithdrawn, dropped}
 use Rattle.cells_spec.specs.Memory.{Touched, performed}
 use Rattle.cells_spec.specs.Turn.{ending, turn}
 use Rattle.cells_spec.specs.Events.{eventOf}
 use Rattle.cells_spec.specs.Machine.{does}
 use Rattle.cells_spec.proofs.Stepping.{Acting, own-acting}
-use Rattle.history_spec.specs.History.{read, swap, Action, begin, step, untried}
+use Rattle.history_spec.specs.History.{read, swap, Action, begin, step, drop, untried}
 use Rattle.session_spec.specs.Lines.{eventLine}
 use Rattle.session_tool.proofs.Lengths.{no-length}
 
@@ -120,8 +121,14 @@ module _ (i t : ℕ) (h : i < 100000) where
       let busy : r .line ≡ 0 → ⊥ = λ e. let z : _≡_ {A = Bool} false true = rw e at (a .line) in let y : _≡_ {A = ℕ} 0 1 = cc in omega arith in
       λ z. omega (arith, turns p k r (current s (r .cell)) (s .last) (unused s) busy z, weights-set (s .records) k (u .record)))
 
+  -- what a withdrawn call had put by is not needed
+  drops : (s : State) (p : List ℕ) (k : ℕ) → Paid s (dropped s p k)
+  unfolding dropped eventLine
+  drops s p k = asked (dropAsks s p k) s p (callWithdrawn s p k) refl (λ _ _. omega (arith, weights-set (s .records) k idle))
+
   pub paid : (s : State) (p : List ℕ) (a : Action) → Paid s (does s p a)
   unfolding readBegun swapBegun
   paid s p (begin k (read c)) = asked ((6, fit s p) ∷ beginQuestions (s .tasks) (s .cells) (recordAt (s .records) k) k c) s p (started s p k (firstRead c)) refl (λ _. begins s p k (firstRead c) (omega arith))
   paid s p (begin k (swap c e n)) = asked ((6, fit s p) ∷ swapQuestions (s .tasks) (s .cells) (recordAt (s .records) k) k c e n) s p (started s p k (firstSwap c e n)) refl (λ _. begins s p k (firstSwap c e n) (first-swap c e n))
   paid s p (step k) = steps s p k
+  paid s p (drop k) = drops s p k

@@ -8,7 +8,7 @@ use lib.ListN.{length, replicate, length-append}
 use Rattle.text.specs.Bytes.{bytes, digits}
 use Rattle.text.specs.Lines.{numbers}
 use Rattle.text.proofs.Spaced.{numbers-3}
-use Rattle.history_spec.specs.History.{read, swap, Action, begin, step}
+use Rattle.history_spec.specs.History.{read, swap, Action, begin, step, drop}
 use Rattle.cells_spec.specs.Questions.{refusal}
 use Rattle.cells_spec.specs.Machine.{Pool, pool}
 use Rattle.session_spec.specs.Session.{act, session, verdict}
@@ -29,6 +29,7 @@ small : (a : Action) → Short a → Small (numbersOf a)
 small (begin t (read k)) h = (omega (arith, h .0), (omega (arith, h .1), tt))
 small (begin t (swap k e n)) h = (omega (arith, h .0), (omega (arith, h .1), (omega (arith, h .2), (omega (arith, h .3), tt))))
 small (step t) h = (omega (arith, h), tt)
+small (drop t) h = (omega (arith, h), tt)
 
 pub drawn-count : (n v k g : ℕ) (x : Pool) → length (drawnActions n v k g x) ≡ k
 unfolding drawnActions

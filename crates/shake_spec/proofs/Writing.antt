@@ -12,7 +12,7 @@ use Rattle.text.specs.Lines.{line}
 use Rattle.text.specs.Append.{Appended}
 use Rattle.text.proofs.Decimal.{decimal-short}
 use Rattle.text.proofs.Spaced.{decimal-32, numbers-length, none-length, line-length}
-use Rattle.history_spec.specs.History.{read, swap, Action, begin, step, run}
+use Rattle.history_spec.specs.History.{read, swap, Action, begin, step, drop, run}
 use Rattle.figure_lines.specs.Record.{isIdle, recordAt}
 use Rattle.cells_spec.specs.declared.State.{State}
 use Rattle.cells_spec.specs.Machine.{Pool, pool}
@@ -24,8 +24,9 @@ use Rattle.shake_spec.specs.Actions.{drawnActions, Short}
 
 -- ROOM FOR ANY NUMBERS OF 32 BITS
 
-pub step-room : (t : ℕ) → t ≤ 4294967295 → length (line (bytes "(step") (t ∷ [])) ≤ 51
-step-room t h = omega (arith, line-length (bytes "(step") (t ∷ []), numbers-length t [], none-length, decimal-32 t h)
+-- a word of five bytes and a task: a step, a drop
+pub task-room : (w : List ℕ) → length w ≡ 5 → (t : ℕ) → t ≤ 4294967295 → length (line w (t ∷ [])) ≤ 51
+task-room w e t h = omega (arith, line-length w (t ∷ []), numbers-length t [], none-length, decimal-32 t h)
 
 pub read-room : (t k : ℕ) → t ≤ 4294967295 → k ≤ 4294967295 → length (line (bytes "(read") (t ∷ k ∷ [])) ≤ 51
 read-room t k h i = omega (arith, line-length (bytes "(read") (t ∷ k ∷ []), numbers-length t (k ∷ []), numbers-length k [], none-length, decimal-32 t h, decimal-32 k i)
@@ -45,6 +46,7 @@ short-line (begin t (read k)) h = omega (arith, line-length (bytes "(read") (t �
 short-line (begin t (swap k e n)) h =
     omega (arith, line-length (bytes "(swap") (t ∷ k ∷ e ∷ n ∷ []), numbers-length t (k ∷ e ∷ n ∷ []), numbers-length k (e ∷ n ∷ []), numbers-length e (n ∷ []), numbers-length n [], none-length, decimal-short 1 t (h .0), decimal-short 1 k (h .1), decimal-short 0 e (h .2), decimal-short 0 n (h .3))
 short-line (step t) h = omega (arith, line-length (bytes "(step") (t ∷ []), numbers-length t [], none-length, decimal-short 1 t h)
+short-line (drop t) h = omega (arith, line-length (bytes "(drop") (t ∷ []), numbers-length t [], none-length, decimal-short 1 t h)
 
 pub written-short : (a : Action) → Short a → length (formLine (act a)) ≤ 17
 written-short a h = rw (← (as-line a)) (short-line a h)

@@ -2,7 +2,7 @@
 use mathlib.Core.List.{List, [], _∷_}
 use Prim.Native.Nat.{ℕ, zero, suc, _<_}
 use lib.ListN.{replicate}
-use Rattle.history_spec.specs.History.{read, swap, Action, begin, step}
+use Rattle.history_spec.specs.History.{read, swap, Action, begin, step, drop}
 use Rattle.cells_spec.specs.Machine.{Pool, pool}
 use Rattle.session_spec.specs.Session.{Opening}
 use Rattle.session_spec.specs.Tools.{leftBy}
@@ -27,3 +27,4 @@ abbrev pub Short : Action → Type 0
 Short (begin t (read k)) = (t < 100) × (k < 100)
 Short (begin t (swap k e n)) = (t < 100) × (k < 100) × (e < 10) × (n < 10)
 Short (step t) = t < 100
+Short (drop t) = t < 100

@@ -28,6 +28,7 @@ fn put_action(out: &mut [u8], at: usize, a: Action) -> usize
             put_line(out, at, b"(swap", &[wide(t), wide(k), wide(e), wide(n)])
         }
         Action::Step(t) => put_line(out, at, b"(step", &[wide(t)]),
+        Action::Drop(t) => put_line(out, at, b"(drop", &[wide(t)]),
     }
 }
 
@@ -45,6 +46,10 @@ fn act(s: State, pool: &mut [u32], a: Action) -> State
         }
         Action::Step(t) => {
             let r = cells::step(s, pool, t);
+            r.state
+        }
+        Action::Drop(t) => {
+            let r = cells::drop(s, pool, t);
             r.state
         }
     }

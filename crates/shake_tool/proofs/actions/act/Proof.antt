@@ -12,6 +12,9 @@ returns-2 c = rw (c .before .before .before .before .a2 .given .1) (moves (c .be
 returns-3 : tie.Need-returns-3
 returns-3 c = rw (c .before .before .before .before .before .before .a3 .given .1) (moves (c .before .before .before .step .ensures))
 
+returns-4 : tie.Need-returns-4
+returns-4 c = rw (c .before .before .before .before .a4 .given .1) (moves (c .before .drop .ensures))
+
 pub act-spec : {M : Type 1} → statement M
 act-spec =
     tie.close
@@ -23,8 +26,12 @@ act-spec =
     (λ c. search needs)
     (λ c κs. search needs)
     (λ c. search needs)
+    (λ c κs. search needs)
+    (λ c. search needs)
     returns
     (λ c. search needs)
     returns-2
     (λ c. search needs)
-    returns-3)
+    returns-3
+    (λ c. search needs)
+    returns-4)

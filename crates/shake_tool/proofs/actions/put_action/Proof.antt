@@ -1,6 +1,8 @@
+use mathlib.Core.Path.{refl}
 use native.Mathlib.Omega.{arith}
-use Rattle.history_spec.specs.History.{read, swap, begin, step}
-use Rattle.shake_spec.proofs.Writing.{step-room, read-room, swap-room, puts}
+use Rattle.text.specs.Bytes.{bytes}
+use Rattle.history_spec.specs.History.{read, swap, begin, step, drop}
+use Rattle.shake_spec.proofs.Writing.{task-room, read-room, swap-room, puts}
 use borrow.Author.Needs.{needs}
 use Rattle.shake_tool.proofs.actions.put_action.Statement.{statement}
 use Rattle.shake_tool.proofs.actions.put_action.Tie as tie
@@ -17,7 +19,10 @@ put-line-requires-2 c κs =
     omega (arith, swap-room (w3 .result) (w4 .result) (w5 .result) (w6 .result) (w3 .ensures .1) (w4 .ensures .1) (w5 .ensures .1) (w6 .ensures .1))
 
 put-line-requires-3 : tie.Need-put-line-requires-3
-put-line-requires-3 c κs = let w = c .before .wide7 in omega (arith, step-room (w .result) (w .ensures .1))
+put-line-requires-3 c κs = let w = c .before .wide7 in omega (arith, task-room (bytes "(step") refl (w .result) (w .ensures .1))
+
+put-line-requires-4 : tie.Need-put-line-requires-4
+put-line-requires-4 c κs = let w = c .before .wide8 in omega (arith, task-room (bytes "(drop") refl (w .result) (w .ensures .1))
 
 returns : tie.Need-returns
 returns c =
@@ -33,6 +38,11 @@ returns-3 : tie.Need-returns-3
 returns-3 c =
     let x = c .before .before .before .before .before .before .before .before .a3 .given in
     rw (x .1) (puts (step (x .0 .0)) (rw (← (c .before .before .before .before .wide7 .ensures .0)) (c .before .before .put-line3 .ensures)))
+
+returns-4 : tie.Need-returns-4
+returns-4 c =
+    let x = c .before .before .before .before .before .before .before .before .a4 .given in
+    rw (x .1) (puts (drop (x .0 .0)) (rw (← (c .before .before .before .before .wide8 .ensures .0)) (c .before .before .put-line4 .ensures)))
 
 pub put-action-spec : {M : Type 1} → statement M
 put-action-spec =
@@ -58,8 +68,15 @@ put-action-spec =
     (λ c. search needs)
     put-line-requires-3
     (λ c. search needs)
+    (λ c. search needs)
+    (λ c κs. search needs)
+    (λ c. search needs)
+    put-line-requires-4
+    (λ c. search needs)
     returns
     (λ c. search needs)
     returns-2
     (λ c. search needs)
-    returns-3)
+    returns-3
+    (λ c. search needs)
+    returns-4)
