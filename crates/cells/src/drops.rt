@@ -17,11 +17,12 @@ pub fn drop(mut s: State, pool: &[u32], task: u32) -> Reply
 {
     let t = task as usize;
     let fit = is_fit(s, pool);
+    let q = records::idle();
     // Only a task of a fit state has a record to ask about.
     let r = if fit & (task < s.tasks) {
         s.records[t]
     } else {
-        records::idle()
+        q
     };
     // It needs no block.
     let n = step_refusal(fit, s.tasks, r, task, true);
@@ -31,7 +32,7 @@ pub fn drop(mut s: State, pool: &[u32], task: u32) -> Reply
             outcome: Outcome::Refused(n),
         };
     }
-    s.records[t] = records::idle();
+    s.records[t] = q;
     release(&mut s.counts, r);
     Reply {
         state: s,

@@ -14,9 +14,12 @@ use Rattle.figure_lines.specs.Record.{idle, recordAt}
 use Rattle.cells_spec.specs.declared.State.{State}
 use Rattle.cells_spec.specs.Questions.{refusal, answers, fit, fitTests}
 use Rattle.cells_spec.proofs.Tests.{nth, within-true, yes-at}
-use Rattle.cells_spec.specs.StoredCounts.{Named}
-use Rattle.cells_spec.specs.Drop.{dropAsks}
-use Rattle.cells_spec.specs.Step.{current}
+use Rattle.cells_spec.specs.StoredCounts.{Named, released}
+use Rattle.cells_spec.specs.Drop.{dropAsks, dropped}
+use Rattle.cells_spec.specs.Step.{current, withCounts}
+use Rattle.cells_spec.specs.Answers.{Acted}
+use Rattle.cells_spec.specs.Open.{leaving}
+use Rattle.cells_spec.specs.Begin.{withRecord}
 use Rattle.cells_spec.proofs.CountsKept.{Arrays}
 use Rattle.cells_spec.proofs.Countable.{cell-block, countable-to}
 use Rattle.cells_spec.proofs.Recount.{old-named}
@@ -42,3 +45,8 @@ module _ (s : State) (p : List ℕ) (t : ℕ) (e : refusal (dropAsks s p t) ≡ 
       let one : 0 < s .cells = omega (arith, v .0) in
       old-named (s .counts) (recordAt (s .records) t) idle (current s 0) (current s 0)
       (countable-to s p (yes 0) t below 0 one a idle (current s 0) ((λ g. absurd (false≢true g)), λ g. absurd (false≢true g)) (cell-block s p (yes 0) 0 one))
+
+  -- what the task's record and the counts are then is what a drop leaves
+  pub drops : {q : Record} {k : List ℕ} → q ≡ idle → k ≡ released (s .counts) (recordAt (s .records) t) → leaving (withCounts (withRecord s t q) k) p Acted ≡ dropped s p t
+  unfolding dropped
+  drops h g = rw (h, g, e)
