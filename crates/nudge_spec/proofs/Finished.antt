@@ -9,7 +9,7 @@ use lib.Dec.{ltb}
 use native.Mathlib.Omega.{arith}
 use borrow.Author.Tests.{eq-eqb, ne-eqb, ltb-true, ltb-false}
 use Rattle.history_spec.specs.Basics.{_∈_}
-use Rattle.history_spec.specs.History.{Action, begin, step, taskOf, Response, Event, refused, accepted, answered, Call, FinishedCall, Calls, noCalls, advanced, closed, enter, enterAll, callsOf, history}
+use Rattle.history_spec.specs.History.{Action, begin, step, drop, taskOf, Response, Event, refused, accepted, answered, Call, FinishedCall, Calls, noCalls, advanced, closed, enter, enterAll, callsOf, history}
 use Rattle.history_spec.proofs.Basics.{clash}
 use Rattle.nudge_spec.specs.Exchange.{exchanged, movedTo, answerAt}
 use Rattle.nudge_spec.proofs.Ledger.{beginOf, begins, answers, begunAt, answering, ended, adding, entered-answers, entered-now, own-begin, begin-cases, ended-is, Early, early-start, early-next}
@@ -30,6 +30,8 @@ ending-cases b a (refused r) f i = inl i
 ending-cases b (begin t op) (accepted x) f i = inl i
 ending-cases b (begin t op) (answered x r) f i = inl i
 ending-cases b (step t) (accepted x) f i = inl i
+ending-cases b (drop t) (accepted x) f i = inl i
+ending-cases b (drop t) (answered x r) f i = inl i
 ending-cases b (step t) (answered x r) f i = go (b .pending t) i
   where
     go : (o : Option Call) → f ∈ closed (advanced b x o) r (b .finished) → (f ∈ b .finished) ⊎ ((answering (beginOf o) (r .answer) ≡ some (f .call .start .at, f .report .answer)) × (f .call .last ≡ b .now))
@@ -44,6 +46,8 @@ ended-closes n p (begin t op) (accepted x) y h = absurd (clash refl h)
 ended-closes n p (begin t op) (answered x r) y h = absurd (clash refl h)
 ended-closes n p (step t) (accepted x) y h = absurd (clash refl h)
 ended-closes n p (step t) (answered x r) y h = refl
+ended-closes n p (drop t) (accepted x) y h = refl
+ended-closes n p (drop t) (answered x r) y h = absurd (clash refl h)
 
 pub kept : (b : Calls) (a : Action) (e : Event) → Found b → (m : ℕ) (r : Response) → answers b m ≡ some r → answers (enter b a e) m ≡ some r
 kept b a e F m r h = entered-answers b a e m ∙ go (ended (begins b (taskOf a)) a e) refl

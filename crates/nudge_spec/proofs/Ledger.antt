@@ -9,7 +9,7 @@ use lib.Dec.{eqb}
 use native.Mathlib.Omega.{arith}
 use borrow.Author.Tests.{eq-eqb, ne-eqb}
 use Rattle.history_spec.specs.Basics.{upd}
-use Rattle.history_spec.specs.History.{Action, begin, step, taskOf, Response, Attempt, Event, refused, accepted, answered, Call, Calls, noCalls, called, advanced, closed, enter, enterAll}
+use Rattle.history_spec.specs.History.{Action, begin, step, drop, taskOf, Response, Attempt, Event, refused, accepted, answered, Call, Calls, noCalls, called, advanced, closed, enter, enterAll}
 use Rattle.history_spec.proofs.Basics.{either, upd-at, upd-same, upd-off, clash, some-inj}
 use Rattle.nudge_spec.specs.Exchange.{exchanged, movedTo, answerIn, answerAt}
 use Rattle.nudge_spec.proofs.Moved.{moved-first, moved-second, moved-other, moved-early, moved-late, moved-eqb}
@@ -36,8 +36,10 @@ begunAt n p (begin t op) (accepted x) = some n
 begunAt n p (begin t op) (answered x r) = p
 begunAt n p (step t) (accepted x) = p
 begunAt n p (step t) (answered x r) = none
+begunAt n p (drop t) (accepted x) = none
+begunAt n p (drop t) (answered x r) = p
 
--- the call that the entry ends, by its begin, and its answer
+-- the call that the entry ends with an answer, by its begin, and this answer; a drop ends its task's call without one
 abbrev pub answering : Option ℕ → Response → Option (ℕ × Response)
 answering none a = none
 answering (some k) a = some (k, a)
@@ -48,6 +50,8 @@ ended p (begin t op) (accepted x) = none
 ended p (begin t op) (answered x r) = none
 ended p (step t) (accepted x) = none
 ended p (step t) (answered x r) = answering p (r .answer)
+ended p (drop t) (accepted x) = none
+ended p (drop t) (answered x r) = none
 
 abbrev pub adding : Option (ℕ × Response) → Option Response → ℕ → Option Response
 adding none o m = o
@@ -77,12 +81,16 @@ entered-begins b (begin t op) (accepted x) s = upd-begin (b .pending) t (some (c
 entered-begins b (begin t op) (answered x r) s = upd-none (begins b) t s
 entered-begins b (step t) (accepted x) s = upd-begin (b .pending) t (advanced b x (b .pending t)) s ∙ ap (λ p. upd (begins b) t p s) (advanced-begin b (b .pending t) x)
 entered-begins b (step t) (answered x r) s = upd-begin (b .pending) t none s
+entered-begins b (drop t) (accepted x) s = upd-begin (b .pending) t none s
+entered-begins b (drop t) (answered x r) s = upd-none (begins b) t s
 
 pub entered-answers : (b : Calls) (a : Action) (e : Event) (m : ℕ) → answers (enter b a e) m ≡ adding (ended (begins b (taskOf a)) a e) (answers b m) m
 entered-answers b a (refused r) m = refl
 entered-answers b (begin t op) (accepted x) m = refl
 entered-answers b (begin t op) (answered x r) m = refl
 entered-answers b (step t) (accepted x) m = refl
+entered-answers b (drop t) (accepted x) m = refl
+entered-answers b (drop t) (answered x r) m = refl
 entered-answers b (step t) (answered x r) m = go (b .pending t)
   where
     go : (o : Option Call) → answerIn m (closed (advanced b x o) r (b .finished)) ≡ adding (answering (beginOf o) (r .answer)) (answers b m) m
@@ -95,6 +103,8 @@ entered-now b (begin t op) (accepted x) = refl
 entered-now b (begin t op) (answered x r) = refl
 entered-now b (step t) (accepted x) = refl
 entered-now b (step t) (answered x r) = refl
+entered-now b (drop t) (accepted x) = refl
+entered-now b (drop t) (answered x r) = refl
 
 pub own-begin : (b : Calls) (a : Action) (e : Event) → begins (enter b a e) (taskOf a) ≡ begunAt (b .now) (begins b (taskOf a)) a e
 own-begin b a e = entered-begins b a e (taskOf a) ∙ upd-same (begins b) (taskOf a) _
@@ -119,6 +129,8 @@ begun-cases n p (begin t op) (accepted x) k h = inr (some-inj refl h)
 begun-cases n p (begin t op) (answered x r) k h = inl h
 begun-cases n p (step t) (accepted x) k h = inl h
 begun-cases n p (step t) (answered x r) k h = absurd (clash refl h)
+begun-cases n p (drop t) (accepted x) k h = absurd (clash refl h)
+begun-cases n p (drop t) (answered x r) k h = inl h
 
 -- the same of any task: it was there, or the entry is the task's and it is now
 pub begin-cases : (b : Calls) (a : Action) (e : Event) (s k : ℕ) → begins (enter b a e) s ≡ some k → (begins b s ≡ some k) ⊎ ((s ≡ taskOf a) × (b .now ≡ k))
@@ -138,6 +150,8 @@ ended-is p a (refused n) k r h = absurd (clash refl h)
 ended-is p (begin t op) (accepted x) k r h = absurd (clash refl h)
 ended-is p (begin t op) (answered x z) k r h = absurd (clash refl h)
 ended-is p (step t) (accepted x) k r h = absurd (clash refl h)
+ended-is p (drop t) (accepted x) k r h = absurd (clash refl h)
+ended-is p (drop t) (answered x z) k r h = absurd (clash refl h)
 ended-is none (step t) (answered x z) k r h = absurd (clash refl h)
 ended-is (some j) (step t) (answered x z) k r h = ap some (ap (λ (y : ℕ × Response). y .0) (some-inj refl h))
 
@@ -184,6 +198,8 @@ module _ (b : Calls) (E : Early b) (a c : Action) (e f : Event) (two : taskOf a 
   own-later p (begin t op) (answered x r) l = unmoved p l
   own-later p (step t) (accepted x) l = unmoved p l
   own-later p (step t) (answered x r) l = refl
+  own-later p (drop t) (accepted x) l = refl
+  own-later p (drop t) (answered x r) l = unmoved p l
 
   own-sooner : (p : Option ℕ) (a : Action) (e : Event) → ((k : ℕ) → p ≡ some k → k < n) → begunAt n p a e ≡ moved n (begunAt (suc n) p a e)
   own-sooner p a (refused r) l = unmoved p l
@@ -191,6 +207,8 @@ module _ (b : Calls) (E : Early b) (a c : Action) (e f : Event) (two : taskOf a 
   own-sooner p (begin t op) (answered x r) l = unmoved p l
   own-sooner p (step t) (accepted x) l = unmoved p l
   own-sooner p (step t) (answered x r) l = refl
+  own-sooner p (drop t) (accepted x) l = refl
+  own-sooner p (drop t) (answered x r) l = unmoved p l
 
   -- no answer yet at either of the two moments
   old-answers : (m : ℕ) → answers b (movedTo n m) ≡ answers b m
@@ -255,12 +273,16 @@ begun-moved i n l p (begin t op) (accepted x) = ap some (sym (moved-late i n l))
 begun-moved i n l p (begin t op) (answered x r) = refl
 begun-moved i n l p (step t) (accepted x) = refl
 begun-moved i n l p (step t) (answered x r) = refl
+begun-moved i n l p (drop t) (accepted x) = refl
+begun-moved i n l p (drop t) (answered x r) = refl
 
 added-moved : (i : ℕ) (p : Option ℕ) (a : Action) (e : Event) (o : Option Response) (m : ℕ) → adding (ended (moved i p) a e) o (movedTo i m) ≡ adding (ended p a e) o m
 added-moved i p a (refused r) o m = refl
 added-moved i p (begin t op) (accepted x) o m = refl
 added-moved i p (begin t op) (answered x r) o m = refl
 added-moved i p (step t) (accepted x) o m = refl
+added-moved i p (drop t) (accepted x) o m = refl
+added-moved i p (drop t) (answered x r) o m = refl
 added-moved i none (step t) (answered x r) o m = refl
 added-moved i (some k) (step t) (answered x r) o m = ap (λ c. cond c (some (r .answer)) o) (moved-eqb i k m)
 

@@ -49,7 +49,7 @@ sameAnswer No (Value w) = false
 sameAnswer No Yes = false
 sameAnswer No No = true
 
--- a call that is not begun, or does not finish, has no answer
+-- a call that is not begun, or does not finish, has no answer; one that is withdrawn does not finish
 abbrev pub answersStill : Response → Option Response → Bool
 answersStill a none = false
 answersStill a (some b) = sameAnswer a b
