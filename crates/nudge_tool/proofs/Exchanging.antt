@@ -17,6 +17,7 @@ use Rattle.figure_lines.specs.declared.Record.{Record}
 use Rattle.figure_lines.specs.Record.{recordAt}
 use Rattle.cells_spec.specs.Machine.{Pool, pool}
 use Rattle.history_spec.specs.Basics.{_∈_}
+use Rattle.history_spec.specs.History as History
 use Rattle.history_spec.specs.History.{Action, begin, step, taskOf, Event, FinishedCall, Calls, noCalls, enter, enterAll, callsOf, history, run}
 use Rattle.history_spec.proofs.Basics.{either, clash, some-inj, history-append, enter-append}
 use Rattle.figure.specs.Figure.{World, figure, opening}
@@ -195,6 +196,7 @@ module _ (old : State) (words : List ℕ) (tasks cells blocks : ℕ) (values : L
 
     same-touch : (a : Action) → touchedBy (there i .0 .tasks) (recordAt (there i .0 .records)) a ≡ touches w a
     same-touch (begin t op) = refl
+    same-touch (History.drop t) = refl
     same-touch (step t) = rw (agrees .agree .sizes .same-tasks, agrees .agree .sizes .tasks-too) (go (ltb t tasks) refl)
       where
         touched : Record → Bool → Option ℕ

@@ -10,7 +10,7 @@ use native.Mathlib.Omega.{arith}
 use lib.Dec.{eqb, ltb}
 use borrow.Author.Tests.{eq-eqb, ne-eqb, ltb-true, ltb-false}
 use Rattle.history_spec.specs.Basics.{upd, _∈_}
-use Rattle.history_spec.specs.History.{Action, begin, step, taskOf, Response, Event, refused, accepted, answered, Call, FinishedCall, Calls, noCalls, called, advanced, closed, enter, enterAll, callsOf, IsBusy, Allowed, WellFormed}
+use Rattle.history_spec.specs.History.{Action, begin, step, drop, taskOf, Response, Event, refused, accepted, answered, Call, FinishedCall, Calls, noCalls, called, advanced, closed, moved, enter, enterAll, callsOf, IsBusy, Allowed, WellFormed}
 use Rattle.history_spec.proofs.Basics.{either, upd-cases, clash, some-inj}
 use Rattle.nudge_spec.specs.Exchange.{answerIn}
 use Rattle.nudge_spec.specs.Nudge.{finishedBy, atPlace, namedCall}
@@ -71,6 +71,12 @@ whose-next who b (step t) (answered x r) q W = record {
         let w = W .of-pending t c p in
         (ap (λ (f : FinishedCall). who (f .call .start .at)) z ∙ w .1 ∙ sym (w .0) ∙ sym (ap (λ (f : FinishedCall). f .call .start .task) z), omega (arith, ap (λ (f : FinishedCall). f .call .last) z))
     fin f (some c) p (inr i) = (W .of-finished f i, omega (arith, W .ended-before f i))
+whose-next who b (drop t) (accepted x) q W = record {
+  of-pending = λ u c. upd-cases (λ (o : Option Call). o ≡ some c → (c .start .task ≡ u) × (who (c .start .at) ≡ u)) (b .pending) t none u (λ z h. absurd (clash refl h)) (λ z. W .of-pending u c);
+  of-finished = W .of-finished;
+  ended-before = λ f i. omega (arith, W .ended-before f i);
+}
+whose-next who b (drop t) (answered x r) q W = record { of-pending = W .of-pending; of-finished = W .of-finished; ended-before = λ f i. omega (arith, W .ended-before f i) }
 
 module _ {who : ℕ → ℕ} {size : ℕ} where
   pub between-start : (h : List (Action × Event)) → WellFormed size noCalls h → TasksOf who 0 h → Between who size noCalls h
@@ -110,6 +116,8 @@ begun-next b t k a e K j h = go (either (taskOf a) t)
     own (begin u op) (answered x r) p K h = K j h
     own (step u) (accepted x) p K h = K j h
     own (step u) (answered x r) p K h = absurd (clash refl h)
+    own (drop u) (accepted x) p K h = absurd (clash refl h)
+    own (drop u) (answered x r) p K h = K j h
 
     go : (taskOf a ≡ t) ⊎ (taskOf a ≢ t) → j ≡ begunAfter (noteOf t k (b .now) a e) k
     go (inl q) = rw (eq-eqb (taskOf a) t q) (own a e (begins b (taskOf a)) (λ j z. K j (ap (begins b) (sym q) ∙ z)) (sym (own-begin b a e) ∙ (ap (begins (enter b a e)) q ∙ h)))
@@ -127,9 +135,11 @@ module _ {who : ℕ → ℕ} (size : ℕ) (b : Calls) (t k : ℕ) (W : Whose who
   own-entry (begin u op) (accepted x) l q = goes refl
   own-entry (begin u op) (answered x r) l q = absurd l
   own-entry (step u) (accepted x) l q = goes refl
+  own-entry (drop u) (accepted x) l q = goes refl
+  own-entry (drop u) (answered x r) l q = absurd l
   own-entry (step u) (answered x r) l q = go (b .pending u) refl l
     where
-      go : (o : Option Call) → b .pending u ≡ o → IsBusy o → Entry b t k (record { now = suc (b .now); accepted = b .accepted ++ (step u ∷ []); pending = upd (b .pending) u none; finished = closed (advanced b x o) r (b .finished) }) (ended (r .answer))
+      go : (o : Option Call) → b .pending u ≡ o → IsBusy o → Entry b t k (moved b (step u) (upd (b .pending) u none) (closed (advanced b x o) r (b .finished))) (ended (r .answer))
       go none p l = absurd l
       go (some c) p l =
           let z : c .start .at ≡ k = K (c .start .at) (ap (begins b) (sym q) ∙ ap beginOf p) in
@@ -140,9 +150,11 @@ module _ {who : ℕ → ℕ} (size : ℕ) (b : Calls) (t k : ℕ) (W : Whose who
   other-entry (begin u op) (accepted x) q = goes refl
   other-entry (begin u op) (answered x r) q = goes refl
   other-entry (step u) (accepted x) q = goes refl
+  other-entry (drop u) (accepted x) q = goes refl
+  other-entry (drop u) (answered x r) q = goes refl
   other-entry (step u) (answered x r) q = go (b .pending u) refl
     where
-      go : (o : Option Call) → b .pending u ≡ o → Entry b t k (record { now = suc (b .now); accepted = b .accepted ++ (step u ∷ []); pending = upd (b .pending) u none; finished = closed (advanced b x o) r (b .finished) }) (pending k)
+      go : (o : Option Call) → b .pending u ≡ o → Entry b t k (moved b (step u) (upd (b .pending) u none) (closed (advanced b x o) r (b .finished))) (pending k)
       go none p = goes refl
       go (some c) p = let z = W .of-pending u c p .0 in other _ (λ w. q (sym z ∙ w)) (ap (begins b) z ∙ ap beginOf p) refl
 

@@ -6,7 +6,7 @@ use mathlib.Core.List.{List, [], _∷_}
 use Prim.Native.Nat.{ℕ, _+_}
 use lib.Dec.{eqb}
 use Rattle.history_spec.specs.Basics.{_∈_}
-use Rattle.history_spec.specs.History.{Action, begin, step, taskOf, Response, Event, refused, accepted, answered, FinishedCall, callsOf}
+use Rattle.history_spec.specs.History.{Action, begin, step, drop, taskOf, Response, Event, refused, accepted, answered, FinishedCall, callsOf}
 use Rattle.figure_lines.specs.Answers.{answerOf}
 use Rattle.nudge_tool.specs.declared.calls.Noted.{Noted}
 use Rattle.nudge_tool.specs.declared.calls.Noted.the-variants as code
@@ -32,6 +32,7 @@ pub data Note : Type 0 where
 abbrev pub begunBy : Action → (k i : ℕ) → ℕ
 begunBy (begin t op) k i = i
 begunBy (step t) k i = k
+begunBy (drop t) k i = k
 
 abbrev pub ownNote : (k i : ℕ) → Action → Event → Note
 ownNote k i a (refused n) = pending k

@@ -12,6 +12,7 @@ use Rattle.figure_lines.specs.declared.Record.{Record}
 use Rattle.figure_lines.specs.Record.{recordAt}
 use Rattle.cells_spec.specs.Machine.{Pool, pool}
 use Rattle.figure.specs.Exchange.{ifAccepted}
+use Rattle.history_spec.specs.History as History
 use Rattle.history_spec.specs.History.{Action, begin, step, taskOf, Response, history}
 use Rattle.session_engine.specs.Places.{stateOf}
 use Rattle.cells_theorems.specs.Terms.{start}
@@ -40,6 +41,7 @@ pub record Fresh (s : State) (p : List ℕ) : Type 0 where
 abbrev pub touchedBy : (tasks : ℕ) → (ℕ → Record) → Action → Option ℕ
 touchedBy n r (begin t op) = none
 touchedBy n r (step t) = ifAccepted (refusal (stepQuestions n (r t) t)) (r t .cell)
+touchedBy n r (History.drop t) = none
 
 abbrev pub sameCell : Option ℕ → Option ℕ → Bool
 sameCell none o = false

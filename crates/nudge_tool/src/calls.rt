@@ -79,6 +79,7 @@ fn begun_by(a: Action, at: usize, i: usize) -> usize
         Action::Read(_, _) => i,
         Action::Swap(_, _, _, _) => i,
         Action::Step(_) => at,
+        Action::Drop(_) => at,
     }
 }
 

@@ -32,7 +32,7 @@ fn cell_of_step(records: &[u32], tasks: u32, task: u32) -> Touch
     Touch::Cell(r.cell)
 }
 
-// A begin touches no cell, nor does a step that is refused.
+// A begin touches no cell, nor does a drop, or a step that is refused.
 fn cell_of(records: &[u32], tasks: u32, a: Action) -> Touch
     requires { ⌜ (length (now records) ≡ 384) × (tasks ≤ 32) ⌝ }
     ensures { λ r. ⌜ touchOf r ≡ touchedBy tasks (recordAt (recordsOf 32 (now (records .entry)))) (actOf a) ⌝ }
@@ -41,6 +41,7 @@ fn cell_of(records: &[u32], tasks: u32, a: Action) -> Touch
         Action::Read(_, _) => Touch::Nothing,
         Action::Swap(_, _, _, _) => Touch::Nothing,
         Action::Step(task) => cell_of_step(records, tasks, task),
+        Action::Drop(_) => Touch::Nothing,
     }
 }
 
