@@ -10,7 +10,7 @@ use native.Mathlib.Omega.{arith}
 use lib.Dec.{eqb, ltb}
 use borrow.Author.Tests.{eq-eqb, ne-eqb, ltb-true, ltb-false}
 use Rattle.history_spec.specs.Basics.{upd, _∈_}
-use Rattle.history_spec.specs.History.{Action, begin, step, drop, taskOf, Response, Event, refused, accepted, answered, Call, FinishedCall, Calls, noCalls, called, advanced, closed, moved, enter, enterAll, callsOf, IsBusy, Allowed, WellFormed}
+use Rattle.history_spec.specs.History.{Action, begin, step, drop, taskOf, Response, Event, refused, accepted, answered, Call, FinishedCall, Calls, noCalls, called, advanced, closed, passed, moved, enter, enterAll, callsOf, IsBusy, Allowed, WellFormed}
 use Rattle.history_spec.proofs.Basics.{either, upd-cases, clash, some-inj}
 use Rattle.nudge_spec.specs.Exchange.{answerIn}
 use Rattle.nudge_spec.specs.Nudge.{finishedBy, atPlace, namedCall}
@@ -37,15 +37,22 @@ pub record Between (who : ℕ → ℕ) (size : ℕ) (b : Calls) (h : List (Actio
   pub early : Early b
   pub found : Found b
 
+whose-passed : {who : ℕ → ℕ} {b : Calls} → Whose who b → Whose who (passed b)
+whose-passed W = record { of-pending = W .of-pending; of-finished = W .of-finished; ended-before = λ f i. omega (arith, W .ended-before f i) }
+
+-- a task whose call has ended has none
+whose-closed : {who : ℕ → ℕ} {b : Calls} → Whose who b → (t u : ℕ) (c : Call) → upd (b .pending) t none u ≡ some c → (c .start .task ≡ u) × (who (c .start .at) ≡ u)
+whose-closed {who} {b} W t u c = upd-cases (λ (o : Option Call). o ≡ some c → (c .start .task ≡ u) × (who (c .start .at) ≡ u)) (b .pending) t none u (λ z h. absurd (clash refl h)) (λ z. W .of-pending u c)
+
 whose-next : (who : ℕ → ℕ) (b : Calls) (a : Action) (e : Event) → who (b .now) ≡ taskOf a → Whose who b → Whose who (enter b a e)
-whose-next who b a (refused n) q W = record { of-pending = W .of-pending; of-finished = W .of-finished; ended-before = λ f i. omega (arith, W .ended-before f i) }
+whose-next who b a (refused n) q W = whose-passed W
 whose-next who b (begin t op) (accepted x) q W = record {
   of-pending = λ u c. upd-cases (λ (o : Option Call). o ≡ some c → (c .start .task ≡ u) × (who (c .start .at) ≡ u)) (b .pending) t (some (called b t op)) u
       (λ z h. let s = ap (λ (c : Call). c .start) (some-inj refl h) in (sym (ap (λ i. i .task) s) ∙ sym z, ap (λ i. who (i .at)) (sym s) ∙ q ∙ sym z)) (λ z. W .of-pending u c);
   of-finished = W .of-finished;
   ended-before = λ f i. omega (arith, W .ended-before f i);
 }
-whose-next who b (begin t op) (answered x r) q W = record { of-pending = W .of-pending; of-finished = W .of-finished; ended-before = λ f i. omega (arith, W .ended-before f i) }
+whose-next who b (begin t op) (answered x r) q W = whose-passed W
 whose-next who b (step t) (accepted x) q W = record {
   of-pending = λ u c. upd-cases (λ (o : Option Call). o ≡ some c → (c .start .task ≡ u) × (who (c .start .at) ≡ u)) (b .pending) t (advanced b x (b .pending t)) u
       (λ z h. go u c z (b .pending t) refl h) (λ z. W .of-pending u c);
@@ -60,7 +67,7 @@ whose-next who b (step t) (accepted x) q W = record {
         let w = W .of-pending t d p in
         (sym (ap (λ i. i .task) s) ∙ w .0 ∙ sym z, ap (λ i. who (i .at)) (sym s) ∙ w .1 ∙ sym z)
 whose-next who b (step t) (answered x r) q W = record {
-  of-pending = λ u c. upd-cases (λ (o : Option Call). o ≡ some c → (c .start .task ≡ u) × (who (c .start .at) ≡ u)) (b .pending) t none u (λ z h. absurd (clash refl h)) (λ z. W .of-pending u c);
+  of-pending = whose-closed W t;
   of-finished = λ f i. fin f (b .pending t) refl i .0;
   ended-before = λ f i. fin f (b .pending t) refl i .1;
 }
@@ -72,11 +79,11 @@ whose-next who b (step t) (answered x r) q W = record {
         (ap (λ (f : FinishedCall). who (f .call .start .at)) z ∙ w .1 ∙ sym (w .0) ∙ sym (ap (λ (f : FinishedCall). f .call .start .task) z), omega (arith, ap (λ (f : FinishedCall). f .call .last) z))
     fin f (some c) p (inr i) = (W .of-finished f i, omega (arith, W .ended-before f i))
 whose-next who b (drop t) (accepted x) q W = record {
-  of-pending = λ u c. upd-cases (λ (o : Option Call). o ≡ some c → (c .start .task ≡ u) × (who (c .start .at) ≡ u)) (b .pending) t none u (λ z h. absurd (clash refl h)) (λ z. W .of-pending u c);
+  of-pending = whose-closed W t;
   of-finished = W .of-finished;
   ended-before = λ f i. omega (arith, W .ended-before f i);
 }
-whose-next who b (drop t) (answered x r) q W = record { of-pending = W .of-pending; of-finished = W .of-finished; ended-before = λ f i. omega (arith, W .ended-before f i) }
+whose-next who b (drop t) (answered x r) q W = whose-passed W
 
 module _ {who : ℕ → ℕ} {size : ℕ} where
   pub between-start : (h : List (Action × Event)) → WellFormed size noCalls h → TasksOf who 0 h → Between who size noCalls h

@@ -23,7 +23,8 @@ pub record Summary : Type 0 where
 abbrev pub summary : FinishedCall → Summary
 summary f = record { at = f .call .start .at; last = f .call .last; answer = f .report .answer }
 
--- what an action leaves of the task's call: the number of the begin, or the answer of the call that it ended
+-- what an action leaves of the task's call: the number of its begin, or the answer of the call that it ended. Where the task has no call, as after
+-- a drop, the number says nothing.
 pub data Note : Type 0 where
   pending : (at : ℕ) → Note
   ended : Response → Note
