@@ -10,7 +10,7 @@ use denote.Ref.{now}
 use Rattle.figure_lines.specs.declared.Record.{Record}
 use Rattle.figure_lines.specs.Record.{isIdle, recordAt}
 use Rattle.cells_spec.specs.Questions.{Question, refusal, fit}
-use Rattle.cells_spec.specs.StoredCounts.{Named}
+use Rattle.cells_spec.specs.StoredCounts.{Named, released}
 use Rattle.cells_spec.specs.Drop.{dropAsks, dropped}
 use Rattle.cells_spec.proofs.Refusals.{is-refused, is-allowed}
 use Rattle.cells_spec.proofs.Replies.{asked-of, task-below, asked-below}
@@ -68,4 +68,4 @@ drop-spec =
     let s = e .t1 in
     let g = c .before .before .before .before .before .before .before .good .0 in
     subst (Named (s .counts)) (sym (own (c .before))) (its-names s (now (e .pool)) (e .task) (granted (c .before)) (has-16 s _ g, has-32 s _ g, has-128 s _ g)))
-    (λ c. let e = c .before .before .before .before .before .before .before .before .args in drops (e .t1) (now (e .pool)) (e .task) (granted (c .before .before)) (c .before .before .before .before .before .idle .ensures) (c .release .ensures ∙ rw (own (c .before .before)))))
+    (λ c. let e = c .before .before .before .before .before .before .before .before .args in drops (e .t1) (now (e .pool)) (e .task) (granted (c .before .before)) (c .before .before .before .before .before .idle .ensures) (c .release .ensures ∙ ap (released (e .t1 .counts)) (own (c .before .before)))))
