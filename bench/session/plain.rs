@@ -1,6 +1,6 @@
 // The session program in plain Rust, as one would write it by hand: the state in place behind &mut, every question asked
 // at every action, question 6 of the whole state included. It prints what target/bin/session prints.
-// Built with --cfg lean it leaves question 6 out at begins and steps, and looks alone ask it.
+// Built with --cfg lean it leaves question 6 out at begins, steps and drops, and looks alone ask it.
 use std::io::{self, Read, Write};
 
 const NONE: u32 = u32::MAX;
@@ -17,6 +17,7 @@ enum Action {
     Read { task: u32, cell: u32 },
     Swap { task: u32, cell: u32, expected: u32, new: u32 },
     Step { task: u32 },
+    Drop { task: u32 },
 }
 
 struct Opening {
@@ -177,6 +178,9 @@ impl Reader<'_> {
         } else if self.skip(b"(read") {
             let [task, cell] = self.numbers()?;
             Action::Read { task, cell }
+        } else if self.skip(b"(drop") {
+            let [task] = self.numbers()?;
+            Action::Drop { task }
         } else {
             return self.again();
         };
@@ -481,6 +485,20 @@ impl Cells {
         }))
     }
 
+    fn drop(&mut self, task: u32) -> Result<(), u32> {
+        ask(LEAN || self.fits(), 6)?;
+        ask(task < self.tasks, 7)?;
+        ask(self.records[task as usize].line != 0, 11)?;
+        let record = std::mem::take(&mut self.records[task as usize]);
+        if record.holds() {
+            self.counts[record.held as usize] -= 1;
+        }
+        if record.has_taken() {
+            self.counts[record.taken as usize] -= 1;
+        }
+        Ok(())
+    }
+
     fn look(&self, cell: u32) -> Result<u32, u32> {
         ask(self.fits(), 6)?;
         ask(cell < self.cells, 8)?;
@@ -492,6 +510,7 @@ impl Cells {
             Action::Step { task } => return self.step(task),
             Action::Read { task, cell } => self.begin(task, Kind::Read, cell, 0, 0)?,
             Action::Swap { task, cell, expected, new } => self.begin(task, Kind::Swap, cell, expected, new)?,
+            Action::Drop { task } => self.drop(task)?,
         }
         Ok(None)
     }
