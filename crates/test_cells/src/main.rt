@@ -9,6 +9,9 @@
 // - z: a block, and Z after it: its stored count
 // - L: so many steps are made over the record, lent: for each the record's line after it and the answer, of a finished call
 //   also whether it was answered yes, its steps, and its hardware CAS won and lost
+// - D: so many drops: for each the answer; after one that acted the line of the task's record, 0 if its other fields are 0,
+//   and how many times each block is used
+mod drops;
 mod lent_step;
 
 use cells::Answer;
@@ -156,6 +159,7 @@ struct EntryCase {
     new: u32,
     second: u32,
     lent: u32,
+    drops: u32,
 }
 
 // Three tasks, two cells, eight blocks, all idle; task 0 is to swap 5 for 7; the second value is 6.
@@ -191,6 +195,7 @@ fn plain() -> EntryCase {
         second: 6,
         block: 0,
         lent: 0,
+        drops: 0,
     }
 }
 
@@ -257,6 +262,8 @@ fn try_case(c: EntryCase, pool: &mut [u32]) {
     let given = c.given as usize;
     if c.lent > 0 {
         crate::lent_step::steps(s, pool, c.task, record_of(c), c.lent);
+    } else if c.drops > 0 {
+        crate::drops::drops(s, pool, c.task, c.drops);
     } else if given == 0 {
         try_begins(s, pool, c);
         try_step(s, pool, c.task);
@@ -377,6 +384,7 @@ fn with_word(mut c: EntryCase, letter: u8, n: u32) -> EntryCase {
         b'y' => c.second = n,
         b'z' => c.block = n,
         b'L' => c.lent = n,
+        b'D' => c.drops = n,
         _ => c = with_part(c, letter, n),
     }
     c
