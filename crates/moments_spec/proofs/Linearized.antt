@@ -27,7 +27,7 @@ module _ (file : List ℕ) (o : Opening) (actions : List Action) (is-session : v
   printed-lines = ap (toolText momentsText) is-session ∙ rw opens
 
   -- What is printed is the lines of marks that are a linearization of the session's calls: of every finished call, and of the listed
-  -- pending swaps. Fed the calls in the printed order, the sequential cells give each its answer, and yes to the listed pending swaps.
+  -- pending and withdrawn swaps. Fed the calls in the printed order, the sequential cells give each finished one its answer, the others yes.
   pub printed-linearizes : (marks : List Mark) × (momentsPrinted file ≡ markLines marks)
       × Linearizes (λ k. getD (o .values) k 0) (callsOf (history pool (leftBy o) actions)) (map pointOf marks)
       × (replies (λ k. getD (o .values) k 0) (map pointOf marks) ≡ map replyOf marks)
