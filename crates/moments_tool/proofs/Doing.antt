@@ -9,7 +9,7 @@ use native.Mathlib.Omega.{arith}
 use lib.ListN.{length, set}
 use lib.Seq.{getD-set-same, getD-set-other}
 use lib.Dec.{eqb, ltb}
-use borrow.Author.Tests.{ltb-true}
+use borrow.Author.Tests.{ltb-true, not-true}
 use Rattle.figure_lines.specs.declared.Record.{Record}
 use Rattle.figure_lines.specs.Answers.{Result, Next}
 use Rattle.figure_lines.specs.Record.{noValue, idle, isIdle, recordAt, firstRead, firstSwap, opOf}
@@ -22,6 +22,7 @@ use Rattle.cells_spec.specs.Answers.{Refused, Acted, Ended}
 use Rattle.cells_spec.specs.Open.{After, leaving, unless}
 use Rattle.cells_spec.specs.Begin.{started, readBegun, swapBegun}
 use Rattle.cells_spec.specs.Step.{current, putBack, ran, stepAsks, stepped}
+use Rattle.cells_spec.specs.Drop.{dropAsks, callWithdrawn, dropped}
 use Rattle.cells_spec.specs.Memory.{Touched, performed}
 use Rattle.cells_spec.specs.Turn.{ending, turn}
 use Rattle.cells_spec.specs.Events.{eventOf}
@@ -30,7 +31,7 @@ use Rattle.cells_spec.proofs.Stepping.{Acting, own-acting}
 use Rattle.figure_cell.proofs.LineLaws.{Leads, goes, done, leads}
 use Rattle.figure.proofs.Records.{not-idle}
 use Rattle.history_spec.specs.Basics.{upd}
-use Rattle.history_spec.specs.History.{Op, read, swap, Action, begin, step, Attempt, Call, Calls, called, advance, advanced, enter}
+use Rattle.history_spec.specs.History.{Op, read, swap, Action, begin, step, drop, Attempt, Call, Calls, called, advance, advanced, enter}
 use Rattle.history_spec.proofs.Basics.{either, upd-at, upd-off}
 
 -- a step that is done
@@ -43,6 +44,7 @@ pub data Did (s : State) (p : List ℕ) : Action → After → Type 0 where
   refuses : {a : Action} (n : ℕ) → Did s p a (leaving s p (Refused n))
   begins : {t : ℕ} {op : Op} (q : Record) → t < s .tasks → op ≡ opOf q → Did s p (begin t op) (started s p t q)
   moves : {t : ℕ} {s′ : State} {p′ : List ℕ} (q : Record) → Steps s p t → s′ .records ≡ set (s .records) t q → opOf q ≡ opOf (recordAt (s .records) t) → Did s p (step t) (leaving s′ p′ Acted)
+  drops : {t : ℕ} → t < s .tasks → isIdle (recordAt (s .records) t) ≡ false → Did s p (drop t) (callWithdrawn s p t)
   ends : {t : ℕ} {s′ : State} {p′ : List ℕ} (f : Result) → Steps s p t → s′ .records ≡ set (s .records) t idle → Did s p (step t) (leaving s′ p′ (Ended f))
 
 module _ (s : State) (p : List ℕ) (t : ℕ) where
@@ -77,11 +79,20 @@ module _ (s : State) (p : List ℕ) (t : ℕ) where
           (record { below = ltb-true t (s .tasks) (yes-to (stepAsks s p t) e 7); acting = a; busy = not-idle r (a .line) })
       go (some n) e = refuses n
 
+  unless-dropped : Did s p (drop t) (dropped s p t)
+  unfolding dropped
+  unless-dropped = go (refusal (dropAsks s p t)) refl
+    where
+      go : (o : Option ℕ) → refusal (dropAsks s p t) ≡ o → Did s p (drop t) (unless o s p (callWithdrawn s p t))
+      go none e = drops (ltb-true t (s .tasks) (yes-to (dropAsks s p t) e 7)) (not-true (isIdle r) (yes-to (dropAsks s p t) e 11))
+      go (some n) e = refuses n
+
 pub did : (s : State) (p : List ℕ) (a : Action) → Did s p a (does s p a)
 unfolding readBegun swapBegun
 did s p (begin t (read k)) = unless-begun s p t (read k) (firstRead k) refl ((6, fit s p) ∷ beginQuestions (s .tasks) (s .cells) (recordAt (s .records) t) t k) (below s p t ((8, ltb k (s .cells)) ∷ (9, isIdle (recordAt (s .records) t)) ∷ []))
 did s p (begin t (swap k e n)) = unless-begun s p t (swap k e n) (firstSwap k e n) refl ((6, fit s p) ∷ swapQuestions (s .tasks) (s .cells) (recordAt (s .records) t) t k e n) (below s p t ((8, ltb k (s .cells)) ∷ (9, isIdle (recordAt (s .records) t)) ∷ (10, not (eqb e noValue) && not (eqb n noValue)) ∷ []))
 did s p (step t) = unless-stepped s p t
+did s p (drop t) = unless-dropped s p t
 
 -- PENDING CALLS
 
@@ -116,6 +127,8 @@ module _ {s : State} {p : List ℕ} (records : length (s .records) ≡ 32) (task
   pub begun-next : (a : Action) (y : After) → Did s p a y → AllBegun (y .state .records) (enter b a (eventOf x (y .outcome)) .pending)
   begun-next (begin t op) y (refuses n) = all
   begun-next (step t) y (refuses n) = all
+  begun-next (drop t) y (refuses n) = all
   begun-next (begin t op) y (begins q h e) = put (s .records) (b .pending) all t (omega (arith, h)) q (some (called b t op)) (begun-first b t op q e)
   begun-next (step t) y (moves q z g e) = rw g (put (s .records) (b .pending) all t (omega (arith, z .below)) q (advanced b x (b .pending t)) (begun-on b x t (recordAt (s .records) t) q (b .pending t) e (z .busy) (all t)))
   begun-next (step t) y (ends f z g) = rw g (put (s .records) (b .pending) all t (omega (arith, z .below)) idle none (begun-none t none))
+  begun-next (drop t) y (drops h i) = put (s .records) (b .pending) all t (omega (arith, h)) idle none (begun-none t none)

@@ -1,16 +1,17 @@
 -- A mark and its word: the words' order is the marks' order, and a word's line is its mark's.
 use mathlib.Core.Path.{_≡_, refl, sym, ap, ap₂, _∙_}
+use mathlib.Core.Logic.{_≢_}
 use mathlib.Core.Bool.{Bool, true, false, cond}
 use mathlib.Core.List.{List, [], _∷_, _++_, map}
 use Prim.Native.Nat.{ℕ, _+_, _*_, _/_, _%_, _≤_, _<_}
 use native.Mathlib.Omega.{arith}
 use native.Mathlib.Decide.{decLe}
 use lib.Dec.{eqb, leb}
-use borrow.Author.Tests.{le-leb, lt-leb, leb-true, leb-false, eqb-true, eqb-false}
-use Rattle.history_spec.specs.History.{cellOf, Kind, aRead, aSwap, kindOf}
-use Rattle.history_spec.specs.Moments.{Side, before, itself, after, Rule, R1, R2, C1, C2, C3, C4, C5, C6, Mark, changing, sideNumber, key, notAfter, insert, sort}
+use borrow.Author.Tests.{le-leb, lt-leb, leb-true, leb-false, eqb-true, eqb-false, ne-eqb}
+use Rattle.history_spec.specs.History.{Op, read, swap, cellOf, Kind, aRead, aSwap, kindOf, Response}
+use Rattle.history_spec.specs.Moments.{Side, before, itself, after, Rule, R1, R2, C1, C2, C3, C4, C5, C6, Spot, Mark, changing, sideNumber, key, notAfter, insert, sort}
 use Rattle.moments_spec.specs.Lines.{atLine, markLine, markLines}
-use Rattle.moments_tool.specs.Words.{ruleNumber, kindNumber, rank, joined, encode, insertWord, FitsWord, AllFit, Listed, sideAt, kindBit, ruleNumbered, wordLine, wordLines}
+use Rattle.moments_tool.specs.Words.{ruleNumber, kindNumber, rank, joined, markWord, encode, insertWord, entered, IsWord, FitsWord, AllFit, Listed, sideAt, kindBit, ruleNumbered, wordLine, wordLines}
 use Rattle.moments_tool.proofs.Sorting.{insert-sorted}
 
 -- THE PARTS
@@ -158,12 +159,23 @@ encode-insert m (y ∷ l) h s = go (notAfter (key m) (key y)) (sym (encode-order
 pub none-listed : Listed [] []
 none-listed = record { same = refl; fit = tt; sorted = tt }
 
-pub one-listed : {words : List ℕ} {l : List Mark} → Listed words l → (m : Mark) → FitsWord m → Listed (insertWord (encode m) words) (m ∷ l)
+one-listed : {words : List ℕ} {l : List Mark} → Listed words l → (m : Mark) → FitsWord m → Listed (insertWord (encode m) words) (m ∷ l)
 one-listed {words} {l} x m h = record {
   same = ap (insertWord (encode m)) (x .same) ∙ sym (encode-insert m (sort l) h (x .fit));
   fit = all-insert m (sort l) h (x .fit);
   sorted = insert-sorted (encode m) words (x .sorted);
 }
+
+-- A MARK THAT IS MADE: its word is none but 0, and one of 32 bits has a moment of 16
+
+some-word : (p : Spot) (op : Op) (t : ℕ) (a : Response) → 0 < markWord p op t a
+some-word p (read k) t a = omega arith
+some-word p (swap k e n) t a = omega arith
+
+pub entered-listed : {words : List ℕ} {l : List Mark} → Listed words l → (m : Mark) → IsWord (encode m) → m .call .task < 32 → cellOf (m .call .op) < 16 → Listed (entered (encode m) words) (m ∷ l)
+entered-listed x m w h k =
+    let z : encode m ≢ 0 = λ e. omega (arith, e, some-word (m .spot) (m .call .op) (m .call .task) (m .answer)) in
+    rw (ne-eqb (encode m) 0 z) (one-listed x m (record { moment = omega (arith, w); task = h; cell = k }))
 
 lines-same : (l : List Mark) → AllFit l → wordLines (map encode l) ≡ markLines l
 unfolding wordLines markLines

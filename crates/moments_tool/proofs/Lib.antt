@@ -3,6 +3,7 @@ pub mod Encoding
 pub mod Noting
 pub mod Ruling
 mod Printing
+mod Keeping
 mod Doing
 mod Seeing
 mod Marking

@@ -1,6 +1,7 @@
 -- What the code sees of a task's block before a step that is done is what the definition sees; so it notes the same.
 use mathlib.Core.Path.{_≡_, refl}
 use mathlib.Core.Bool.{Bool, true, false, _&&_, _||_, cond, false≢true, or-true}
+use mathlib.Core.Option.{Option}
 use mathlib.Core.List.{List}
 use Prim.Native.Nat.{ℕ, suc, _≤_, _<_}
 use native.Mathlib.Omega.{arith}
@@ -11,10 +12,10 @@ use Rattle.figure_lines.specs.declared.Record.{Record}
 use Rattle.figure_lines.specs.Record.{idle, recordAt}
 use Rattle.cells_spec.specs.declared.State.{State}
 use Rattle.cells_spec.specs.Step.{current}
-use Rattle.figure_moments.specs.Moments.{holdsBlock, Notes, noted}
+use Rattle.figure_moments.specs.Moments.{holdsBlock, Notes, Waiting, noted}
 use Rattle.cells_theorems.specs.Moments.{seesPool}
 use Rattle.moments_tool.specs.declared.sights.Sight.{Sight}
-use Rattle.moments_tool.specs.Notes.{sightIn, holdsWith, sightOf}
+use Rattle.moments_tool.specs.Notes.{sightIn, holdsWith, sightOf, withWaiting}
 use Rattle.moments_tool.specs.Loop.{spreads}
 
 first-true : (a b : Bool) → (a && b) ≡ true → a ≡ true
@@ -66,8 +67,9 @@ module _ (s : State) (p : List ℕ) (t : ℕ) where
     abbrev at30 : Bool
     at30 = eqb (r .line) 30 && x .current
 
-    pub same-noted : (o : Notes) → noted o t (sightOf (r .line) idle x w) ≡ noted o t (seesPool (s, p) t)
-    same-noted o =
+    -- whoever waits
+    pub same-noted : (o : Notes) (f : ℕ → Option Waiting) → withWaiting f (noted o t (sightOf (r .line) idle x w)) ≡ withWaiting f (noted o t (seesPool (s, p) t))
+    same-noted o f =
         let g27 = guard at27 (λ e. rw e (or-true at2)) (held (eqb (r .line) 27) _) in
         let g2 = guard at2 (λ e. rw e) (held (eqb (r .line) 2) _) in
         let g30 = guard at30 (λ e. rw (e, or-true at27) (or-true at2)) (held (eqb (r .line) 30) _) in
@@ -80,4 +82,5 @@ module _ (s : State) (p : List ℕ) (t : ℕ) where
           inactive = λ u. cond (g27 u j) (o .now) (o .inactive u);
           decided = λ u. cond (((eqb (r .line) 10 || eqb (r .line) 15) && eqb u t) || g2 u j) (o .now) (o .decided u);
           replaced = λ u. cond (g30 u j) (o .now) (o .replaced u);
+          waiting = f;
         }

@@ -5,11 +5,11 @@ use mathlib.Core.List.{List, [], _∷_, _++_}
 use Prim.Native.Nat.{ℕ, zero, suc, _+_, _-_, _/_, _≤_, _<_}
 use native.Mathlib.Omega.{arith}
 use native.Mathlib.Numerals.{add-one}
-use lib.Dec.{leb}
+use lib.Dec.{eqb, leb}
 use lib.ListN.{length, take, drop, getD, set, List·getD-append}
 use lib.Seq.{take-suc, drop-cons, append-snoc, length-take-le, take-set-lt, set-at, getD-take, take-take, drop-length}
 use borrow.Author.Tests.{le-leb, lt-leb, leb-true, leb-false}
-use Rattle.moments_tool.specs.Words.{insertWord, From, SortedWords}
+use Rattle.moments_tool.specs.Words.{insertWord, entered, From, SortedWords}
 
 -- SORTED LISTS STAY SORTED
 
@@ -32,6 +32,13 @@ insert-sorted w (y ∷ l) s = go (leb (w / 256) (y / 256)) refl (insert-sorted w
     go : (b : Bool) → leb (w / 256) (y / 256) ≡ b → SortedWords (insertWord w l) → SortedWords (cond b (w ∷ y ∷ l) (y ∷ insertWord w l))
     go true e r = let h = leb-true (w / 256) (y / 256) e in ((h, from-less h l (s .0)), s)
     go false e r = let h = leb-false (w / 256) (y / 256) e in (from-insert (y / 256) w l (omega (arith, h)) (s .0), r)
+
+pub entered-sorted : (w : ℕ) (l : List ℕ) → SortedWords l → SortedWords (entered w l)
+entered-sorted w l s = go (eqb w 0)
+  where
+    go : (b : Bool) → SortedWords (cond b l (insertWord w l))
+    go true = s
+    go false = insert-sorted w l s
 
 -- FROM THE END
 

@@ -52,12 +52,16 @@ reached-sizes {s = s} {p = p} r = (sizes s p (reached-fit r) .tasks, sizes s p (
 pub task-below : {n v : ℕ} {s : State} {p : List ℕ} → Reached n v s p → {t : ℕ} (u : ℕ) → t ≡ slot u (s .tasks) → t < 32
 task-below {s = s} r u e = rw e (slot-below u (s .tasks) 32 (reached-sizes r .0) (omega arith))
 
-pub slot-cell : {n v : ℕ} {s : State} {p : List ℕ} → Reached n v s p → {t : ℕ} (u : ℕ) → t ≡ slot u (s .tasks) → recordAt (s .records) t .cell < 16
+slot-cell : {n v : ℕ} {s : State} {p : List ℕ} → Reached n v s p → {t : ℕ} (u : ℕ) → t ≡ slot u (s .tasks) → recordAt (s .records) t .cell < 16
 slot-cell {n} {v} {s} r {t} u e = reached-cell r t (omega (arith, below (ltb u (s .tasks)) refl, e, reached-tasks r .1))
   where
     below : (b : Bool) → ltb u (s .tasks) ≡ b → slot u (s .tasks) < s .tasks
     below true q = rw q (ltb-true u (s .tasks) q)
     below false q = rw q (omega (arith, reached-tasks r .0, reached-tasks r .1))
+
+-- the record at a task's place
+pub task-small : {n v : ℕ} {s : State} {p : List ℕ} → Reached n v s p → {t : ℕ} (u : ℕ) → t ≡ slot u (s .tasks) → {r : Record} → r ≡ recordAt (s .records) t → (t < 32) × (r .cell < 16)
+task-small z u e er = (task-below z u e, omega (arith, ap (λ (r : Record). r .cell) er, slot-cell z u e))
 
 -- THE TEXT
 

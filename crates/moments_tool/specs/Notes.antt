@@ -1,7 +1,8 @@
--- What the code keeps beside the cells: each task's notes at its place of six lists, and what a task sees of the block that it holds.
+-- What the code keeps beside the cells: each task's notes at its place of six lists, who waits in each cell, and what a task sees of the
+-- block that it holds.
 use mathlib.Core.Path.{_≡_}
 use mathlib.Core.Bool.{Bool, cond, _&&_}
-use mathlib.Core.Option.{Option, none, some}
+use mathlib.Core.Option.{Option, none}
 use mathlib.Core.List.{List}
 use Prim.Native.Nat.{ℕ}
 use lib.Dec.{eqb, ltb}
@@ -13,13 +14,12 @@ use Rattle.figure_lines.specs.Record.{noValue}
 use Rattle.cells_spec.specs.Pool.{word}
 use Rattle.history_spec.specs.Moments.{sideNumber}
 use Rattle.history_spec.specs.Moments as Moments
-use Rattle.figure_moments.specs.Moments.{holdsBlock, Notes}
+use Rattle.figure_moments.specs.Moments.{holdsBlock, Notes, Waiting}
 use Rattle.figure_moments.specs.Moments as Figure
 use Rattle.moments_tool.specs.declared.sights.Sight.{Sight}
 use Rattle.moments_tool.specs.declared.sights.Own.{Own}
 use Rattle.moments_tool.specs.declared.sights.Spot.{Spot}
-use Rattle.moments_tool.specs.declared.sights.Standing.{Standing}
-use Rattle.moments_tool.specs.declared.sights.Standing.the-variants as standing
+use Rattle.moments_tool.specs.declared.sights.Waiter.{Waiter}
 use Rattle.moments_tool.specs.Words.{ruleNumber}
 
 -- the place of one of m; the first for a number that is none of them
@@ -52,7 +52,27 @@ sightOf n r x who = record {
   asExpected = x .as_expected;
   asNew = x .as_new;
   holders = λ u. eqb (getD who u 0) 1;
+  cell = r .cell;
+  loaded = r .loaded;
+  new = r .new;
 }
+
+-- WHO WAITS in each cell: the code keeps it apart from the tasks' notes
+
+abbrev pub nobody : Waiter
+nobody = record { mark = 0; new = 0 }
+
+abbrev pub waiterAt : List Waiter → ℕ → Waiter
+waiterAt l k = getD l k nobody
+
+abbrev pub nobodyWaits : ℕ → Option Waiting
+nobodyWaits k = none
+
+abbrev pub withWaiting : (ℕ → Option Waiting) → Notes → Notes
+withWaiting f o =
+    record { now = o .now; loaded = o .loaded; stored = o .stored; storedActive = o .storedActive; inactive = o .inactive; decided = o .decided; replaced = o .replaced; waiting = f }
+
+-- THE TASKS' NOTES
 
 abbrev pub notesOf : (now : ℕ) → (loaded stored active inactive decided replaced : List ℕ) → Notes
 notesOf n loaded stored active inactive decided replaced = record {
@@ -63,6 +83,7 @@ notesOf n loaded stored active inactive decided replaced = record {
   inactive = λ u. getD inactive u 0;
   decided = λ u. getD decided u 0;
   replaced = λ u. getD replaced u 0;
+  waiting = nobodyWaits;
 }
 
 -- a place for each task
@@ -88,18 +109,10 @@ ownNotes n o = record {
   inactive = λ _. o .inactive;
   decided = λ _. o .decided;
   replaced = λ _. o .replaced;
+  waiting = nobodyWaits;
 }
 
--- A spot by numbers
+-- A SPOT BY NUMBERS
 
 abbrev pub numbered : Moments.Spot → Spot
 numbered p = record { moment = p .moment; side = sideNumber (p .side); rule = ruleNumber (p .rule) }
-
-abbrev pub numberedAt : Option Moments.Spot → Option Spot
-numberedAt none = none
-numberedAt (some p) = some (numbered p)
-
--- what the code's enum says of a pending swap: no spot, or one
-abbrev pub standingOf : Standing → Option Spot
-standingOf standing.Nowhere = none
-standingOf (standing.At q) = some q

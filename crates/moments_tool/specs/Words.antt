@@ -43,6 +43,14 @@ abbrev pub insertWord : ℕ → List ℕ → List ℕ
 insertWord w [] = w ∷ []
 insertWord w (y ∷ l) = cond (leb (w / 256) (y / 256)) (w ∷ y ∷ l) (y ∷ insertWord w l)
 
+-- with a word that is made; 0 is no word
+abbrev pub entered : ℕ → List ℕ → List ℕ
+entered w l = cond (eqb w 0) l (insertWord w l)
+
+-- a number of 32 bits
+abbrev pub IsWord : ℕ → Type 0
+IsWord w = w ≤ 4294967295
+
 -- none stands before n
 abbrev pub From : ℕ → List ℕ → Type 0
 From n [] = Unit {0}

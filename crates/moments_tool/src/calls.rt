@@ -1,37 +1,16 @@
 // The calls that are pending after the last action.
+use crate::made::standing_word;
 use crate::notes::own_notes;
 use crate::notes::see;
-use crate::sights::Standing;
-use crate::spots::stands;
 use crate::words::enter;
 use cells_spec::State;
-use figure_lines::Answer;
-use figure_lines::Record;
 ghost use mathlib.Core.Path.{_≡_};
 ghost use Prim.Native.Nat.{ℕ, _+_, _≤_, _<_};
 ghost use lib.ListN.{length, take, drop};
-ghost use Rattle.figure_lines.specs.Record.{recordAt, opOf};
+ghost use Rattle.figure_lines.specs.Record.{recordAt};
 ghost use Rattle.moments_tool.specs.Words.{SortedWords};
 ghost use Rattle.moments_tool.specs.Notes.{notesOf};
-ghost use Rattle.moments_tool.specs.Loop.{Sided, standingWords, MomentFits, closing, Closing};
-
-fn enter_standing(list: &mut [u32], n: usize, q: Standing, r: Record, t: u32) -> usize
-    requires { ⌜ (n < length (now list)) × SortedWords (take n (now list)) ⌝ }
-    requires { ⌜ (t < 32) × (r .cell < 16) × Sided q ⌝ }
-    ensures { λ m. ⌜ m ≤ n + 1 ⌝ }
-    ensures { λ m. ⌜ take m (now (list .exit)) ≡ standingWords q (opOf r) t (take n (now (list .entry))) ⌝ }
-    ensures { λ _. ⌜ MomentFits q ⌝ }
-    ensures { λ m. ⌜ drop m (now (list .exit)) ≡ drop m (now (list .entry)) ⌝ }
-    ensures { λ m. ⌜ n ≤ m ⌝ }
-{
-    match q {
-        Standing::Nowhere => n,
-        Standing::At(p) => {
-            enter(list, n, p, r, Answer::Yes, t);
-            n + 1
-        }
-    }
-}
+ghost use Rattle.moments_tool.specs.Loop.{closing, Closing};
 
 // The words of the pending swaps that took effect. The words behind those in use are as they were.
 pub fn close(
@@ -60,8 +39,7 @@ pub fn close(
         let r = s.records[t];
         let x = see(pool, r, 0);
         let o = own_notes(loaded, stored, active, inactive, decided, replaced, t);
-        let q = stands(r, x, o);
-        m = enter_standing(list, m, q, r, t as u32);
+        m = enter(list, m, standing_word(r, x, o, t as u32));
         t += 1;
     }
     m

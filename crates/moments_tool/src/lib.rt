@@ -1,6 +1,6 @@
 // Prints when each call of a session file took effect.
 mod calls;
-mod ended;
+mod made;
 mod notes;
 mod opened;
 mod play;

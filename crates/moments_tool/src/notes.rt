@@ -1,4 +1,5 @@
 // What is noted beside the cells at each step, of the block that a task holds.
+use crate::sights::Deed;
 use crate::sights::Own;
 use crate::sights::Sight;
 use cells_questions::is_holding;
@@ -14,12 +15,10 @@ ghost use lib.Dec.{eqb};
 ghost use lib.ListN.{getD, length};
 ghost use Rattle.figure_lines.specs.Record.{idle, recordAt};
 ghost use Rattle.cells_spec.specs.Answers.{said, actOf};
-ghost use Rattle.cells_spec.specs.Events.{eventOf};
-ghost use Rattle.history_spec.specs.History.{untried};
 ghost use Rattle.figure_moments.specs.Moments.{noted};
 ghost use Rattle.cells_spec.specs.Words.{recordsOf};
-ghost use Rattle.moments_tool.specs.Loop.{notedLine, spreads as «spreadsOf»};
-ghost use Rattle.moments_tool.specs.Notes.{slot as «slotOf», sightIn, holdsWith, sightOf, notesOf, ownOf, Sized};
+ghost use Rattle.moments_tool.specs.Loop.{told, deedOf, notedLine, decides as «decidesOf», spreads as «spreadsOf»};
+ghost use Rattle.moments_tool.specs.Notes.{slot as «slotOf», sightIn, holdsWith, sightOf, nobodyWaits, withWaiting, notesOf, ownOf, Sized};
 
 // A word of the pool, 0 beyond it.
 fn word(pool: &[u32], at: usize) -> u32
@@ -119,7 +118,7 @@ fn flag(b: bool) -> u16
     if b { 1 } else { 0 }
 }
 
-// At a step of task t at that line; 0 where no step is done.
+// At a step of task t at that line; 0 where no step is done. Who waits is kept apart.
 pub fn note(
     loaded: &mut [u16; 32],
     stored: &mut [u16; 32],
@@ -136,7 +135,7 @@ pub fn note(
     requires { ⌜ (t < 32) × (length (now who) ≡ 32) ⌝ }
     requires { ⌜ Sized (now loaded) (now stored) (now active) (now inactive) (now decided) (now replaced) ⌝ }
     ensures { λ _. ⌜ Sized (now (loaded .exit)) (now (stored .exit)) (now (active .exit)) (now (inactive .exit)) (now (decided .exit)) (now (replaced .exit)) ⌝ }
-    ensures { λ _. ⌜ notesOf (i + 1) (now (loaded .exit)) (now (stored .exit)) (now (active .exit)) (now (inactive .exit)) (now (decided .exit)) (now (replaced .exit)) ≡ noted (notesOf i (now (loaded .entry)) (now (stored .entry)) (now (active .entry)) (now (inactive .entry)) (now (decided .entry)) (now (replaced .entry))) t (sightOf line idle x (now (who .entry))) ⌝ }
+    ensures { λ _. ⌜ notesOf (i + 1) (now (loaded .exit)) (now (stored .exit)) (now (active .exit)) (now (inactive .exit)) (now (decided .exit)) (now (replaced .exit)) ≡ withWaiting nobodyWaits (noted (notesOf i (now (loaded .entry)) (now (stored .entry)) (now (active .entry)) (now (inactive .entry)) (now (decided .entry)) (now (replaced .entry))) t (sightOf line idle x (now (who .entry)))) ⌝ }
     ensures { λ _. ⌜ ((u : ℕ) → getD (now (active .exit)) u 0 ≡ cond (eqb line 23 && eqb u t) (cond (x .active) 1 0) (getD (now (active .entry)) u 0)) ⌝ }
 {
     note_own(loaded, (line == 11) | (line == 20), t, i);
@@ -170,23 +169,50 @@ pub fn own_notes(
     }
 }
 
-// The line of a step that is done, else 0.
-pub fn noted_line(a: Action, outcome: Outcome, line: u32) -> u32
-    ensures { λ n. ⌜ n ≡ notedLine (actOf a) (eventOf untried (said outcome)) line ⌝ }
+pub fn deed_of(a: Action, outcome: Outcome) -> Deed
+    ensures { λ d. ⌜ told d ≡ deedOf (actOf a) (said outcome) ⌝ }
 {
     match a {
-        Action::Read(_, _) => 0,
-        Action::Swap(_, _, _, _) => 0,
+        Action::Read(_, _) => Deed::Nothing,
+        Action::Swap(_, _, _, _) => Deed::Nothing,
         Action::Step(_) => match outcome {
-            Outcome::Refused(_) => 0,
-            Outcome::Acted => line,
-            Outcome::Ended(_) => line,
+            Outcome::Refused(_) => Deed::Nothing,
+            Outcome::Acted => Deed::Moved,
+            Outcome::Ended(f) => {
+                let answer = f.answer;
+                Deed::Answered(answer)
+            }
+        },
+        Action::Drop(_) => match outcome {
+            Outcome::Refused(_) => Deed::Nothing,
+            Outcome::Acted => Deed::Dropped,
+            Outcome::Ended(_) => Deed::Nothing,
         },
     }
 }
 
+// The line of a step that is done, else 0.
+pub fn noted_line(d: Deed, line: u32) -> u32
+    ensures { λ n. ⌜ n ≡ notedLine (told d) line ⌝ }
+{
+    match d {
+        Deed::Nothing => 0,
+        Deed::Moved => line,
+        Deed::Answered(_) => line,
+        Deed::Dropped => 0,
+    }
+}
+
+// A step at that line decides the block.
+pub fn decides(line: u32, x: Sight) -> bool
+    ensures { λ b. ⌜ b ≡ «decidesOf» line x ⌝ }
+{
+    (line == 2) & x.undecided
+}
+
+// A step at that line notes something for everybody who holds the block.
 pub fn spreads(line: u32, x: Sight) -> bool
     ensures { λ b. ⌜ b ≡ «spreadsOf» line x ⌝ }
 {
-    ((line == 2) & x.undecided) | (((line == 27) & x.active) | ((line == 30) & x.current))
+    decides(line, x) | (((line == 27) & x.active) | ((line == 30) & x.current))
 }

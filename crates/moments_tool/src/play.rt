@@ -1,8 +1,10 @@
-// The actions in their order, the words of the calls that they end, and those of the pending swaps after the last; before them the file
-// read and the cells opened.
+// The actions in their order, the words that they make, and those of the pending swaps after the last; before them the file read and the
+// cells opened.
 
 use crate::calls::close;
-use crate::ended::end_call;
+use crate::made::made_word;
+use crate::made::next_waiter;
+use crate::notes::deed_of;
 use crate::notes::holders;
 use crate::notes::note;
 use crate::notes::noted_line;
@@ -10,6 +12,8 @@ use crate::notes::own_notes;
 use crate::notes::see_cell;
 use crate::notes::slot;
 use crate::notes::spreads;
+use crate::sights::Waiter;
+use crate::words::enter;
 use crate::words::put_marks;
 use buffers::record_space;
 use cells_spec::State;
@@ -70,6 +74,7 @@ fn list_marks(
     let mut inactive = [0; 32];
     let mut decided = [0; 32];
     let mut replaced = [0; 32];
+    let mut waiting = [Waiter { mark: 0, new: 0 }; 16];
     while i < kept.len() {
         let a = action_at(forms, kept[i]);
         let t = slot(task_of(a), first.tasks);
@@ -89,8 +94,14 @@ fn list_marks(
         );
         last = y.last;
         let outcome = y.outcome;
+        let d = deed_of(a, outcome);
         let o = own_notes(&loaded, &stored, &active, &inactive, &decided, &replaced, t);
-        n = end_call(list, n, outcome, r, x, o, i as u16, t as u32);
+        let at = i as u16;
+        let task = t as u32;
+        let k = r.cell as usize;
+        let w = waiting[k];
+        n = enter(list, n, made_word(d, r, x, o, w, at, task));
+        waiting[k] = next_waiter(d, r, x, o, w, task);
         note(
             &mut loaded,
             &mut stored,
@@ -98,11 +109,11 @@ fn list_marks(
             &mut inactive,
             &mut decided,
             &mut replaced,
-            noted_line(a, outcome, r.line),
+            noted_line(d, r.line),
             x,
             &who,
             t,
-            i as u16,
+            at,
         );
         i += 1;
     }

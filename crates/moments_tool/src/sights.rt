@@ -1,4 +1,5 @@
 // What moments notes of the calls, and the words that it keeps of them: types, definitions and laws, and the notes as they are taken.
+use figure_lines::Answer;
 
 // What a task sees of the block that it holds, before its step.
 pub struct Sight {
@@ -26,7 +27,16 @@ pub struct Spot {
     pub rule: u32,
 }
 
-pub enum Standing {
-    Nowhere,
-    At(Spot),
+// The withdrawn swap that waits for the decision of a cell's block: the word of its mark, 0 for nobody; and its new value.
+pub struct Waiter {
+    pub mark: u32,
+    pub new: u32,
+}
+
+// What an action did to its task's call.
+pub enum Deed {
+    Nothing,
+    Moved,
+    Answered(Answer),
+    Dropped,
 }

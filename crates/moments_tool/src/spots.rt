@@ -2,7 +2,6 @@
 use crate::sights::Own;
 use crate::sights::Sight;
 use crate::sights::Spot;
-use crate::sights::Standing;
 use figure_lines::Answer;
 use figure_lines::Record;
 ghost use mathlib.Core.Path.{_≡_};
@@ -12,8 +11,8 @@ ghost use Rattle.figure_lines.specs.Answers.{answerOf};
 ghost use Rattle.figure_lines.specs.Basics.{within};
 ghost use Rattle.figure_lines.specs.declared.Record.{Record};
 ghost use lib.Dec.{eqb};
-ghost use Rattle.figure_moments.specs.Moments.{ruled, stands as «standsOf», lineC6, effect as «effectOf»};
-ghost use Rattle.moments_tool.specs.Notes.{sightOf, ownNotes, numbered, numberedAt, standingOf};
+ghost use Rattle.figure_moments.specs.Moments.{ruled, lineC6, effect as «effectOf»};
+ghost use Rattle.moments_tool.specs.Notes.{sightOf, ownNotes, numbered};
 
 // The line in the figure's list: lines 1 to 3 are run for the one that wanted the decision.
 fn figure_line(r: Record) -> u32
@@ -25,7 +24,7 @@ fn figure_line(r: Record) -> u32
     r.line
 }
 
-fn itself(moment: u16, rule: u32) -> Spot
+pub fn itself(moment: u16, rule: u32) -> Spot
     ensures { λ q. ⌜ q ≡ record { moment = moment; side = 1; rule = rule } ⌝ }
 {
     Spot {
@@ -82,19 +81,10 @@ pub fn ending(r: Record, x: Sight, a: Answer, i: u16, o: Own) -> Spot
     }
 }
 
-// Where a pending swap took effect, if it did.
-pub fn stands(r: Record, x: Sight, o: Own) -> Standing
-    ensures { λ q. ⌜ standingOf q ≡ numberedAt («standsOf» (ownNotes 0 o) 0 (sightOf 0 r x [])) ⌝ }
+// It has stored its new value, and has not found another one decided.
+pub fn has_stored(r: Record) -> bool
+    ensures { λ b. ⌜ b ≡ within (cond (within (r .line) 1 3) (r .wanted) (r .line)) 24 26 ⌝ }
 {
     let line = figure_line(r);
-    if !((24 <= line) & (line <= 26)) {
-        return Standing::Nowhere;
-    }
-    if o.active == 1 {
-        return Standing::At(itself(o.stored, 5));
-    }
-    if x.as_new {
-        return Standing::At(itself(o.inactive, 4));
-    }
-    Standing::Nowhere
+    (24 <= line) & (line <= 26)
 }

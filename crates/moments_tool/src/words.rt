@@ -10,7 +10,7 @@ ghost use Rattle.text.specs.Append.{Appended};
 ghost use Rattle.text.specs.Bytes.{decimal};
 ghost use Rattle.session_spec.specs.Lines.{kindWord};
 ghost use Rattle.moments_spec.specs.Lines.{sideWord, ruleWord};
-ghost use Rattle.moments_tool.specs.Words.{wordWith, insertWord, SortedWords, sideAt, kindBit, ruleNumbered, wordLine, wordLines};
+ghost use Rattle.moments_tool.specs.Words.{wordWith, insertWord, entered, IsWord, SortedWords, sideAt, kindBit, ruleNumbered, wordLine, wordLines};
 use crate::sights::Spot;
 use figure_lines::Answer;
 use figure_lines::Record;
@@ -40,9 +40,9 @@ fn moment(x: u16) -> u32
 }
 
 // The word of a call there, of task t with the record r.
-fn word_of(q: Spot, r: Record, a: Answer, t: u32) -> u32
+pub fn word_of(q: Spot, r: Record, a: Answer, t: u32) -> u32
     requires { ⌜ (q .side ≤ 2) × (q .rule ≤ 7) × (t < 32) × (r .cell < 16) ⌝ }
-    ensures { λ w. ⌜ (w ≡ wordWith (q .moment) (q .side) (q .rule) (opOf r) t (answerOf a)) × (q .moment ≤ 65535) ⌝ }
+    ensures { λ w. ⌜ w ≡ wordWith (q .moment) (q .side) (q .rule) (opOf r) t (answerOf a) ⌝ }
 {
     let m = moment(q.moment);
     let still = bit(changes(r, a));
@@ -51,17 +51,19 @@ fn word_of(q: Spot, r: Record, a: Answer, t: u32) -> u32
     rank * 256 + (kind * 128 + (r.cell * 8 + q.rule))
 }
 
-// A call's word among the first n. The words behind are as they were.
-pub fn enter(list: &mut [u32], n: usize, q: Spot, r: Record, a: Answer, t: u32)
+// Puts a word among the first n, and returns how many there are then; 0 is no word. The words behind are as they were.
+pub fn enter(list: &mut [u32], n: usize, w: u32) -> usize
     requires { ⌜ n < length (now list) ⌝ }
     requires { ⌜ SortedWords (take n (now list)) ⌝ }
-    requires { ⌜ (q .side ≤ 2) × (q .rule ≤ 7) × (t < 32) × (r .cell < 16) ⌝ }
-    ensures { λ _. ⌜ take (n + 1) (now (list .exit)) ≡ insertWord (wordWith (q .moment) (q .side) (q .rule) (opOf r) t (answerOf a)) (take n (now (list .entry))) ⌝ }
-    ensures { λ _. ⌜ q .moment ≤ 65535 ⌝ }
-    ensures { λ _. ⌜ drop (n + 1) (now (list .exit)) ≡ drop (n + 1) (now (list .entry)) ⌝ }
+    ensures { λ m. ⌜ (n ≤ m) × (m ≤ n + 1) × IsWord w ⌝ }
+    ensures { λ m. ⌜ take m (now (list .exit)) ≡ entered w (take n (now (list .entry))) ⌝ }
+    ensures { λ m. ⌜ drop m (now (list .exit)) ≡ drop m (now (list .entry)) ⌝ }
 {
-    let w = word_of(q, r, a, t);
+    if w == 0 {
+        return n;
+    }
     insert(list, n, w);
+    n + 1
 }
 
 // Among the first n, which are sorted: from the end, as a call's moment is seldom far back.

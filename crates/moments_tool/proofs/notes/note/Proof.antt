@@ -5,6 +5,7 @@ use Prim.Native.Nat.{ℕ}
 use native.Mathlib.Numerals.{add-one}
 use lib.Dec.{eqb}
 use lib.ListN.{getD}
+use Rattle.moments_tool.specs.Notes.{nobodyWaits}
 use Rattle.moments_tool.proofs.Noting.{as-flag, either-noted}
 use Rattle.moments_tool.proofs.notes.note.Statement.{statement}
 use Rattle.moments_tool.proofs.notes.note.Tie as tie
@@ -54,6 +55,7 @@ returns c =
           decided = λ u. (then .1 u ∙ ap (λ (n : ℕ). cond ((eqb a.line 2 && a.x .undecided) && eqb (getD a.who.now u 0) 1) a.i n) (first .1 u)
               ∙ either-noted ((eqb a.line 10 || eqb a.line 15) && eqb u a.t) ((eqb a.line 2 && a.x .undecided) && eqb (getD a.who.now u 0) 1) a.i (getD a.decided.now u 0)) j;
           replaced = λ u. replaced .1 u j;
+          waiting = nobodyWaits;
         },
         λ u. active .1 u ∙ ap (λ (n : ℕ). cond (eqb a.line 23 && eqb u a.t) n (getD a.active.now u 0)) (c .before .before .before .before .before .before .before .before .before .before .before .before .flag .ensures .1),
       ),
