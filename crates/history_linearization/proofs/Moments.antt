@@ -11,7 +11,7 @@ use Rattle.history_spec.specs.Basics.{_∈_, Once}
 use Rattle.history_spec.specs.History.{Action, Event, history, run, Response, Yes, Call, FinishedCall, WithdrawnCall, Calls, noCalls, callsOf, CallOf, pending, finished, withdrawn}
 use Rattle.history_spec.specs.Linearization.{Point, replies, Placed, Linearizes}
 use Rattle.history_spec.specs.Moments.{before, itself, Spot, Mark, pointOf, replyOf, Names, beside, markOfPending, pendingMarks, sort, linearized}
-use Rattle.history_spec.proofs.Basics.{either, clash, some-inj, mem-append, point}
+use Rattle.history_spec.proofs.Basics.{either, clash, some-inj, mem-append, mem-left, mem-right, mem-map, point}
 use Rattle.history_linearization.proofs.Simulation.{Knowledge, Sided, Named, Simulation}
 use Rattle.history_linearization.proofs.Tracks.{tallied, tallyOf}
 use Rattle.history_linearization.proofs.MovesOne.{Dated}
@@ -27,14 +27,6 @@ use Rattle.history_linearization.proofs.EveryAction.{Good, AtEnd, at-en
 
 -- LISTS
 
-mem-left : (a b : List Mark) (m : Mark) → m ∈ a → m ∈ (a ++ b)
-mem-left (x ∷ a) b m (inl e) = inl e
-mem-left (x ∷ a) b m (inr i) = inr (mem-left a b m i)
-
-mem-right : (a b : List Mark) (m : Mark) → m ∈ b → m ∈ (a ++ b)
-mem-right [] b m i = i
-mem-right (x ∷ a) b m i = inr (mem-right a b m i)
-
 once-both : (a b : List Mark) → Once (begins a) → Once (begins b) → ((m : Mark) → m ∈ a → ¬ (m .call .at ∈ begins b)) → Once (begins (a ++ b))
 once-both [] b o p d = p
 once-both (x ∷ a) b o p d = ((λ i. let m = from-begins (a ++ b) (x .call .at) i in go (m .0) (m .2) (mem-append a b (m .0) (m .1))), once-both a b (o .1) p (λ m i. d m (inr i)))
@@ -42,10 +34,6 @@ once-both (x ∷ a) b o p d = ((λ i. let m = from-begins (a ++ b) (x .call .at)
     go : (m : Mark) → x .call .at ≡ m .call .at → (m ∈ a) ⊎ (m ∈ b) → ⊥
     go m e (inl j) = o .0 (rw e (to-begins a m j))
     go m e (inr j) = d x (inl refl) (rw e (to-begins b m j))
-
-in-answers : (l : List Mark) (m : Mark) → m ∈ l → replyOf m ∈ map replyOf l
-in-answers (x ∷ l) m (inl e) = inl (ap replyOf e)
-in-answers (x ∷ l) m (inr i) = inr (in-answers l m i)
 
 point-begins : (l : List Mark) → map (λ e. e .call .at) (map pointOf l) ≡ begins l
 point-begins [] = refl
@@ -288,7 +276,7 @@ module _ {S N : Type 0} {machine : S → Action → S × Event} {note : N → S 
       w .2 .after-begin,
       w .2 .by-last-step,
       subst (λ q. (pointOf (w .0), f .report .answer) ∈ q) (sym answers-sorted) (subst (λ a. (pointOf (w .0), a) ∈ map replyOf sorted) (w .2 .answer)
-          (in-answers sorted (w .0) (in-sort every-mark (w .0) (mem-right waiting (r .emitted) (w .0) (G .emits .ended (w .0) (w .1)))))),
+          (mem-map replyOf sorted (w .0) (in-sort every-mark (w .0) (mem-right waiting (r .emitted) (w .0) (G .emits .ended (w .0) (w .1)))))),
     );
   }
 

@@ -180,10 +180,6 @@ pub points-in : (l : List Mark) (e : Point) → e ∈ map pointOf l → (m : Mar
 points-in (x ∷ l) e (inl h) = (x, inl refl, h)
 points-in (x ∷ l) e (inr h) = let r = points-in l e h in (r .0, inr (r .1), r .2)
 
-pub in-points : (l : List Mark) (m : Mark) → m ∈ l → pointOf m ∈ map pointOf l
-in-points (x ∷ l) m (inl h) = inl (ap pointOf h)
-in-points (x ∷ l) m (inr h) = inr (in-points l m h)
-
 -- the marks are those of the calls E, each once
 pub record Marks (E : Point → Response → Type 0) (ms : List Mark) : Type 0 where
   pub theirs : (m : Mark) → m ∈ ms → E (pointOf m) (m .answer)

@@ -3,7 +3,7 @@ use mathlib.Core.Path.{_≡_, refl, ap}
 use mathlib.Core.Logic.{_≢_, _⊎_, inl, inr}
 use mathlib.Core.Bool.{Bool, true, false, false≢true}
 use mathlib.Core.Option.{Option, none, some}
-use mathlib.Core.List.{List, [], _∷_, _++_}
+use mathlib.Core.List.{List, [], _∷_, _++_, map}
 use Prim.Native.Nat.{ℕ, zero, suc}
 use native.Mathlib.Decide.{ℕ-discrete}
 use native.Mathlib.Omega.{arith}
@@ -65,6 +65,18 @@ mem-append (x ∷ l) m a (inr i) = go (mem-append l m a i)
     go : (a ∈ l) ⊎ (a ∈ m) → (a ∈ (x ∷ l)) ⊎ (a ∈ m)
     go (inl j) = inl (inr j)
     go (inr j) = inr j
+
+pub mem-left : {A : Type 0} (l m : List A) (a : A) → a ∈ l → a ∈ (l ++ m)
+mem-left (x ∷ l) m a (inl e) = inl e
+mem-left (x ∷ l) m a (inr i) = inr (mem-left l m a i)
+
+pub mem-right : {A : Type 0} (l m : List A) (a : A) → a ∈ m → a ∈ (l ++ m)
+mem-right [] m a i = i
+mem-right (x ∷ l) m a i = inr (mem-right l m a i)
+
+pub mem-map : {A B : Type 0} (f : A → B) (l : List A) (a : A) → a ∈ l → f a ∈ map f l
+mem-map f (x ∷ l) a (inl e) = inl (ap f e)
+mem-map f (x ∷ l) a (inr i) = inr (mem-map f l a i)
 
 pub replicate-at : {A : Type 0} (a : A) (n k : ℕ) → getD (replicate n a) k a ≡ a
 replicate-at a zero k = refl

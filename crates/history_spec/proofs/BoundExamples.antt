@@ -11,8 +11,8 @@ use Rattle.history_spec.specs.Basics.{upd, _∈_}
 use Rattle.history_spec.specs.History.{aRead, aSwap, read, swap, Action, begin, step, drop, untried, success, failure, Event, refused, accepted, Value, Yes, Call, attempts, FinishedCall, WithdrawnCall, Calls, noCalls, callsOf}
 use Rattle.history_spec.specs.History.{finished, pending, withdrawn, WellFormed}
 use Rattle.history_spec.specs.Demand3.{most, mostHard, Reports, Bounds, Unequal, Alone, NoHardware}
-use Rattle.history_spec.proofs.Basics.{either, clash, some-inj}
-use Rattle.history_spec.proofs.Examples.{answers, TwoCalls, two-calls, ended, both-ended, one-of}
+use Rattle.history_spec.proofs.Basics.{either, clash}
+use Rattle.history_spec.proofs.Examples.{answers, the-calls, ended}
 
 -- WRONG EVENTS: no well-formed history has them
 
@@ -26,6 +26,21 @@ no-second-call-of-a-busy-task w = clash (w .1 .0 .0) refl
 
 pub no-answer-without-a-call : WellFormed 1 noCalls ((step 0, answers untried aRead (Value 5) 3 0 0) ∷ []) → ⊥
 no-answer-without-a-call w = w .0
+
+pub no-refusal-of-its-drop : WellFormed 1 noCalls ((begin 0 (read 0), accepted untried) ∷ (drop 0, refused 11) ∷ []) → ⊥
+unfolding upd
+no-refusal-of-its-drop w = clash (w .1 .0) refl
+
+pub no-drop-without-a-call : WellFormed 1 noCalls ((drop 0, accepted untried) ∷ []) → ⊥
+no-drop-without-a-call w = w .0 .0
+
+-- a withdrawn call takes no further step, and its task is idle; nor does a drop answer it
+pub no-step-after-its-drop : WellFormed 1 noCalls ((begin 0 (read 0), accepted untried) ∷ (drop 0, accepted untried) ∷ (step 0, accepted untried) ∷ []) → ⊥
+unfolding upd
+no-step-after-its-drop w = w .1 .1 .0
+
+pub no-answer-by-a-drop : WellFormed 1 noCalls ((begin 0 (read 0), accepted untried) ∷ (drop 0, answers untried aRead (Value 5) 1 0 0) ∷ []) → ⊥
+no-answer-by-a-drop w = w .1 .0
 
 pub no-call-on-a-cell-that-is-not-there : WellFormed 1 noCalls ((begin 0 (read 1), accepted untried) ∷ []) → ⊥
 no-call-on-a-cell-that-is-not-there w = omega (arith, w .0 .1)
@@ -101,11 +116,10 @@ no-hardware-CAS-alone h = omega (arith, h (needless .call) 1 (finished needless 
     b = callsOf ((begin 0 (swap 0 5 7), accepted untried) ∷ (step 0, answers success aSwap Yes 1 1 0) ∷ [])
 
     alone : Alone b (needless .call) 1
-    alone d n i u q ne = absurd (go (both-ended b needless needless (λ t p q. rw (ne-eqb t 0 p)) refl refl refl (one-of needless) d n i))
+    alone d n i u q ne = absurd (go (the-calls b (λ t p q. rw (ne-eqb t 0 p)) d n i))
       where
-        go : (d ≡ needless .call) ⊎ (d ≡ needless .call) → ⊥
+        go : d ∈ (needless .call ∷ []) → ⊥
         go (inl q) = ne (ap (λ (c : Call). c .start .at) q)
-        go (inr q) = ne (ap (λ (c : Call). c .start .at) q)
 
 -- where the cell is not clear, the same call is right
 pub hardware-CAS-on-a-cell-that-is-not-clear : NoHardware (λ l k. ⊥) (callsOf ((begin 0 (swap 0 5 7), accepted untried) ∷ (step 0, answers success aSwap Yes 1 1 0) ∷ []))
@@ -125,18 +139,12 @@ pub no-hardware-CAS-beside-an-equal-swap : NoHardware (λ l k. Unit {0}) (callsO
 unfolding upd
 no-hardware-CAS-beside-an-equal-swap h = omega (arith, h (beside .call) 2 (finished beside (inl refl)) tt alone)
   where
-    done : (f : FinishedCall) → f ∈ (beside ∷ []) → (f .call ≡ equal) ⊎ (f .call ≡ beside .call)
-    done f (inl q) = inr (ap (λ (f : FinishedCall). f .call) q)
-
-    two : TwoCalls (callsOf beside-equal) equal (beside .call)
-    two = two-calls (callsOf beside-equal) equal (beside .call) (λ t p q. rw (ne-eqb t 0 p, ne-eqb t 1 q)) (λ e h. some-inj h refl) refl refl done
-
     alone : Alone (callsOf beside-equal) (beside .call) 2
-    alone d n i u q ne = absurd (go (two d n i))
+    alone d n i u q ne = absurd (go (the-calls (callsOf beside-equal) (λ t p q. rw (ne-eqb t 0 p, ne-eqb t 1 q)) d n i))
       where
-        go : (d ≡ equal) ⊎ (d ≡ beside .call) → ⊥
+        go : d ∈ (equal ∷ beside .call ∷ []) → ⊥
         go (inl q) = subst (λ (d : Call). Unequal (d .start .op)) q u refl
-        go (inr q) = ne (ap (λ (c : Call). c .start .at) q)
+        go (inr (inl q)) = ne (ap (λ (c : Call). c .start .at) q)
 
 -- a swap that begins after the drop of another tries the hardware CAS: a withdrawn call contends until its drop
 abbrev after-a-drop : List (Action × Event)

@@ -1,21 +1,23 @@
--- What linearizations are accepted and what they rule out, at histories written out. A linearization of two calls has one of five shapes, so
--- each refutation goes through them, and the answers in each are computed. (Nothing here uses the proof of demand 3, so that the checker comes
--- to these examples first, and refuses a wrong definition here.)
+-- What linearizations are accepted and what they rule out, at histories written out. A refutation tries every order of the history's calls, and
+-- computes the answers in each. (Nothing here uses the proof of demand 3, so that the checker comes to these examples first, and refuses a
+-- wrong definition here.)
 use mathlib.Core.Path.{_≡_, refl, sym, ap, _∙_, subst}
 use mathlib.Core.Logic.{_≢_, _⊎_, inl, inr}
-use mathlib.Core.Bool.{Bool, true, false, cond}
-use mathlib.Core.Option.{none, some}
+use mathlib.Core.Bool.{Bool, true, false, not, _&&_, _||_}
+use mathlib.Core.Option.{Option, none, some}
 use mathlib.Core.List.{List, [], _∷_, _++_, map}
-use Prim.Native.Nat.{ℕ, _+_, _*_, _≤_, _<_}
+use Prim.Native.Nat.{ℕ, zero, suc, _+_, _*_, _≤_, _<_}
 use native.Mathlib.Omega.{arith}
-use lib.Dec.{eqb, T}
+use lib.Dec.{eqb, leb, T, T-not, eqb→eq, leb→le}
+use lib.ListN.{length}
 use borrow.Author.Tests.{eq-eqb, ne-eqb}
 use Rattle.history_spec.specs.Basics.{upd, _∈_, Once}
-use Rattle.history_spec.specs.History.{Op, cellOf, Kind, aRead, aSwap, kindOf, Report, read, swap, Action, begin, step, Attempt, untried, success, Event, accepted, answered, Response, Value, Yes, No, CallId, Call, attempts, FinishedCall, Calls, callsOf}
+use Rattle.history_spec.specs.History.{Op, cellOf, Kind, aRead, aSwap, kindOf, Report, read, swap, Action, begin, step, drop, Attempt, untried, success, Event, accepted, answered, Response, Value, Yes, No, CallId, Call, attempts, FinishedCall, WithdrawnCall, Calls, callsOf}
 use Rattle.history_spec.specs.History.{CallOf, finished, pending, withdrawn}
-use Rattle.history_spec.specs.Linearization.{reply, apply, Point, replies, Placed, Linearizes}
+use Rattle.history_spec.specs.Linearization.{reply, apply, Point, replies, Sorted, Placed, Linearizes}
 use Rattle.history_spec.specs.Demand3.{most, mostHard, Reports, Unequal, Alone, Demand3}
-use Rattle.history_spec.proofs.Basics.{either, clash, some-inj, point}
+use Rattle.history_spec.proofs.Basics.{either, clash, mem-left, mem-right, mem-map, point}
+use Rattle.history_spec.proofs.ListTests.{every, every-in, in-every, both, or-left, or-right, or-either, turned}
 
 -- THE SEQUENTIAL CELLS: every cell holds 5 first
 
@@ -68,7 +70,7 @@ no-call-twice values b c m n xs ys i r = not-again xs ys (point c m) (point c n)
 pub no-effect-at-the-begin : (values : ℕ → ℕ) (b : Calls) (l : List Point) (x : Point) → x ∈ l → x .moment ≤ x .call .at → Linearizes values b l → ⊥
 no-effect-at-the-begin values b l x i q r = let p = r .placed x i in omega (arith, p .after-begin, ap (λ (s : CallId). s .at) (p .is))
 
--- TOOLS: a history of the tasks 0 and 1 with the calls c and d
+-- TOOLS: a history of the tasks 0 and 1
 
 -- of calls on cell 0
 abbrev pub report : Kind → Response → (steps won lost : ℕ) → Report
@@ -77,19 +79,38 @@ report k a n w l = record { kind = k; cell = 0; answer = a; steps = n; won = w; 
 abbrev pub answers : Attempt → Kind → Response → (steps won lost : ℕ) → Event
 answers x k a n w l = answered x (report k a n w l)
 
-abbrev pub TwoCalls : Calls → Call → Call → Type 0
-TwoCalls b c d = (e : Call) (n : ℕ) → CallOf b e n → (e ≡ c) ⊎ (e ≡ d)
+abbrev ofTask : Option Call → List Call
+ofTask none = []
+ofTask (some c) = c ∷ []
 
-pub two-calls : (b : Calls) (c d : Call) → ((t : ℕ) → t ≢ 0 → t ≢ 1 → b .pending t ≡ none) → ((e : Call) → b .pending 0 ≡ some e → e ≡ c) → b .pending 1 ≡ none → b .withdrawn ≡ [] →
-    ((f : FinishedCall) → f ∈ b .finished → (f .call ≡ c) ⊎ (f .call ≡ d)) → TwoCalls b c d
-two-calls b c d rest at0 at1 gone done e n (finished f i) = done f i
-two-calls b c d rest at0 at1 gone done e n (withdrawn w i) = absurd (rw gone at i)
-two-calls b c d rest at0 at1 gone done e n (pending t f h) = go (either t 0) (either t 1)
+-- the calls of tasks 0 and 1
+abbrev pub theCalls : Calls → List Call
+theCalls b = ofTask (b .pending 0) ++ (ofTask (b .pending 1) ++ (map (λ f. f .call) (b .finished) ++ map (λ w. w .call) (b .withdrawn)))
+
+abbrev pub OnlyTwoTasks : Calls → Type 0
+OnlyTwoTasks b = (t : ℕ) → t ≢ 0 → t ≢ 1 → b .pending t ≡ none
+
+of-task : (o : Option Call) (c : Call) → o ≡ some c → c ∈ ofTask o
+of-task o c e = rw e (inl refl)
+
+pub the-calls : (b : Calls) → OnlyTwoTasks b → (c : Call) (n : ℕ) → CallOf b c n → c ∈ theCalls b
+the-calls b two c n i = go c n i
   where
-    go : (t ≡ 0) ⊎ (t ≢ 0) → (t ≡ 1) ⊎ (t ≢ 1) → (e ≡ c) ⊎ (e ≡ d)
-    go (inl p) q = inl (at0 e (rw p at h))
-    go (inr p) (inl q) = absurd (clash at1 (rw q at h))
-    go (inr p) (inr q) = absurd (clash (rest t p q) h)
+    ended : List Call
+    ended = map (λ f. f .call) (b .finished) ++ map (λ w. w .call) (b .withdrawn)
+
+    behind : (c : Call) → c ∈ ended → c ∈ theCalls b
+    behind c i = mem-right (ofTask (b .pending 0)) (ofTask (b .pending 1) ++ ended) c (mem-right (ofTask (b .pending 1)) ended c i)
+
+    busy : (c : Call) (t : ℕ) → b .pending t ≡ some c → (t ≡ 0) ⊎ (t ≢ 0) → (t ≡ 1) ⊎ (t ≢ 1) → c ∈ theCalls b
+    busy c t h (inl p) q = mem-left (ofTask (b .pending 0)) _ c (of-task (b .pending 0) c (rw p at h))
+    busy c t h (inr p) (inl q) = mem-right (ofTask (b .pending 0)) _ c (mem-left (ofTask (b .pending 1)) ended c (of-task (b .pending 1) c (rw q at h)))
+    busy c t h (inr p) (inr q) = absurd (clash (two t p q) h)
+
+    go : (c : Call) (n : ℕ) → CallOf b c n → c ∈ theCalls b
+    go c n (finished f i) = behind c (mem-left (map (λ f. f .call) (b .finished)) _ c (mem-map (λ (f : FinishedCall). f .call) (b .finished) f i))
+    go c n (withdrawn w i) = behind c (mem-right (map (λ f. f .call) (b .finished)) (map (λ w. w .call) (b .withdrawn)) c (mem-map (λ (w : WithdrawnCall). w .call) (b .withdrawn) w i))
+    go c n (pending t d h) = busy c t h (either t 0) (either t 1)
 
 nor : {A B : Type 0} → (A → ⊥) → (B → ⊥) → A ⊎ B → ⊥
 nor f g (inl a) = f a
@@ -100,61 +121,15 @@ pub contends : (b : Calls) (c d : Call) (n end : ℕ) → CallOf b d n → Unequ
     c .start .at < n → d .start .at < end → Alone b c end → ⊥
 contends b c d n end i u q ne low high alone = nor (λ z. omega arith) (λ z. omega arith) (alone d n i u q ne)
 
-data Shape (c d : Call) : List Point → Type 0 where
-  neither : Shape c d []
-  only-c : (m : ℕ) → Shape c d (point c m ∷ [])
-  only-d : (n : ℕ) → Shape c d (point d n ∷ [])
-  c-then-d : (m n : ℕ) → Shape c d (point c m ∷ point d n ∷ [])
-  d-then-c : (n m : ℕ) → Shape c d (point d n ∷ point c m ∷ [])
+-- x is c's, after its begin and no later than its last step
+abbrev Is : Call → Point → Type 0
+Is c x = (x .call ≡ c .start) × (c .start .at < x .moment) × (x .moment ≤ c .last)
 
-module _ {values : ℕ → ℕ} {b : Calls} {l : List Point} (c d : Call) (two : TwoCalls b c d) (r : Linearizes values b l) where
-  abbrev Of : Point → Type 0
-  Of x = (x ≡ point c (x .moment)) ⊎ (x ≡ point d (x .moment))
+abbrev Drawn : List Call → List Point → Type 0
+Drawn cs l = (x : Point) → x ∈ l → (c : Call) × (c ∈ cs) × Is c x
 
-  its : (x : Point) → x ∈ l → Of x
-  its x i = let p = r .placed x i in go p (two (p .call) _ (p .of-history))
-    where
-      go : (p : Placed b x) → (p .call ≡ c) ⊎ (p .call ≡ d) → Of x
-      go p (inl q) = let s : x .call ≡ c .start = p .is ∙ ap (λ (c : Call). c .start) q in inl (λ i. record { moment = x .moment; call = s i })
-      go p (inr q) = let s : x .call ≡ d .start = p .is ∙ ap (λ (c : Call). c .start) q in inr (λ i. record { moment = x .moment; call = s i })
-
-  same : (s : Call) {x y : Point} → x ≡ point s (x .moment) → y ≡ point s (y .moment) → x .call .at ≡ y .call .at
-  same s p q = ap (λ (x : Point). x .call .at) p ∙ sym (ap (λ (x : Point). x .call .at) q)
-
-  shaped : (l : List Point) → ((x : Point) → x ∈ l → Of x) → Once (ats l) → Shape c d l
-  shaped [] h o = neither
-  shaped (x ∷ []) h o = go (h x (inl refl))
-    where
-      go : Of x → Shape c d (x ∷ [])
-      go (inl p) = rw p (only-c (x .moment))
-      go (inr p) = rw p (only-d (x .moment))
-  shaped (x ∷ y ∷ []) h o = go (h x (inl refl)) (h y (inr (inl refl)))
-    where
-      go : Of x → Of y → Shape c d (x ∷ y ∷ [])
-      go (inl p) (inl q) = absurd (o .0 (inl (same c p q)))
-      go (inl p) (inr q) = rw (p, q) (c-then-d (x .moment) (y .moment))
-      go (inr p) (inl q) = rw (p, q) (d-then-c (x .moment) (y .moment))
-      go (inr p) (inr q) = absurd (o .0 (inl (same d p q)))
-  shaped (x ∷ y ∷ z ∷ l) h o = absurd (go (h x (inl refl)) (h y (inr (inl refl))) (h z (inr (inr (inl refl)))))
-    where
-      go : Of x → Of y → Of z → ⊥
-      go (inl p) (inl q) s = o .0 (inl (same c p q))
-      go (inr p) (inr q) s = o .0 (inl (same d p q))
-      go (inl p) (inr q) (inl s) = o .0 (inr (inl (same c p s)))
-      go (inl p) (inr q) (inr s) = o .1 .0 (inl (same d q s))
-      go (inr p) (inl q) (inl s) = o .1 .0 (inl (same c q s))
-      go (inr p) (inl q) (inr s) = o .0 (inr (inl (same d p s)))
-
-  shape : Shape c d l
-  shape = shaped l its (r .once)
-
-  -- c's point lies between its begin and its last step
-  within-c : c .start .at ≢ d .start .at → (m : ℕ) → point c m ∈ l → (c .start .at < m) × (m ≤ c .last)
-  within-c ne m i = let p = r .placed (point c m) i in go p (two (p .call) _ (p .of-history))
-    where
-      go : (p : Placed b (point c m)) → (p .call ≡ c) ⊎ (p .call ≡ d) → (c .start .at < m) × (m ≤ c .last)
-      go p (inl q) = subst (λ (c : Call). (c .start .at < m) × (m ≤ c .last)) q (p .after-begin, p .by-last-step)
-      go p (inr q) = absurd (ne (ap (λ (s : CallId). s .at) (p .is ∙ ap (λ (c : Call). c .start) q)))
+drawn : {values : ℕ → ℕ} {b : Calls} {l : List Point} → OnlyTwoTasks b → Linearizes values b l → Drawn (theCalls b) l
+drawn {b = b} two r x i = let p = r .placed x i in (p .call, the-calls b two (p .call) _ (p .of-history), (p .is, p .after-begin, p .by-last-step))
 
 -- a begin's moment and an answer as one number, so that what a linearization answers is computed
 abbrev code : ℕ → Response → ℕ
@@ -162,23 +137,79 @@ code n (Value v) = n + 100 * (v + 2)
 code n Yes = n + 100
 code n No = n
 
+abbrev says : (ℕ → ℕ) → CallId → ℕ
+says cells s = code (s .at) (reply (cells (cellOf (s .op))) (s .op))
+
 abbrev said : ℕ → List (Point × Response) → Bool
 said k [] = false
-said k (p ∷ l) = cond (eqb k (code (p .0 .call .at) (p .1))) true (said k l)
+said k (p ∷ l) = eqb k (code (p .0 .call .at) (p .1)) || said k l
 
 in-said : (r : List (Point × Response)) (p : Point × Response) → p ∈ r → T (said (code (p .0 .call .at) (p .1)) r)
 in-said (q ∷ r) p (inl h) = rw (eq-eqb (code (p .0 .call .at) (p .1)) (code (q .0 .call .at) (q .1)) (ap (λ (p : Point × Response). code (p .0 .call .at) (p .1)) h)) tt
-in-said (q ∷ r) p (inr h) = go (eqb (code (p .0 .call .at) (p .1)) (code (q .0 .call .at) (q .1))) (in-said r p h)
-  where
-    go : (x : Bool) → T (said (code (p .0 .call .at) (p .1)) r) → T (cond x true (said (code (p .0 .call .at) (p .1)) r))
-    go true i = tt
-    go false i = i
+in-said (q ∷ r) p (inr h) = or-right (eqb (code (p .0 .call .at) (p .1)) (code (q .0 .call .at) (q .1))) (said (code (p .0 .call .at) (p .1)) r) (in-said r p h)
+
+abbrev wanted : Calls → List ℕ
+wanted b = map (λ f. code (f .call .start .at) (f .report .answer)) (b .finished)
 
 -- a finished call's answer is among those of the linearization
-must : {values : ℕ → ℕ} {b : Calls} {l : List Point} → Linearizes values b l → (f : FinishedCall) → f ∈ b .finished → T (said (code (f .call .start .at) (f .report .answer)) (replies values l))
-must {values} {l = l} r f i =
-    let a = r .answers f i in
-    subst (λ (s : CallId). T (said (code (s .at) (f .report .answer)) (replies values l))) (a .1) (in-said (replies values l) (a .0, f .report .answer) (a .4))
+must : {values : ℕ → ℕ} {b : Calls} {l : List Point} → Linearizes values b l → (fs : List FinishedCall) → ((f : FinishedCall) → f ∈ fs → f ∈ b .finished) → (k : ℕ) → k ∈ map (λ f. code (f .call .start .at) (f .report .answer)) fs → T (said k (replies values l))
+must {values} {l = l} r (f ∷ fs) h k (inl e) =
+    let a = r .answers f (h f (inl refl)) in
+    rw e (subst (λ (s : CallId). T (said (code (s .at) (f .report .answer)) (replies values l))) (a .1) (in-said (replies values l) (a .0, f .report .answer) (a .4)))
+must r (f ∷ fs) h k (inr i) = must r fs (λ g j. h g (inr j)) k i
+
+-- the calls cs can be drawn in no order that has the wanted answers: `told` are those of the calls so far
+module _ (cs : List Call) (answers : List ℕ) where
+  -- c is one of the calls so far, or ended before one of them began
+  abbrev barred : List Call → Call → Bool
+  barred [] c = false
+  barred (u ∷ used) c = (eqb (c .start .at) (u .start .at) || leb (c .last) (u .start .at)) || barred used c
+
+  abbrev hopeless : ℕ → (ℕ → ℕ) → List Call → (ℕ → Bool) → Bool
+  hopeless zero cells used told = false
+  hopeless (suc n) cells used told = not (every told answers) && every (λ c. barred used c || hopeless n (apply cells (c .start .op)) (c ∷ used) (λ k. eqb k (says cells (c .start)) || told k)) cs
+
+  unbarred : (used : List Call) (c : Call) → ((u : Call) → u ∈ used → (c .start .at ≢ u .start .at) × (u .start .at < c .last)) → T (barred used c) → ⊥
+  unbarred [] c h z = z
+  unbarred (u ∷ used) c h z = go (unbarred used c (λ v i. h v (inr i))) (or-either (eqb (c .start .at) (u .start .at) || leb (c .last) (u .start .at)) (barred used c) z)
+    where
+      first : T (eqb (c .start .at) (u .start .at)) ⊎ T (leb (c .last) (u .start .at)) → ⊥
+      first (inl e) = h u (inl refl) .0 (eqb→eq _ _ e)
+      first (inr e) = omega (arith, leb→le (c .last) (u .start .at) e, h u (inl refl) .1)
+
+      go : (T (barred used c) → ⊥) → T (eqb (c .start .at) (u .start .at) || leb (c .last) (u .start .at)) ⊎ T (barred used c) → ⊥
+      go r (inl e) = first (or-either (eqb (c .start .at) (u .start .at)) (leb (c .last) (u .start .at)) e)
+      go r (inr e) = r e
+
+  sound : (n : ℕ) (cells : ℕ → ℕ) (used : List Call) (told : ℕ → Bool) (l : List Point) → Drawn cs l → Sorted l → Once (ats l) →
+      ((u : Call) → u ∈ used → (x : Point) → x ∈ l → (x .call .at ≢ u .start .at) × (u .start .at < x .moment)) →
+      ((k : ℕ) → k ∈ answers → T (said k (replies cells l) || told k)) → T (hopeless n cells used told) → ⊥
+  sound zero cells used told l d s o b w h = h
+  sound (suc n) cells used told [] d s o b w h = T-not (every told answers) (both (not (every told answers)) _ h .0) (in-every told answers w)
+  sound (suc n) cells used told (x ∷ l) d s o b w h =
+      let c = d x (inl refl) in
+      sound n (apply cells (c .0 .start .op)) (c .0 ∷ used) _ l (λ y i. d y (inr i)) (s .1) (o .1) (behind (c .0) (c .2)) (left (c .0) (c .2))
+      (free (c .0) (c .2) _ (every-in _ cs (both (not (every told answers)) _ h .1) (c .0) (c .1)))
+    where
+      behind : (c : Call) → Is c x → (u : Call) → u ∈ (c ∷ used) → (y : Point) → y ∈ l → (y .call .at ≢ u .start .at) × (u .start .at < y .moment)
+      behind c i u (inl e) y j = rw e ((λ q. o .0 (subst (λ n. n ∈ ats l) (q ∙ ap (λ (s : CallId). s .at) (sym (i .0))) (to-ats l y j))), omega (arith, s .0 y j, i .1))
+      behind c i u (inr k) y j = b u k y (inr j)
+
+      left : (c : Call) → Is c x → (k : ℕ) → k ∈ answers → T (said k (replies (apply cells (c .start .op)) l) || (eqb k (says cells (c .start)) || told k))
+      left c i k m = subst (λ (s : CallId). T (said k (replies (apply cells (s .op)) l) || (eqb k (says cells s) || told k))) (i .0) (turned (eqb k (says cells (x .call))) _ (told k) (w k m))
+
+      free : (c : Call) → Is c x → (t : Bool) → T (barred used c || t) → T t
+      free c i t h = go (or-either (barred used c) t h)
+        where
+          go : T (barred used c) ⊎ T t → T t
+          go (inl z) = absurd (unbarred used c (λ u j. let k = b u j x (inl refl) in ((λ e. k .0 (ap (λ (s : CallId). s .at) (i .0) ∙ e)), omega (arith, k .1, i .2))) z)
+          go (inr z) = z
+
+refuted : {values : ℕ → ℕ} {b : Calls} {l : List Point} (cs : List Call) → Drawn cs l → Linearizes values b l → T (hopeless cs (wanted b) (suc (length cs)) values [] (λ k. false)) → ⊥
+refuted {values} {b} {l} cs d r h = sound cs (wanted b) (suc (length cs)) values [] (λ k. false) l d (r .sorted) (r .once) (λ u i. absurd i) (λ k i. or-left (said k (replies values l)) false (must r (b .finished) (λ f j. j) k i)) h
+
+no-order : (values : ℕ → ℕ) (b : Calls) → OnlyTwoTasks b → T (hopeless (theCalls b) (wanted b) (suc (length (theCalls b))) values [] (λ k. false)) → (l : List Point) → Linearizes values b l → ⊥
+no-order values b two h l r = refuted (theCalls b) (drawn two r) r h
 
 -- A LATE SWAP THAT HALTS
 
@@ -205,12 +236,13 @@ its-calls : (callsOf late-swap .pending 0 ≡ some halted) × (callsOf late-swap
 unfolding upd
 its-calls = (refl, refl, refl, refl)
 
-late-two : TwoCalls (callsOf late-swap) halted decider
+late-tasks : OnlyTwoTasks (callsOf late-swap)
 unfolding upd
-late-two = two-calls (callsOf late-swap) halted decider (λ t p q. rw (ne-eqb t 0 p, ne-eqb t 1 q)) (λ e h. some-inj h refl) refl refl done
-  where
-    done : (f : FinishedCall) → f ∈ (decided ∷ []) → (f .call ≡ halted) ⊎ (f .call ≡ decider)
-    done f (inl q) = inr (ap (λ (f : FinishedCall). f .call) q)
+late-tasks t p q = rw (ne-eqb t 0 p, ne-eqb t 1 q)
+
+late-calls : (c : Call) (n : ℕ) → CallOf (callsOf late-swap) c n → c ∈ (halted ∷ decider ∷ [])
+unfolding upd
+late-calls = the-calls (callsOf late-swap) late-tasks
 
 late-halted : CallOf (callsOf late-swap) halted 17
 unfolding upd
@@ -254,8 +286,8 @@ late-swap-meets-demand-3 = record {
   calls = record {
     linearization = point halted 12 ∷ point decider 15 ∷ [];
     linearizes = late-swap-at-the-freezing;
-    bounds = record { ended = ended; reported = reported; unended = λ t c h. unended c (late-two c 17 (pending t c h)); withdrawn = λ w i. absurd i };
-    no-hardware = λ c n i a l. hard c n i l (late-two c n i);
+    bounds = record { ended = ended; reported = reported; unended = λ t c h. unended c (late-calls c 17 (pending t c h)); withdrawn = λ w i. absurd i };
+    no-hardware = λ c n i a l. hard c n i l (late-calls c n i);
   };
 }
   where
@@ -265,42 +297,47 @@ late-swap-meets-demand-3 = record {
     reported : (f : FinishedCall) → f ∈ (decided ∷ []) → Reports (f .call) (f .report)
     reported f (inl q) = rw q (record { kind = refl; cell = refl; steps = refl; won = refl; lost = refl })
 
-    unended : (c : Call) → (c ≡ halted) ⊎ (c ≡ decider) → (c .steps < most (c .start .op)) × (attempts c ≤ mostHard (c .start .op))
+    unended : (c : Call) → c ∈ (halted ∷ decider ∷ []) → (c .steps < most (c .start .op)) × (attempts c ≤ mostHard (c .start .op))
     unended c (inl q) = rw q (omega arith)
-    unended c (inr q) = rw q (omega arith)
+    unended c (inr (inl q)) = rw q (omega arith)
 
     apart : (c : Call) (n : ℕ) → 0 < n → c ≡ decider → Alone (callsOf late-swap) c n → ⊥
     apart c n h q l = contends (callsOf late-swap) decider halted 17 n late-halted (λ e. omega arith) refl (λ e. omega arith) (omega arith) h
         (subst (λ (c : Call). Alone (callsOf late-swap) c n) q l)
 
-    hard : (c : Call) (n : ℕ) → CallOf (callsOf late-swap) c n → Alone (callsOf late-swap) c n → (c ≡ halted) ⊎ (c ≡ decider) → attempts c ≡ 0
+    hard : (c : Call) (n : ℕ) → CallOf (callsOf late-swap) c n → Alone (callsOf late-swap) c n → c ∈ (halted ∷ decider ∷ []) → attempts c ≡ 0
     hard c n i l (inl q) = ap attempts q
-    hard c n (finished f i) l (inr q) = absurd (apart (f .call) (f .call .last) (rw q (omega arith)) q l)
-    hard c n (pending t d h) l (inr q) = absurd (apart c 17 (omega arith) q l)
+    hard c n (finished f i) l (inr (inl q)) = absurd (apart (f .call) (f .call .last) (rw q (omega arith)) q l)
+    hard c n (pending t d h) l (inr (inl q)) = absurd (apart c 17 (omega arith) q l)
+
+late-drawn : {l : List Point} → Linearizes five (callsOf late-swap) l → Drawn (halted ∷ decider ∷ []) l
+unfolding upd
+late-drawn r = drawn late-tasks r
 
 -- WRONG: the halted swap only at the deciding, or at any other moment after its last step
 pub no-effect-after-the-last-step : (l : List Point) (m : ℕ) → 13 < m → point halted m ∈ l → Linearizes five (callsOf late-swap) l → ⊥
-no-effect-after-the-last-step l m h i r = omega (arith, within-c halted decider late-two r (λ q. omega arith) m i .1)
-
--- every linearization has both calls, the halted one first: the other answers no only behind it
-late-both : (l : List Point) → T (said 1 (replies five l)) → Shape halted decider l → (m n : ℕ) × (point halted m ∈ l) × (point decider n ∈ l)
-late-both l h neither = absurd h
-late-both l h (only-c m) = absurd h
-late-both l h (only-d n) = absurd h
-late-both l h (c-then-d m n) = (m, n, inl refl, inr (inl refl))
-late-both l h (d-then-c n m) = absurd h
-
-late-has : (l : List Point) → Linearizes five (callsOf late-swap) l → (m n : ℕ) × (point halted m ∈ l) × (point decider n ∈ l)
-late-has l r = late-both l (must r decided late-done) (shape halted decider late-two r)
+no-effect-after-the-last-step l m h i r = go (late-drawn r (point halted m) i)
+  where
+    go : (c : Call) × (c ∈ (halted ∷ decider ∷ [])) × Is c (point halted m) → ⊥
+    go (c, inl q, d) = omega (arith, d .2, ap (λ (c : Call). c .last) q)
+    go (c, inr (inl q), d) = omega (arith, ap (λ (s : CallId). s .at) (d .0), ap (λ (c : Call). c .start .at) q)
 
 -- WRONG: the halted swap left out, though the other call saw its value; the finished call left out
 pub no-seen-swap-left-out : (l : List Point) → ((x : Point) → x ∈ l → x .call ≢ halted .start) → Linearizes five (callsOf late-swap) l → ⊥
-no-seen-swap-left-out l out r = let p = late-has l r in out (point halted (p .0)) (p .2) refl
+unfolding upd
+no-seen-swap-left-out l out r = refuted (decider ∷ []) (λ x i. go x i (late-drawn r x i)) r tt
+  where
+    go : (x : Point) → x ∈ l → (c : Call) × (c ∈ (halted ∷ decider ∷ [])) × Is c x → (c : Call) × (c ∈ (decider ∷ [])) × Is c x
+    go x i (c, inl q, d) = absurd (out x i (d .0 ∙ ap (λ (c : Call). c .start) q))
+    go x i (c, inr j, d) = (c, j, d)
 
 pub no-finished-call-left-out : (l : List Point) → ((x : Point) → x ∈ l → x .call ≢ decider .start) → Linearizes five (callsOf late-swap) l → ⊥
-no-finished-call-left-out l out r = let p = late-has l r in out (point decider (p .1)) (p .3) refl
-
--- WRONG ANSWERS: no linearization has them
+unfolding upd
+no-finished-call-left-out l out r = refuted (halted ∷ []) (λ x i. go x i (late-drawn r x i)) r tt
+  where
+    go : (x : Point) → x ∈ l → (c : Call) × (c ∈ (halted ∷ decider ∷ [])) × Is c x → (c : Call) × (c ∈ (halted ∷ [])) × Is c x
+    go x i (c, inl q, d) = (c, inl q, d)
+    go x i (c, inr (inl q), d) = absurd (out x i (d .0 ∙ ap (λ (c : Call). c .start) q))
 
 -- a call of one step or more, finished as reported
 abbrev pub ended : (at task : ℕ) → Op → List Action → (last steps won lost : ℕ) → Response → FinishedCall
@@ -308,18 +345,6 @@ ended n t op l last steps won lost a = record {
   call = record { start = record { at = n; task = t; op = op; before = l }; last = last; steps = steps; won = won; lost = lost };
   report = report (kindOf op) a steps won lost;
 }
-
--- all calls of the history are finished, and they are f and g
-pub both-ended : (b : Calls) (f g : FinishedCall) → ((t : ℕ) → t ≢ 0 → t ≢ 1 → b .pending t ≡ none) → b .pending 0 ≡ none → b .pending 1 ≡ none → b .withdrawn ≡ [] →
-    ((h : FinishedCall) → h ∈ b .finished → (h ≡ f) ⊎ (h ≡ g)) → TwoCalls b (f .call) (g .call)
-both-ended b f g rest at0 at1 gone all = two-calls b (f .call) (g .call) rest (λ e h. absurd (clash at0 h)) at1 gone (λ h i. go h (all h i))
-  where
-    go : (h : FinishedCall) → (h ≡ f) ⊎ (h ≡ g) → (h .call ≡ f .call) ⊎ (h .call ≡ g .call)
-    go h (inl q) = inl (ap (λ (f : FinishedCall). f .call) q)
-    go h (inr q) = inr (ap (λ (f : FinishedCall). f .call) q)
-
-pub one-of : (f : FinishedCall) (h : FinishedCall) → h ∈ (f ∷ []) → (h ≡ f) ⊎ (h ≡ f)
-one-of f h (inl q) = inl q
 
 -- RIGHT: a swap of equal values is placed as a swap
 abbrev equal-swap : List (Action × Event)
@@ -339,44 +364,56 @@ equal-swap-placed = record { sorted = ((λ x i. absurd i), tt); placed = placed;
         (e : Point) × (e .call ≡ f .call .start) × (f .call .start .at < e .moment) × (e .moment ≤ f .call .last) × ((e, f .report .answer) ∈ replies five (point (equal-yes .call) 2 ∷ []))
     answers f (inl q) = rw q (point (equal-yes .call) 2, refl, omega arith, omega arith, inl refl)
 
-pub two-of : (f g : FinishedCall) (h : FinishedCall) → h ∈ (g ∷ f ∷ []) → (h ≡ f) ⊎ (h ≡ g)
-two-of f g h (inl q) = inr q
-two-of f g h (inr (inl q)) = inl q
+-- RIGHT: a withdrawn swap is placed before its drop, and a later read sees it
+abbrev seen-withdrawn : List (Action × Event)
+seen-withdrawn = (begin 0 (swap 0 5 7), accepted untried) ∷ (step 0, accepted untried) ∷ (drop 0, accepted untried) ∷ (begin 1 (read 0), accepted untried) ∷ (step 1, answers untried aRead (Value 7) 1 0 0) ∷ []
+
+abbrev dropped-swap : WithdrawnCall
+dropped-swap = record { call = record { start = record { at = 0; task = 0; op = swap 0 5 7; before = [] }; last = 1; steps = 1; won = 0; lost = 0 }; end = 2 }
+
+abbrev its-reader : FinishedCall
+its-reader = ended 3 1 (read 0) (begin 0 (swap 0 5 7) ∷ step 0 ∷ drop 0 ∷ []) 4 1 0 0 (Value 7)
+
+pub withdrawn-swap-placed : Linearizes five (callsOf seen-withdrawn) (point (dropped-swap .call) 1 ∷ point (its-reader .call) 4 ∷ [])
+unfolding upd
+withdrawn-swap-placed = record { sorted = (first, ((λ x i. absurd i), tt)); placed = placed; once = ((λ i. other i), ((λ i. i), tt)); answers = answers }
+  where
+    first : (x : Point) → x ∈ (point (its-reader .call) 4 ∷ []) → 1 ≤ x .moment
+    first x (inl q) = rw q (omega arith)
+
+    other : _∈_ {A = ℕ} 0 (3 ∷ []) → ⊥
+    other (inl q) = omega arith
+
+    placed : (x : Point) → x ∈ (point (dropped-swap .call) 1 ∷ point (its-reader .call) 4 ∷ []) → Placed (callsOf seen-withdrawn) x
+    placed x (inl q) = rw q (record { call = dropped-swap .call; end = _; of-history = withdrawn dropped-swap (inl refl); is = refl; after-begin = omega arith; by-last-step = omega arith })
+    placed x (inr (inl q)) = rw q (record { call = its-reader .call; end = 4; of-history = finished its-reader (inl refl); is = refl; after-begin = omega arith; by-last-step = omega arith })
+
+    answers : (f : FinishedCall) → f ∈ (its-reader ∷ []) →
+        (e : Point) × (e .call ≡ f .call .start) × (f .call .start .at < e .moment) × (e .moment ≤ f .call .last) × ((e, f .report .answer) ∈ replies five (point (dropped-swap .call) 1 ∷ point (its-reader .call) 4 ∷ []))
+    answers f (inl q) = rw q (point (its-reader .call) 4, refl, omega arith, omega arith, inr (inl refl))
+
+-- WRONG ANSWERS: no linearization has them
 
 -- a read answers 6, which its cell never held
 abbrev odd-read : List (Action × Event)
 odd-read = (begin 0 (read 0), accepted untried) ∷ (step 0, accepted untried) ∷ (step 0, accepted untried) ∷ (step 0, answers untried aRead (Value 6) 3 0 0) ∷ []
 
-abbrev odd : FinishedCall
-odd = ended 0 0 (read 0) [] 3 3 0 0 (Value 6)
-
 pub no-value-never-held : (l : List Point) → Linearizes five (callsOf odd-read) l → ⊥
 unfolding upd
-no-value-never-held l r = go l (must r odd (inl refl)) (shape (odd .call) (odd .call) (both-ended (callsOf odd-read) odd odd (λ t p q. rw (ne-eqb t 0 p)) refl refl refl (one-of odd)) r)
-  where
-    go : (l : List Point) → T (said 800 (replies five l)) → Shape (odd .call) (odd .call) l → ⊥
-    go l h neither = h
-    go l h (only-c m) = h
-    go l h (only-d n) = h
-    go l h (c-then-d m n) = h
-    go l h (d-then-c n m) = h
+no-value-never-held = no-order five (callsOf odd-read) (λ t p q. rw (ne-eqb t 0 p)) tt
 
 -- a swap that nobody meets answers no, though its cell holds the value that it expects; after so many steps
 abbrev pub spurious : (steps : ℕ) → FinishedCall
 spurious n = ended 0 0 (swap 0 5 7) [] n n 0 0 No
 
 pub no-such-no : (n : ℕ) (b : Calls) → ((t : ℕ) → t ≢ 0 → b .pending t ≡ none) → b .pending 0 ≡ none → b .withdrawn ≡ [] → b .finished ≡ spurious n ∷ [] → (l : List Point) → Linearizes five b l → ⊥
-no-such-no n b rest at0 gone e l r = go l (must r (spurious n) (subst (λ (x : List FinishedCall). spurious n ∈ x) (sym e) (inl refl))) (shape (spurious n .call) (spurious n .call) two r) (r .once)
+no-such-no n b rest at0 gone e = no-order five b (λ t p q. rest t p) (subst (λ (x : List Call × List ℕ). T (hopeless (x .0) (x .1) (suc (length (x .0))) five [] (λ k. false))) (sym its) tt)
   where
-    two : TwoCalls b (spurious n .call) (spurious n .call)
-    two = both-ended b (spurious n) (spurious n) (λ t p q. rest t p) at0 (rest 1 (λ z. omega arith)) gone (λ h i. one-of (spurious n) h (subst (λ (x : List FinishedCall). h ∈ x) e i))
+    at1 : b .pending 1 ≡ none
+    at1 = rest 1 (λ z. omega arith)
 
-    go : (l : List Point) → T (said 0 (replies five l)) → Shape (spurious n .call) (spurious n .call) l → Once (ats l) → ⊥
-    go l h neither o = h
-    go l h (only-c m) o = h
-    go l h (only-d n) o = h
-    go l h (c-then-d m n) o = o .0 (inl refl)
-    go l h (d-then-c n m) o = o .0 (inl refl)
+    its : _≡_ {A = List Call × List ℕ} (theCalls b, wanted b) (spurious n .call ∷ [], 0 ∷ [])
+    its = λ i. (ofTask (at0 i) ++ (ofTask (at1 i) ++ (map (λ f. f .call) (e i) ++ map (λ w. w .call) (gone i))), map (λ f. code (f .call .start .at) (f .report .answer)) (e i))
 
 pub no-spurious-no : (l : List Point) → Linearizes five (callsOf ((begin 0 (swap 0 5 7), accepted untried) ∷ (step 0, answers untried aSwap No 1 0 0) ∷ [])) l → ⊥
 unfolding upd
@@ -386,54 +423,34 @@ no-spurious-no = no-such-no 1 _ (λ t p. rw (ne-eqb t 0 p)) refl refl refl
 abbrev two-winners : List (Action × Event)
 two-winners = (begin 0 (swap 0 5 7), accepted untried) ∷ (begin 1 (swap 0 5 9), accepted untried) ∷ (step 0, answers untried aSwap Yes 1 0 0) ∷ (step 1, answers untried aSwap Yes 1 0 0) ∷ []
 
-abbrev winner : FinishedCall
-winner = ended 0 0 (swap 0 5 7) [] 2 1 0 0 Yes
-
-abbrev second-winner : FinishedCall
-second-winner = ended 1 1 (swap 0 5 9) (begin 0 (swap 0 5 7) ∷ []) 3 1 0 0 Yes
-
 pub no-two-winners : (l : List Point) → Linearizes five (callsOf two-winners) l → ⊥
 unfolding upd
-no-two-winners l r = go l (must r winner (inr (inl refl))) (must r second-winner (inl refl)) (shape (winner .call) (second-winner .call) two r)
-  where
-    two : TwoCalls (callsOf two-winners) (winner .call) (second-winner .call)
-    two = both-ended (callsOf two-winners) winner second-winner (λ t p q. rw (ne-eqb t 0 p, ne-eqb t 1 q)) refl refl refl (two-of winner second-winner)
-
-    go : (l : List Point) → T (said 100 (replies five l)) → T (said 101 (replies five l)) → Shape (winner .call) (second-winner .call) l → ⊥
-    go l h i neither = h
-    go l h i (only-c m) = i
-    go l h i (only-d n) = h
-    go l h i (c-then-d m n) = i
-    go l h i (d-then-c n m) = h
+no-two-winners = no-order five (callsOf two-winners) (λ t p q. rw (ne-eqb t 0 p, ne-eqb t 1 q)) tt
 
 -- a read begins after a swap has ended, and answers the value before it
 abbrev stale-read : List (Action × Event)
 stale-read = (begin 0 (swap 0 5 7), accepted untried) ∷ (step 0, answers untried aSwap Yes 1 0 0) ∷ (begin 1 (read 0), accepted untried) ∷ (step 1, answers untried aRead (Value 5) 1 0 0) ∷ []
 
-abbrev changer : FinishedCall
-changer = ended 0 0 (swap 0 5 7) [] 1 1 0 0 Yes
-
-abbrev stale : FinishedCall
-stale = ended 2 1 (read 0) (begin 0 (swap 0 5 7) ∷ step 0 ∷ []) 3 1 0 0 (Value 5)
-
 pub no-stale-read : (l : List Point) → Linearizes five (callsOf stale-read) l → ⊥
 unfolding upd
-no-stale-read l r = go l r (must r changer (inr (inl refl))) (must r stale (inl refl)) (shape (changer .call) (stale .call) two r)
-  where
-    two : TwoCalls (callsOf stale-read) (changer .call) (stale .call)
-    two = both-ended (callsOf stale-read) changer stale (λ t p q. rw (ne-eqb t 0 p, ne-eqb t 1 q)) refl refl refl (two-of changer stale)
+no-stale-read = no-order five (callsOf stale-read) (λ t p q. rw (ne-eqb t 0 p, ne-eqb t 1 q)) tt
 
-    go : (l : List Point) → Linearizes five (callsOf stale-read) l → T (said 100 (replies five l)) → T (said 702 (replies five l)) → Shape (changer .call) (stale .call) l → ⊥
-    go l r h i neither = h
-    go l r h i (only-c m) = i
-    go l r h i (only-d n) = h
-    go l r h i (c-then-d m n) = i
-    go l r h i (d-then-c n m) =
-        let p = r .placed (point (stale .call) n) (inl refl) in
-        omega (
-          arith,
-          r .sorted .0 (point (changer .call) m) (inl refl),
-          p .after-begin,
-          ap (λ (s : CallId). s .at) (p .is),
-          within-c (changer .call) (stale .call) two r (λ q. omega arith) m (inr (inl refl)) .1,
-        )
+-- a swap is withdrawn; then a read answers the value before it, and after that one its new value: as if it took effect after its drop
+abbrev effect-after-a-drop : List (Action × Event)
+effect-after-a-drop =
+    (begin 0 (swap 0 5 7), accepted untried) ∷ (step 0, accepted untried) ∷ (drop 0, accepted untried) ∷
+    (begin 1 (read 0), accepted untried) ∷ (step 1, answers untried aRead (Value 5) 1 0 0) ∷ (begin 1 (read 0), accepted untried) ∷ (step 1, answers untried aRead (Value 7) 1 0 0) ∷ []
+
+pub no-effect-after-a-drop : (l : List Point) → Linearizes five (callsOf effect-after-a-drop) l → ⊥
+unfolding upd
+no-effect-after-a-drop = no-order five (callsOf effect-after-a-drop) (λ t p q. rw (ne-eqb t 0 p, ne-eqb t 1 q)) tt
+
+-- a swap of 5 to 7 steps, and is withdrawn at the end; meanwhile another swaps 7 back to 5, and then a read answers 7: as if it took effect twice
+abbrev effect-twice : List (Action × Event)
+effect-twice =
+    (begin 0 (swap 0 5 7), accepted untried) ∷ (step 0, accepted untried) ∷ (begin 1 (swap 0 7 5), accepted untried) ∷ (step 1, answers untried aSwap Yes 1 0 0) ∷
+    (begin 1 (read 0), accepted untried) ∷ (step 1, answers untried aRead (Value 7) 1 0 0) ∷ (step 0, accepted untried) ∷ (drop 0, accepted untried) ∷ []
+
+pub no-effect-twice : (l : List Point) → Linearizes five (callsOf effect-twice) l → ⊥
+unfolding upd
+no-effect-twice = no-order five (callsOf effect-twice) (λ t p q. rw (ne-eqb t 0 p, ne-eqb t 1 q)) tt

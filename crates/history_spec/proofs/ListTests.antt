@@ -1,6 +1,6 @@
 -- Tests that a list's members pass, computed.
 use mathlib.Core.Path.{_≡_, refl}
-use mathlib.Core.Logic.{inl, inr}
+use mathlib.Core.Logic.{_⊎_, inl, inr}
 use mathlib.Core.Bool.{Bool, true, false, _&&_, _||_, not, cond, false≢true}
 use mathlib.Core.List.{List, [], _∷_}
 use Prim.Native.Nat.{ℕ, zero, suc}
@@ -21,6 +21,22 @@ pub both : (a b : Bool) → T (a && b) → T a × T b
 both true b h = (tt, h)
 both false b h = absurd h
 
+pub or-left : (a b : Bool) → T a → T (a || b)
+or-left true b h = tt
+or-left false b h = absurd h
+
+pub or-right : (a b : Bool) → T b → T (a || b)
+or-right true b h = tt
+or-right false b h = h
+
+pub or-either : (a b : Bool) → T (a || b) → T a ⊎ T b
+or-either true b h = inl tt
+or-either false b h = inr h
+
+pub turned : (a b c : Bool) → T ((a || b) || c) → T (b || (a || c))
+turned true b c h = or-right b true tt
+turned false b c h = h
+
 -- an implication as a test
 pub imp : (x y : Bool) → T (y || not x) → x ≡ true → T y
 imp x true h e = tt
@@ -37,6 +53,14 @@ module _ {A : Type 0} (f : A → Bool) where
   every-at [] h d g n = g
   every-at (x ∷ xs) h d g zero = both (f x) (every f xs) h .0
   every-at (x ∷ xs) h d g (suc n) = every-at xs (both (f x) (every f xs) h .1) d g n
+
+  pub in-every : (xs : List A) → ((x : A) → x ∈ xs → T (f x)) → T (every f xs)
+  in-every [] h = tt
+  in-every (x ∷ xs) h = go (f x) (h x (inl refl)) (in-every xs (λ y i. h y (inr i)))
+    where
+      go : (b : Bool) → T b → T (every f xs) → T (b && every f xs)
+      go true u v = v
+      go false u v = absurd u
 
 -- whichever a test picks
 pub by-test : {A : Type 0} (P : A → Type 0) (b : Bool) (x y : A) → (b ≡ true → P x) → (b ≡ false → P y) → P (cond b x y)
