@@ -153,7 +153,7 @@ module _ (n : ℕ) (w : World) (o : Notes) (w⁺ : World) (o⁺ : Notes) (s : Sa
       ahead = λ m h. past (next (w⁺ .records t) (w⁺ .cell)) m (omega arith);
     }
 
-    same-waits : waits o⁺ t (sees w⁺ t) ≡ waits o t (sees w t)
+    pub same-waits : waits o⁺ t (sees w⁺ t) ≡ waits o t (sees w t)
     same-waits = ap₂ (λ (o : Notes) (x : Sight). waits o t x) (same-of t low) (same-sight t low)
 
     pub same-awaited : cond (waits o⁺ t (sees w⁺ t)) (upd (o .waiting) (w⁺ .records t .cell) (some (record { drop = o⁺ .now; new = w⁺ .records t .new; inactive = o⁺ .inactive t }))) (o .waiting) ≡ dropNoted o t (sees w t) .waiting

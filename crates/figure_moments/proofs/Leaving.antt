@@ -91,7 +91,7 @@ module _ (n : ℕ) (o : Held) (w : World) (p : Notes) (g : Ghost) (κ : Sim.Know
   is-stored : T (within (sees w t .figureLine) 24 26) → T (stored (lineOf q))
   is-stored z = lies-in (λ ℓ. within (figureLine ℓ) 24 26) stored tt (lineOf q) (subst (λ n. T (within n 24 26)) (figure-line-is q (y .line)) z)
 
-  waits-late : T (waits p t (sees w t)) → g .phase k ≡ late t
+  pub waits-late : T (waits p t (sees w t)) → g .phase k ≡ late t
   unfolding Local.none
   waits-late z =
       let i = both (within (sees w t .figureLine) 24 26) _ z in

@@ -2,7 +2,7 @@
 -- which withdrawn calls that have stored halt instead; what is proved of a step there is what holds here.
 use mathlib.Core.Path.{_≡_, refl, sym, ap, subst, _∙_}
 use mathlib.Core.Logic.{_≢_, _⊎_, inl, inr}
-use mathlib.Core.Bool.{Bool, true, false, not, cond}
+use mathlib.Core.Bool.{Bool, true, false, not, cond, false≢true}
 use mathlib.Core.Option.{Option, none, some}
 use mathlib.Core.List.{List, map}
 use Prim.Native.Nat.{ℕ, suc, _+_, _<_}
@@ -13,7 +13,7 @@ use Rattle.figure_lines.specs.declared.Record.{Record}
 use Rattle.figure_lines.specs.Answers.{Next, Go, Done, Result}
 use Rattle.figure_lines.specs.Record.{noValue, first, idle, opOf}
 use Rattle.figure_lines.specs.Lines.{Line, lineOf, accessOf, nextOf}
-use Rattle.history_spec.specs.History.{Op, read, swap, Action, begin, step, drop, Attempt, untried, Event, refused, accepted, answered, history, callsOf, Response}
+use Rattle.history_spec.specs.History.{Op, read, swap, Action, begin, step, drop, Attempt, untried, Event, refused, accepted, answered, history, run, Calls, callsOf, Response}
 use Rattle.history_spec.specs.Basics.{upd, _∈_}
 use Rattle.history_spec.specs.Linearization.{replies, Linearizes}
 use Rattle.history_spec.specs.Demand3.{Meets, clearAfter}
@@ -22,14 +22,20 @@ use Rattle.history_spec.proofs.Basics.{either, clash, upd-same, upd-off}
 use Rattle.history_linearization.proofs.Meets.{meets}
 use Rattle.history_linearization.proofs.Moments as Placing
 use Rattle.history_linearization.proofs.Moments.{marks-linearize, marks-answers}
-use Rattle.history_linearization.proofs.Unnamed.{noteBoth, namesBoth, same-linearized}
-use Rattle.history_linearization.proofs.Simulation.{Phase, Ghost, unplaced, parks, Knowledge, Tally, Move, Grown, Why, Sided, Named, Lands, Leaves, Keeps, Forward, Quietly, QuietSteps}
+use Rattle.history_linearization.proofs.Unnamed.{noteBoth, namesBoth, same-run, same-linearized}
+use Rattle.history_linearization.proofs.Tracks.{Tracks}
+use Rattle.history_linearization.proofs.MovesOne as Placed
+use Rattle.history_linearization.proofs.Parked.{withParked}
+use Rattle.history_linearization.proofs.Moves.{firm, knows}
+use Rattle.history_linearization.proofs.EveryAction as Every
+use Rattle.history_linearization.proofs.EveryAction.{at-end}
+use Rattle.history_linearization.proofs.Simulation.{Phase, late, Ghost, unplaced, parks, Knowledge, Tally, Move, Grown, Why, Sided, Named, Lands, Leaves, Keeps, Forward, Quietly, QuietSteps}
 use Rattle.history_linearization.proofs.Simulation as Sim
 use Rattle.figure_cell.specs.Memory.{accessCell}
 use Rattle.cells_spec.specs.Turn.{recordAfter, outcomeOf}
 use Rattle.figure.specs.Figure.{World, withTask, withBoth, WorldAfter, figureRan, opening, figure, clear, triedIn, firstOf}
 use Rattle.cells_spec.specs.Events.{eventOf}
-use Rattle.figure_moments.specs.Moments.{Notes, noNotes, nothingNoted, noted, dropNoted, ruled, stands, landed, lands, note, names, sees, moments}
+use Rattle.figure_moments.specs.Moments.{Waiting, Notes, noNotes, nothingNoted, noted, dropNoted, ruled, stands, landed, lands, waits, note, noting, names, sees, moments}
 use Rattle.figure.proofs.Records.{Pending, OnPath, AllOnPath, Accepted, Begun, starts, begin-cases, Stepped, runs, step-cases, Dropped, leaves, drop-cases, act-on-path, begun-on-path, next-on-path}
 use Rattle.figure.proofs.Tallies.{tally, tallyOf, doing, follows, within}
 use Rattle.history_spec.proofs.ListTests.{by-test}
@@ -45,9 +51,9 @@ use Rattle.figure_moments.proofs.Known.{doingIn, clock, known, κ⁺, o
 use Rattle.figure_moments.proofs.Dated.{Dated, dated-begun, placed-named, unplaced-unnamed, why, sided, dated-after}
 use Rattle.figure_moments.proofs.Begins.{begun-good, opening-good, good-grown}
 use Rattle.figure_moments.proofs.Drops.{parkedWorld, parkedNotes, kept-either, parked-good, parked-dated}
-use Rattle.figure_moments.proofs.Beyond.{Beyond, beyond, Same, same-passing, same-begun, same-stepped, same-dropped, same-ruled, same-stands, same-lands, same-waiting, same-awaited, stands-idle}
+use Rattle.figure_moments.proofs.Beyond.{Beyond, beyond, sightBy, Same, same-passing, same-begun, same-stepped, same-dropped, same-ruled, same-stands, same-lands, same-waiting, same-waits, same-awaited, stands-idle}
 use Rattle.figure_moments.proofs.Withdrawn.{Held, Left, left-passing, left-begun, left-with, deciding, left-stepped, lands-so, goes-on}
-use Rattle.figure_moments.proofs.Leaving.{leftNotes, left-dropped}
+use Rattle.figure_moments.proofs.Leaving.{leftNotes, waits-late, left-dropped}
 use Rattle.figure.proofs.Quietly.{QuietIn, is-busy, stays, step-quietly, begin-quietly, drop-quietly}
 
 -- THE FIGURE WITH ITS NOTES, and the other one with its own
@@ -207,6 +213,17 @@ module _ (n v : ℕ) (w : World) (o : Notes) (w⁺ : World) (p : Notes) (g : Gho
       same = same-dropped n w o w⁺ p (i .same) t low;
       left = held-again n _ (dropNoted o t (sees w t)) (parkedWorld w⁺ t u) (parkedNotes p t u) (parks g t u) (same-awaited n w o w⁺ p (i .same) t low) left-there;
     }
+
+    -- a swap that would wait finds none waiting: its late store is the only one that is awaited in its cell
+    pub waits-alone : waits o t (sees w t) ≡ true → o .waiting (w .records t .cell) ≡ none
+    waits-alone e = go (o .waiting (w .records t .cell)) refl
+      where
+        its : g .phase (w .records t .cell) ≡ late t
+        its = subst (λ (r : Record). g .phase (r .cell) ≡ late t) (i .same .records t low) (waits-late n (heldOf n o w⁺ p) w⁺ p g κ (i .good) (i .left) t low did q⁺ low⁺ (i .same .most) free (rw (same-waits n w o w⁺ p (i .same) t low ∙ e) tt))
+
+        go : (y : Option Waiting) → o .waiting (w .records t .cell) ≡ y → o .waiting (w .records t .cell) ≡ none
+        go none z = z
+        go (some a) z = let m : t ≡ n + a .drop = let k : late t ≡ late (n + a .drop) = sym its ∙ i .left .one-waits (w .records t .cell) a z .phase in cc in absurd (omega (arith, low))
 
     -- WHERE THE WITHDRAWN SWAPS STAND AFTER IT
 
@@ -513,3 +530,30 @@ module _ (tasks cells : ℕ) (values : List ℕ) (some-values : (cell : ℕ) →
   -- The source's "immediately before" is never taken.
   pub never-before : (actions : List Action) (mark : Mark) → mark ∈ moments tasks cells values actions → mark .spot .side ≢ before
   never-before actions mark e = Placing.never-before simulation actions mark (subst (λ (m : List Mark). mark ∈ m) (sym (same-moments actions)) e)
+
+  -- WHAT HOLDS ON THE WAY, after any actions
+
+  pub record Watching (x : Watched) (b : Calls) : Type 1 where
+    pub ghost : Ghost
+    pub known : Knowledge
+    pub inv : Invariant tasks cells x ghost known
+    pub clock : clockOf x ≡ b .now
+    pub tracks : Tracks doing (x .0) b
+    pub dated : Placed.Dated b
+
+  pub watching : (x : Watched) (b : Calls) (ms es : List Mark) → Every.Good simulation x b ms es → Watching x b
+  unfolding simulation
+  watching x b ms es G = let m = G .simulated in record { ghost = m .ghost; known = knows (withParked tasks b) (m .past) (firm (m .ghost) (b .now)); inv = m .inv; clock = m .clock; tracks = G .tracks; dated = G .dated }
+
+  -- Who waits is never overwritten: a drop that makes a swap wait finds none waiting in its cell. So in each cell at most one waits.
+  pub one-waits : (actions : List Action) (t : ℕ) → let x = run (noting figure sees) (opening tasks cells values, noNotes) actions in waits (x .1) t (sees (x .0) t) ≡ true → x .1 .waiting (x .0 .records t .cell) ≡ none
+  one-waits actions t = subst (λ (x : World × Notes). waits (x .1) t (sees (x .0) t) ≡ true → x .1 .waiting (x .0 .records t .cell) ≡ none)
+      (same-run figure (note figure sees) (names figure sees) (beyond tasks) (opening tasks cells values) noNotes (opening tasks cells values, noNotes) actions)
+      (go (watching _ _ _ _ (at-end simulation actions .good) .inv))
+    where
+      go : {x : Watched} {g : Ghost} {κ : Knowledge} → Invariant tasks cells x g κ → waits (x .1 .0) t (sees (x .0) t) ≡ true → x .1 .0 .waiting (x .0 .records t .cell) ≡ none
+      go {x} {g} {κ} i e = on (i .on-path t .1)
+        where
+          on : OnPath (x .0 .tasks) (x .0 .cells) t (i .on-path t .0) (x .0 .records t) → x .1 .0 .waiting (x .0 .records t .cell) ≡ none
+          on (inl (h, z)) = absurd (false≢true (subst (λ (r : Record). waits (x .1 .0) t (sightBy r r (x .0 .cell)) ≡ true) h e))
+          on (inr (m, q)) = waits-alone tasks cells (x .0) (x .1 .0) (x .1 .1 .0) (x .1 .1 .1) g κ i t (i .on-path t .0) m q e

@@ -150,7 +150,7 @@ stands o t x = cond (within (x .figureLine) 24 26)
 
 -- WITHDRAWN SWAPS: by the rule for pending ones. What it says at the drop stays, but of a swap that stored late in a block that is not decided
 -- yet: that one waits for the decision, which comes in the same life of the block, for nobody replaces a block that is not decided. In each
--- cell at most one waits.
+-- cell at most one waits: theorem `one-waits`.
 
 -- the block is decided as v: who waited for it takes effect, where the block became inactive, if v is its new value
 abbrev pub landed : Option Waiting → (v : ℕ) → Option (ℕ × Spot)

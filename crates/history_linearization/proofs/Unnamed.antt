@@ -1,8 +1,8 @@
--- Notes that only the proof looks at change no mark.
+-- Notes that only the proof looks at change no other note, and no mark.
 use mathlib.Core.Path.{_≡_, refl, ap, _∙_}
 use mathlib.Core.List.{List, [], _∷_, _++_}
 use Prim.Native.Nat.{ℕ, zero, suc}
-use Rattle.history_spec.specs.History.{Action, begin, step, drop, Event, refused, accepted, answered, Calls, noCalls, enter}
+use Rattle.history_spec.specs.History.{Action, begin, step, drop, Event, refused, accepted, answered, run, Calls, noCalls, enter}
 use Rattle.history_spec.specs.Moments.{Mark, Names, beside, marked, markOfPending, pendingMarks, marks, sort, linearized}
 
 module _ {S N P : Type 0} (machine : S → Action → S × Event) (note : N → S → Action → Event → N) (names : Names (S × N)) (more : P → S → Action → Event → P) where
@@ -11,6 +11,10 @@ module _ {S N P : Type 0} (machine : S → Action → S × Event) (note : N → 
 
   abbrev pub namesBoth : Names (S × (N × P))
   namesBoth = record { ending = λ x t a. names .ending (x .0, x .1 .0) t a; standing = λ x t. names .standing (x .0, x .1 .0) t; landing = λ x t. names .landing (x .0, x .1 .0) t }
+
+  pub same-run : (s : S) (o : N) (p : P) (l : List Action) → let x = run (beside machine noteBoth) (s, (o, p)) l in _≡_ {A = S × N} (x .0, x .1 .0) (run (beside machine note) (s, o) l)
+  same-run s o p [] = refl
+  same-run s o p (a ∷ l) = let e = machine s a .1 in same-run (machine s a .0) (note o s a e) (more p s a e) l
 
   same-pending : (s : S) (o : N) (p : P) (b : Calls) (n : ℕ) → pendingMarks (beside machine noteBoth) namesBoth (s, (o, p)) b n ≡ pendingMarks (beside machine note) names (s, o) b n
   same-pending s o p b zero = refl
