@@ -15,10 +15,10 @@ use Rattle.figure_lines.specs.Record.{noValue}
 use Rattle.cells_spec.specs.Questions.{refusal, hasNone, openQuestions, answers}
 use Rattle.cells_spec.proofs.Tests.{nth, all-yes, none-of}
 use Rattle.history_spec.specs.History.{Action, Event, history, Call, callsOf}
-use Rattle.history_spec.specs.Demand3.{most, Demand3, Meets, Finishes, clearAfter}
+use Rattle.history_spec.specs.Demand3.{most, Demand3, Meets, Finishes, NoHardwareReads, clearAfter}
 use Rattle.history_linearization.proofs.EndsWithin.{ends-within}
-use Rattle.figure.specs.Figure.{figure, opening, clear}
-use Rattle.figure_moments.proofs.Simulation.{figure-meets-demand-3}
+use Rattle.figure.specs.Figure.{figure, opening, active, clear}
+use Rattle.figure_moments.proofs.Simulation.{figure-meets-demand-3, figure-reads-quietly}
 use Rattle.cells_spec.specs.Machine.{pool}
 use Rattle.cells_theorems.specs.Terms.{start}
 use Rattle.cells_theorems.proofs.Refines.{same-history}
@@ -54,6 +54,12 @@ module _ (old : State) (words : List ℕ) (tasks cells blocks : ℕ) (values : L
   cells-meet-demand-3 actions =
       subst (λ (h : List (Action × Event)). Demand3 (clearAfter figure (opening tasks cells values) clear) cells (λ k. getD values k 0) h) (sym (same-history old words tasks cells blocks values allowed actions))
       (figure-meets-demand-3 tasks cells values starting-values actions)
+
+  -- A read, and a swap of equal values, attempts none already if the block was active at its begin: Y may be true. (Whether it was is
+  -- judged as above, in the figure that was fed the accepted actions before it.)
+  pub cells-read-quietly : (actions : List Action) → NoHardwareReads (clearAfter figure (opening tasks cells values) active) (callsOf (history pool (start old words tasks cells blocks values) actions))
+  cells-read-quietly actions = subst (λ (h : List (Action × Event)). NoHardwareReads (clearAfter figure (opening tasks cells values) active) (callsOf h)) (sym (same-history old words tasks cells blocks values allowed actions))
+      (figure-reads-quietly tasks cells values starting-values actions)
 
   -- From anywhere in any list, at most 6 further steps of its task finish a read, and at most 21 a swap.
   pub every-call-ends : (actions : List Action) (task : ℕ) (call : Call) → callsOf (history pool (start old words tasks cells blocks values) actions) .pending task ≡ some call

@@ -13,12 +13,12 @@ use Rattle.figure_lines.specs.Record.{idle, opOf}
 use Rattle.figure_lines.specs.Lines.{Line, l10, l15, lineAt, lineOf, accessOf, accessAt, nextOf, counted, attempt}
 use Rattle.history_spec.specs.Basics.{upd}
 use Rattle.history_spec.specs.History.{Op, read, swap, cellOf, untried}
-use Rattle.history_spec.specs.Demand3.{Unequal}
+use Rattle.history_spec.specs.Demand3.{Unequal, Reads}
 use Rattle.history_spec.proofs.Basics.{either, clash, some-inj, upd-at, upd-same, upd-off}
 use Rattle.history_linearization.proofs.Simulation.{Tally, QuietStarts, QuietSteps, Free}
 use Rattle.figure_cell.specs.Memory.{Cell, accessCell}
 use Rattle.cells_spec.specs.Turn.{recordAfter}
-use Rattle.figure.specs.Figure.{World, withTask, clear, figureAnswers, triedIn, firstOf}
+use Rattle.figure.specs.Figure.{World, withTask, active, clear, figureAnswers, triedIn, firstOf}
 use Rattle.figure_cell.proofs.LineLaws.{Leads, goes, done}
 use Rattle.figure.proofs.Records.{Pending, OnPath, AllOnPath, Accepted, led, cell-there, cell-elsewhere}
 use Rattle.figure_cell.proofs.AsBegun.{cell-of}
@@ -27,11 +27,22 @@ use Rattle.figure_cell.proofs.Classes.{busy, swapping, lies-in, holding, uncont
 use Rattle.figure.proofs.Views.{on, on-in, on-it, on-changed, on-elsewhere, on-others}
 use Rattle.figure.proofs.Operations.{busy-line, busy-doing, is-unequal}
 use Rattle.figure.proofs.Worlds.{cellAfter, nextAfter, stepAfter, pending-at, was-idle, idle-to, its-cell}
-use Rattle.figure_cell.proofs.Quiet.{signed, Quiet, quiet-step, no-attempt, others-step, others-begin}
+use Rattle.figure_cell.proofs.Quiet.{entering, signed, Quiet, quiet-step, no-attempt, others-step, others-begin}
 
 -- a task is quiet on its own cell
 abbrev pub QuietIn : World → ℕ → Type 0
 QuietIn w u = Quiet (w .cell (w .records u .cell)) (on (w .records) (w .records u .cell)) u
+
+-- what a call finds: an active block; and if it swaps unequal values, Y false
+abbrev pub ready : World → Op → Type 0
+ready w op = let m = w .cell (cellOf op) in active w (cellOf op) × (Unequal op → m .y (m .current) ≡ 0)
+
+pub clear-ready : (w : World) (op : Op) → clear w (cellOf op) → ready w op
+clear-ready w op c = (c .0, λ u. c .1)
+
+pub reads-ready : (w : World) (op : Op) → Reads op → active w (cellOf op) → ready w op
+reads-ready w (read k) r a = (a, λ u. absurd u)
+reads-ready w (swap k e n) r a = (a, λ u. absurd (u r))
 
 -- who is doing something is at a line
 pub is-busy : (w : World) → AllOnPath w → (u : ℕ) (n : Tally) → doing w u ≡ some n → T (busy (lineOf (w .records u)))
@@ -108,7 +119,7 @@ module _ (w : World) (t : ℕ) (did : List Line) (o : Pending (w .cells) did (w 
           (others-step (w .cell k) (on (w .records) k) u t (recordAfter n) y ne (λ b. no-swap (rw here (stays .1 b))) no-swap)))
       go (inr e) = rw (cell-elsewhere w k m t (recordAfter n) j e, on-others (w .records) t (recordAfter n) j e (stays .0)) z
 
-  pub step-quietly : QuietSteps doing clear QuietIn w w′ t (triedIn w t (w .records t))
+  pub step-quietly : QuietSteps doing ready QuietIn w w′ t (triedIn w t (w .records t))
   step-quietly = record {
     no-attempt = λ z. subst (λ (p : Record). attempt (accessAt (lineOf p) t p) (accessCell (w .cell k) (accessOf t p) .value) ≡ untried) here (no-attempt (w .cell k) (on (w .records) k) t z _);
     kept = λ u a d z. go u a d z (either u t);
@@ -151,14 +162,17 @@ module _ (w : World) (path : AllOnPath w) (t : ℕ) (op : Op) (a : Accepted w t 
       let y = lies-in swapping busy tt (lineOf (w .records u)) b′ in
       (busy-doing (w .records u) y, is-unequal (w .records u) (pending-at w path u y .1 .line) b′, cell-of (w .records u) ∙ e)
 
-  pub begin-quietly : QuietStarts doing clear QuietIn w v′ t op
+  pub begin-quietly : QuietStarts doing ready QuietIn w v′ t op
   begin-quietly = record { new = new; others = others }
     where
-      new : clear w (cellOf op) → Free doing w (cellOf op) → QuietIn v′ t
-      new c free = rw (upd-same (w .records) t (firstOf op), its-cell op, on-its-cell) (first-quiet op)
+      new : ready w op → Free doing w (cellOf op) → QuietIn v′ t
+      new c free = rw (upd-same (w .records) t (firstOf op), its-cell op, on-its-cell) (first-quiet op (c .1))
         where
           f : ℕ → Record
           f = on (w .records) (cellOf op)
+
+          m′ : Cell
+          m′ = w .cell (cellOf op)
 
           nobody : (u : ℕ) → T (swapping (lineOf (f u))) → ⊥
           nobody u b = let s = sees (cellOf op) u b in free u (tally (w .records u)) (s .0) (s .1) (s .2)
@@ -167,23 +181,23 @@ module _ (w : World) (path : AllOnPath w) (t : ℕ) (op : Op) (a : Accepted w t 
           lonely p u ne = rw (upd-off f t (firstOf p) u ne) (nobody u)
 
           -- at line 10 or 15 nothing is held yet
-          at-first : (p : Op) (ℓ : Line) → lineOf (firstOf p) ≡ ℓ → T (uncontended ℓ) → (T (holding ℓ) → ⊥) → (T (signed ℓ) → ⊥) → Quiet (w .cell (cellOf op)) (upd f t (firstOf p)) t
-          at-first p ℓ e b n x = record {
+          at-first : (p : Op) (ℓ : Line) → lineOf (firstOf p) ≡ ℓ → T (uncontended ℓ) → (T (holding ℓ) → ⊥) → (T (entering ℓ) → m′ .y (m′ .current) ≡ 0) → (T (signed ℓ) → ⊥) → Quiet m′ (upd f t (firstOf p)) t
+          at-first p ℓ e b n y x = record {
             active = c .0;
             lonely = lonely p;
             line = rw (upd-same f t (firstOf p), e) b;
             here = rw (upd-same f t (firstOf p), e) (λ z. absurd (n z));
-            clear = λ z. c .1;
+            clear = rw (upd-same f t (firstOf p), e) y;
             mine = rw (upd-same f t (firstOf p), e) (λ z. absurd (x z));
           }
 
-          first-quiet : (p : Op) → Quiet (w .cell (cellOf op)) (upd f t (firstOf p)) t
-          first-quiet (read k) = at-first (read k) l10 refl tt (λ z. z) (λ z. z)
-          first-quiet (swap k e n) = go (eqb e n) refl
+          first-quiet : (p : Op) → (Unequal p → m′ .y (m′ .current) ≡ 0) → Quiet m′ (upd f t (firstOf p)) t
+          first-quiet (read k) y = at-first (read k) l10 refl tt (λ z. z) (λ z. absurd z) (λ z. z)
+          first-quiet (swap k e n) y = go (eqb e n) refl
             where
-              go : (x : Bool) → eqb e n ≡ x → Quiet (w .cell (cellOf op)) (upd f t (firstOf (swap k e n))) t
-              go true z = at-first (swap k e n) l10 (rw z) tt (λ z. z) (λ z. z)
-              go false z = at-first (swap k e n) l15 (rw z) tt (λ z. z) (λ z. z)
+              go : (x : Bool) → eqb e n ≡ x → Quiet m′ (upd f t (firstOf (swap k e n))) t
+              go true z = at-first (swap k e n) l10 (rw z) tt (λ z. z) (λ z. absurd z) (λ z. z)
+              go false z = at-first (swap k e n) l15 (rw z) tt (λ z. z) (λ b. y (eqb-false _ _ z)) (λ z. z)
 
       others : (u : ℕ) (n : Tally) → doing w u ≡ some n → (Unequal op → cellOf op ≢ cellOf (n .op)) → QuietIn w u → QuietIn v′ u
       others u n d apart z = rw (upd-off (w .records) t (firstOf op) u ne) (go (either (w .records u .cell) (cellOf op)))

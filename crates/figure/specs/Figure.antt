@@ -92,6 +92,10 @@ figure w (begin t op) = let r = figureBegun w t op in (r .world, eventOf untried
 figure w (step t) = let r = figureStepped w t in (r .world, eventOf (triedIn w t (w .records t)) (r .outcome))
 figure w (drop t) = let r = figureDropped w t in (r .world, eventOf untried (r .outcome))
 
--- nothing is left of an earlier collision: the current block of cell k is active; and its Y is false, which a withdrawn winner leaves true
+-- the current block of cell k is active
+abbrev pub active : World → ℕ → Type 0
+active w k = let m = w .cell k in m .c (m .current) ≡ 0
+
+-- nothing is left of an earlier collision: the block is active; and its Y is false, which a withdrawn winner leaves true
 abbrev pub clear : World → ℕ → Type 0
-clear w k = let m = w .cell k in (m .c (m .current) ≡ 0) × (m .y (m .current) ≡ 0)
+clear w k = let m = w .cell k in active w k × (m .y (m .current) ≡ 0)

@@ -20,6 +20,7 @@ use Rattle.cells_spec.proofs.Numbers.{number, at-number}
 use Rattle.cells_spec.specs.Events.{tried}
 use Rattle.history_spec.specs.History.{success, failure, untried, Action, run}
 use Rattle.history_spec.proofs.Basics.{either}
+use Rattle.history_spec.proofs.ListTests.{or-either}
 use Rattle.figure_cell.specs.Memory.{Cell, wordOf, cellKeeping}
 use Rattle.figure.specs.Figure.{World, figureAnswers, triedIn, opening, figure}
 use Rattle.figure_moments.specs.Moments.{sight, sees}
@@ -27,10 +28,6 @@ use Rattle.figure_moments.specs.Attempts.{judged}
 use Rattle.figure_cell.proofs.Classes.{is, lies-in}
 use Rattle.figure_cell.proofs.LineLaws.{same, same-is}
 use Rattle.figure.proofs.Records.{OnPath, AllOnPath, run-on-path}
-
-or-cases : (a b : Bool) → T (a || b) → T a ⊎ T b
-or-cases true b h = inl tt
-or-cases false b h = inr h
 
 found-is : (b : Bool) → found (cond b 1 0) ≡ cond b success failure
 found-is true = refl
@@ -47,8 +44,8 @@ module _ (t : ℕ) (r : Record) (fits : lineFit r ≡ true) where
 
   pub at-2 : r .line ≡ 2 → accessOf t r ≡ DecideCas (r .held) (r .loaded)
   at-2 e =
-      ⊎-elim (at-line (l2 for13)) (λ h. ⊎-elim (at-line (l2 for25)) (at-line (l2 for28)) (or-cases (same (lineOf r) (l2 for25)) (same (lineOf r) (l2 for28)) h))
-      (or-cases (same (lineOf r) (l2 for13)) (same (lineOf r) (l2 for25) || same (lineOf r) (l2 for28))
+      ⊎-elim (at-line (l2 for13)) (λ h. ⊎-elim (at-line (l2 for25)) (at-line (l2 for28)) (or-either (same (lineOf r) (l2 for25)) (same (lineOf r) (l2 for28)) h))
+      (or-either (same (lineOf r) (l2 for13)) (same (lineOf r) (l2 for25) || same (lineOf r) (l2 for28))
       (lies-in (is 2) (λ l. same l (l2 for13) || (same l (l2 for25) || same l (l2 for28))) tt (lineOf r) (is-line 2 e)))
 
   at-30 : r .line ≡ 30 → accessOf t r ≡ InstallCas (r .cell) (r .held) (r .taken)

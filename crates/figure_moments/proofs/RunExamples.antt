@@ -4,7 +4,7 @@ use mathlib.Core.Path.{_≡_, refl}
 use mathlib.Core.List.{List, [], _∷_, _++_}
 use Prim.Native.Nat.{ℕ}
 use Rattle.history_spec.specs.Basics.{upd}
-use Rattle.history_spec.specs.History.{Op, swap, aSwap, Action, begin, drop, Response, Yes, No, Attempt, success, failure, untried, Event, refused, accepted, answered, history}
+use Rattle.history_spec.specs.History.{Op, read, swap, aRead, aSwap, Action, begin, drop, Response, Value, Yes, No, Attempt, success, failure, untried, Event, refused, accepted, answered, history}
 use Rattle.figure.specs.Figure.{opening, figureRan, figureStepped, figureBegun, figureDropped, figure}
 use Rattle.figure_moments.specs.MomentExamples.{stepsBy, meeting}
 
@@ -57,3 +57,8 @@ dropped-winner = refl
 pub dropped-before : five (alone (swap 0 5 7) 3 ++ drop 0 ∷ alone (swap 0 5 9) 10) ≡ swapped untried Yes 10 0 0 ∷ []
 unfolding upd figureRan figureStepped figureBegun figureDropped
 dropped-before = refl
+
+-- a read there, and a swap of equal values, attempts none: neither looks at Y
+pub dropped-winner-read : five (alone (swap 0 5 7) 4 ++ drop 0 ∷ alone (read 0) 3 ++ alone (swap 0 5 5) 3) ≡ answered untried (record { kind = aRead; cell = 0; answer = Value 5; steps = 3; won = 0; lost = 0 }) ∷ swapped untried Yes 3 0 0 ∷ []
+unfolding upd figureRan figureStepped figureBegun figureDropped
+dropped-winner-read = refl

@@ -16,10 +16,10 @@ use Rattle.figure_lines.specs.Lines.{Line, lineOf, accessOf, nextOf}
 use Rattle.history_spec.specs.History.{Op, read, swap, Action, begin, step, drop, Attempt, untried, Event, refused, accepted, answered, history, run, Calls, callsOf, Response}
 use Rattle.history_spec.specs.Basics.{upd, _∈_}
 use Rattle.history_spec.specs.Linearization.{replies, Linearizes}
-use Rattle.history_spec.specs.Demand3.{Meets, clearAfter}
+use Rattle.history_spec.specs.Demand3.{Meets, NoHardwareReads, clearAfter}
 use Rattle.history_spec.specs.Moments.{before, Spot, Mark, pointOf, replyOf, Names}
 use Rattle.history_spec.proofs.Basics.{either, clash, upd-same, upd-off}
-use Rattle.history_linearization.proofs.Meets.{meets}
+use Rattle.history_linearization.proofs.Meets.{meets, reads-meet}
 use Rattle.history_linearization.proofs.Moments as Placing
 use Rattle.history_linearization.proofs.Moments.{marks-linearize, marks-answers}
 use Rattle.history_linearization.proofs.Unnamed.{noteBoth, namesBoth, same-run, same-linearized}
@@ -33,7 +33,7 @@ use Rattle.history_linearization.proofs.Simulation.{Phase, late, Ghost, unplace
 use Rattle.history_linearization.proofs.Simulation as Sim
 use Rattle.figure_cell.specs.Memory.{accessCell}
 use Rattle.cells_spec.specs.Turn.{recordAfter, outcomeOf}
-use Rattle.figure.specs.Figure.{World, withTask, withBoth, WorldAfter, figureRan, opening, figure, clear, triedIn, firstOf}
+use Rattle.figure.specs.Figure.{World, withTask, withBoth, WorldAfter, figureRan, opening, figure, active, clear, triedIn, firstOf}
 use Rattle.cells_spec.specs.Events.{eventOf}
 use Rattle.figure_moments.specs.Moments.{Waiting, Notes, noNotes, nothingNoted, noted, dropNoted, ruled, stands, landed, lands, waits, note, noting, names, sees, moments}
 use Rattle.figure.proofs.Records.{Pending, OnPath, AllOnPath, Accepted, Begun, starts, begin-cases, Stepped, runs, step-cases, Dropped, leaves, drop-cases, act-on-path, begun-on-path, next-on-path}
@@ -54,7 +54,7 @@ use Rattle.figure_moments.proofs.Drops.{parkedWorld, parkedNotes, kept-
 use Rattle.figure_moments.proofs.Beyond.{Beyond, beyond, sightBy, Same, same-passing, same-begun, same-stepped, same-dropped, same-ruled, same-stands, same-lands, same-waiting, same-waits, same-awaited, stands-idle}
 use Rattle.figure_moments.proofs.Withdrawn.{Held, Left, left-passing, left-begun, left-with, deciding, left-stepped, lands-so, goes-on}
 use Rattle.figure_moments.proofs.Leaving.{leftNotes, waits-late, left-dropped}
-use Rattle.figure.proofs.Quietly.{QuietIn, is-busy, stays, step-quietly, begin-quietly, drop-quietly}
+use Rattle.figure.proofs.Quietly.{QuietIn, ready, clear-ready, reads-ready, is-busy, stays, step-quietly, begin-quietly, drop-quietly}
 
 -- THE FIGURE WITH ITS NOTES, and the other one with its own
 
@@ -384,24 +384,24 @@ module _ (n v : ℕ) (w : World) (o : Notes) (w⁺ : World) (p : Notes) (g : Gho
 
   -- QUIET TASKS
 
-  step-quiet : (t : ℕ) (did : List Line) {f : WorldAfter} → Stepped w t did f → Quietly doing clear QuietIn w (step t) (f .world) (eventOf (triedIn w t (w .records t)) (f .outcome))
+  step-quiet : (t : ℕ) (did : List Line) {f : WorldAfter} → Stepped w t did f → Quietly doing ready QuietIn w (step t) (f .world) (eventOf (triedIn w t (w .records t)) (f .outcome))
   unfolding figureRan
   step-quiet t did (Stepped.refuses m e) = tt
   step-quiet t did (runs m q) = go (nextAfter w t) (step-quietly w t did q)
     where
-      go : (y : Next) {w″ : World} → QuietSteps doing clear QuietIn w w″ t (triedIn w t (w .records t)) → Quietly doing clear QuietIn w (step t) w″ (eventOf (triedIn w t (w .records t)) (outcomeOf y))
+      go : (y : Next) {w″ : World} → QuietSteps doing ready QuietIn w w″ t (triedIn w t (w .records t)) → Quietly doing ready QuietIn w (step t) w″ (eventOf (triedIn w t (w .records t)) (outcomeOf y))
       go (Go r) z = z
       go (Done f) z = z
 
-  begin-quiet : (t : ℕ) (op : Op) {f : WorldAfter} → Begun w t op f → Quietly doing clear QuietIn w (begin t op) (f .world) (eventOf untried (f .outcome))
+  begin-quiet : (t : ℕ) (op : Op) {f : WorldAfter} → Begun w t op f → Quietly doing ready QuietIn w (begin t op) (f .world) (eventOf untried (f .outcome))
   begin-quiet t op (Begun.refuses m) = tt
   begin-quiet t op (starts a) = begin-quietly w (i .on-path) t op a
 
-  drop-quiet : (t : ℕ) (did : List Line) {f : WorldAfter} → Dropped w t did f → Quietly doing clear QuietIn w (drop t) (f .world) (eventOf untried (f .outcome))
+  drop-quiet : (t : ℕ) (did : List Line) {f : WorldAfter} → Dropped w t did f → Quietly doing ready QuietIn w (drop t) (f .world) (eventOf untried (f .outcome))
   drop-quiet t did (Dropped.refuses m e) = tt
   drop-quiet t did (leaves m q) = drop-quietly w t
 
-  pub quietly : (a : Action) → Quietly doing clear QuietIn w a (figure w a .0) (figure w a .1)
+  pub quietly : (a : Action) → Quietly doing ready QuietIn w a (figure w a .0) (figure w a .1)
   quietly (begin t op) = begin-quiet t op (begin-cases w t op)
   quietly (step t) = step-quiet t (i .on-path t .0) (step-cases w t (i .on-path t .0) (i .on-path t .1))
   quietly (drop t) = drop-quiet t (i .on-path t .0) (drop-cases w t (i .on-path t .0) (i .on-path t .1))
@@ -457,7 +457,7 @@ module _ (tasks cells : ℕ) (values : List ℕ) (some-values : (cell : ℕ) →
       settled-is-not : (m : ℕ) → Sim.settled ≡ Sim.late (tasks + m) → ⊥
       settled-is-not m z = let y : _≡_ {A = ℕ} 0 1 = cc in omega arith
 
-  pub simulation : Sim.Simulation figure (watch tasks) (watchNames tasks) (opening tasks cells values) (noNotes, (opening tasks cells values, noNotes)) clear tasks cells (λ k. getD values k 0)
+  pub simulation : Sim.Simulation figure (watch tasks) (watchNames tasks) (opening tasks cells values) (noNotes, (opening tasks cells values, noNotes)) ready tasks cells (λ k. getD values k 0)
   simulation = record {
     doing = doing;
     clock = clockOf;
@@ -513,7 +513,11 @@ module _ (tasks cells : ℕ) (values : List ℕ) (some-values : (cell : ℕ) →
   -- demand 3, of figure 2 with a new block each time: from any opening whose starting values are other than none, for every list of
   -- actions, the calls can be linearized, keep their bounds, and attempt no hardware CAS without contention
   pub figure-meets-demand-3 : Meets figure (opening tasks cells values) (clearAfter figure (opening tasks cells values) clear) cells (λ k. getD values k 0)
-  figure-meets-demand-3 = meets simulation
+  figure-meets-demand-3 = meets simulation clear clear-ready
+
+  -- A read, and a swap of equal values, attempts no hardware CAS if the block was active at its begin, whatever Y is, and it meets no contention.
+  pub figure-reads-quietly : (actions : List Action) → NoHardwareReads (clearAfter figure (opening tasks cells values) active) (callsOf (history figure (opening tasks cells values) actions))
+  figure-reads-quietly = reads-meet simulation active reads-ready
 
   -- notes of the other figure change no mark
   same-moments : (actions : List Action) → Placing.placing simulation actions ≡ moments tasks cells values actions

@@ -6,7 +6,7 @@ use mathlib.Core.List.{List, _∷_, _++_}
 use Prim.Native.Nat.{ℕ}
 use native.Mathlib.Omega.{arith}
 use Rattle.history_spec.specs.Basics.{_∈_, Once}
-use Rattle.history_spec.specs.History.{Action, begin, step, drop, Event, refused, accepted, answered, Yes, Call, WithdrawnCall, Calls, enter}
+use Rattle.history_spec.specs.History.{Op, Action, begin, step, drop, Event, refused, accepted, answered, Yes, Call, WithdrawnCall, Calls, enter}
 use Rattle.history_spec.specs.Moments.{Spot, Mark, Names, withdrawnAt, beside, markOf, markOfPending, markOfLanded, marked}
 use Rattle.history_spec.proofs.Basics.{either, clash, some-inj}
 use Rattle.history_linearization.proofs.Simulation.{Lands, Leaves, Simulation}
@@ -103,8 +103,8 @@ module _ (b : Calls) (dated : Dated b) (distinct : Distinct b) (ordered : Ordere
         left w i q z (inl k) = inl (λ j. markAt (its w i k j) (some-inj {o = h n} (sym (ap h k) ∙ z) here j))
         left w i q z (inr k) = inr (e .left w (was w i k) q (sym (others (w .end) k) ∙ z))
 
-module _ {S N : Type 0} {machine : S → Action → S × Event} {note : N → S → Action → Event → N} {names : Names (S × N)} {start : S} {blank : N} {clear : S → ℕ → Type 0} {tasks size : ℕ} {values : ℕ → ℕ}
-    (M : Simulation machine note names start blank clear tasks size values) (x : S × N) (b : Calls) (dated : Dated b) (distinct : Distinct b) (ordered : Ordered (b .withdrawn) (b .now)) (ms es : List Mark) (same : begins ms ≡ callBegins (b .finished)) (f h : ℕ → Option Spot) (e : Emits f b ms es) (clock : M .clock x ≡ b .now) where
+module _ {S N : Type 0} {machine : S → Action → S × Event} {note : N → S → Action → Event → N} {names : Names (S × N)} {start : S} {blank : N} {ready : S → Op → Type 0} {tasks size : ℕ} {values : ℕ → ℕ}
+    (M : Simulation machine note names start blank ready tasks size values) (x : S × N) (b : Calls) (dated : Dated b) (distinct : Distinct b) (ordered : Ordered (b .withdrawn) (b .now)) (ms es : List Mark) (same : begins ms ≡ callBegins (b .finished)) (f h : ℕ → Option Spot) (e : Emits f b ms es) (clock : M .clock x ≡ b .now) where
   abbrev made : Action → Event → List Mark
   made a u = marked (beside machine note) names x b a u ++ es
 

@@ -6,7 +6,7 @@ use mathlib.Core.List.{List, [], _∷_, _++_}
 use Prim.Native.Nat.{ℕ, suc, _+_, _<_}
 use native.Mathlib.Omega.{arith}
 use Rattle.history_spec.specs.Basics.{_∈_}
-use Rattle.history_spec.specs.History.{Action, begin, step, drop, Attempt, Event, accepted, history, run, Call, Calls, noCalls, enter, enterAll, WellFormed}
+use Rattle.history_spec.specs.History.{Op, Action, begin, step, drop, Attempt, Event, accepted, history, run, Call, Calls, noCalls, enter, enterAll, WellFormed}
 use Rattle.history_spec.specs.Moments.{Mark, Names, withdrawnAt, beside, markOf, marked, pendingMarks, marks}
 use Rattle.history_spec.proofs.Basics.{clash, some-inj}
 use Rattle.history_linearization.proofs.Simulation.{Knowledge, Tally, Forward, Simulation}
@@ -25,8 +25,8 @@ pub run-snoc : {S : Type 0} (act : S → Action → S × Event) (s : S) (l : Lis
 run-snoc act s [] a = refl
 run-snoc act s (x ∷ l) a = run-snoc act (act s x .0) l a
 
-module _ {S N : Type 0} {machine : S → Action → S × Event} {note : N → S → Action → Event → N} {names : Names (S × N)} {start : S} {blank : N} {clear : S → ℕ → Type 0} {tasks size : ℕ} {values : ℕ → ℕ}
-    (M : Simulation machine note names start blank clear tasks size values) where
+module _ {S N : Type 0} {machine : S → Action → S × Event} {note : N → S → Action → Event → N} {names : Names (S × N)} {start : S} {blank : N} {ready : S → Op → Type 0} {tasks size : ℕ} {values : ℕ → ℕ}
+    (M : Simulation machine note names start blank ready tasks size values) where
   -- ms are the marks of the finished calls, es all that were made
   pub record Good (x : S × N) (b : Calls) (ms es : List Mark) : Type 1 where
     pub reached : x .0 ≡ run machine start (b .accepted)
@@ -40,7 +40,7 @@ module _ {S N : Type 0} {machine : S → Action → S × Event} {note : N → S 
     pub acts : Acts (M .acting) x (withParked tasks b)
     pub simulated : Simulated M x (withParked tasks b) ms
     pub emits : Emits (M .left x) b ms es
-    pub quiet : AllQuiet machine start clear (M .doing) (M .Quiet) (x .0) b
+    pub quiet : AllQuiet machine start ready (M .doing) (M .Quiet) (x .0) b
 
   nobody : (u : ℕ) → everyone tasks noCalls u ≡ none
   nobody u = go (task-or-parked tasks u)
@@ -214,7 +214,7 @@ module _ {S N : Type 0} {machine : S → Action → S × Event} {note : N → S 
     acts = f .acts;
     simulated = f .simulated;
     emits = emits-next M x b (G .dated) (G .distinct) (G .ordered) ms es (same-begins (b .finished) ms (m .kept .marked)) (M .left x) (M .left (beside machine note x a .0)) (G .emits) (m .clock) (k .change) (M .leaves x (m .ghost) (known x b ms es G) (m .inv) a);
-    quiet = quiet-next machine start clear (M .doing) (M .Quiet) (x .0) (machine (x .0) a .0) b (G .quiet) (G .tracks) (G .dated) (k .change) (G .reached) (k .tracks)
+    quiet = quiet-next machine start ready (M .doing) (M .Quiet) (x .0) (machine (x .0) a .0) b (G .quiet) (G .tracks) (G .dated) (k .change) (G .reached) (k .tracks)
         (M .quietly x (m .ghost) (known x b ms es G) (m .inv) a);
   }
     where

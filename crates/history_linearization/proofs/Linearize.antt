@@ -5,7 +5,7 @@ use mathlib.Core.Option.{Option, some}
 use mathlib.Core.List.{List, [], _∷_, _++_}
 use Prim.Native.Nat.{ℕ, suc, _+_, _<_}
 use native.Mathlib.Omega.{arith}
-use Rattle.history_spec.specs.History.{cellOf, Action, begin, step, drop, untried, Event, refused, accepted, answered, Response, CallId, Call, Calls, noCalls, enter}
+use Rattle.history_spec.specs.History.{Op, cellOf, Action, begin, step, drop, untried, Event, refused, accepted, answered, Response, CallId, Call, Calls, noCalls, enter}
 use Rattle.history_spec.specs.Moments.{Spot, Mark, markOf, Names, beside}
 use Rattle.history_spec.proofs.Basics.{clash, some-inj}
 use Rattle.history_linearization.proofs.Simulation.{settled, Ghost, fresh, Knowledge, Move, shift, unplaced, parks, Tally, May, Sided, Grown, Why, Keeps, Moves, Parks, Forward, Simulation}
@@ -24,8 +24,8 @@ Undropped (drop t) (refused n) = Unit {0}
 Undropped (drop t) (accepted x) = ⊥
 Undropped (drop t) (answered x r) = Unit {0}
 
-module _ {S N : Type 0} {machine : S → Action → S × Event} {note : N → S → Action → Event → N} {names : Names (S × N)} {start : S} {blank : N} {clear : S → ℕ → Type 0} {tasks size : ℕ} {values : ℕ → ℕ}
-    (M : Simulation machine note names start blank clear tasks size values) where
+module _ {S N : Type 0} {machine : S → Action → S × Event} {note : N → S → Action → Event → N} {names : Names (S × N)} {start : S} {blank : N} {ready : S → Op → Type 0} {tasks size : ℕ} {values : ℕ → ℕ}
+    (M : Simulation machine note names start blank ready tasks size values) where
   abbrev X : Type 0
   X = S × N
 

@@ -8,7 +8,7 @@ use Prim.Native.Nat.{ℕ, zero, suc, _+_, _<_}
 use native.Mathlib.Omega.{arith}
 use lib.Dec.{T}
 use Rattle.history_spec.specs.Basics.{_∈_, Once}
-use Rattle.history_spec.specs.History.{Action, Event, history, run, Response, Yes, Call, FinishedCall, WithdrawnCall, Calls, noCalls, callsOf, CallOf, pending, finished, withdrawn}
+use Rattle.history_spec.specs.History.{Op, Action, Event, history, run, Response, Yes, Call, FinishedCall, WithdrawnCall, Calls, noCalls, callsOf, CallOf, pending, finished, withdrawn}
 use Rattle.history_spec.specs.Linearization.{Point, replies, Placed, Linearizes}
 use Rattle.history_spec.specs.Moments.{before, itself, Spot, Mark, pointOf, replyOf, Names, beside, markOfPending, pendingMarks, sort, linearized}
 use Rattle.history_spec.proofs.Basics.{either, clash, some-inj, mem-append, mem-left, mem-right, mem-map, point}
@@ -104,8 +104,8 @@ module _ {S : Type 0} (machine : S → Action → S × Event) (names : Names S) 
 
 -- ALL OF IT
 
-module _ {S N : Type 0} {machine : S → Action → S × Event} {note : N → S → Action → Event → N} {names : Names (S × N)} {start : S} {blank : N} {clear : S → ℕ → Type 0} {tasks size : ℕ} {values : ℕ → ℕ}
-    (M : Simulation machine note names start blank clear tasks size values) (l : List Action) where
+module _ {S N : Type 0} {machine : S → Action → S × Event} {note : N → S → Action → Event → N} {names : Names (S × N)} {start : S} {blank : N} {ready : S → Op → Type 0} {tasks size : ℕ} {values : ℕ → ℕ}
+    (M : Simulation machine note names start blank ready tasks size values) (l : List Action) where
   r : AtEnd M (start, blank) noCalls [] l
   r = at-end M l
 

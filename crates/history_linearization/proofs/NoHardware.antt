@@ -1,4 +1,4 @@
--- A call that begins at a cell that is clear and meets no contention makes no hardware CAS: its task is quiet as long as it is alone.
+-- A call that begins at a cell that is ready for it and meets no contention makes no hardware CAS: its task is quiet as long as it is alone.
 use mathlib.Core.Path.{_≡_, refl, sym, ap, _∙_, subst}
 use mathlib.Core.Logic.{_≢_, _⊎_, inl, inr}
 use mathlib.Core.Option.{Option, none, some}
@@ -6,9 +6,9 @@ use mathlib.Core.List.{_∷_}
 use Prim.Native.Nat.{ℕ, suc, _+_, _≤_}
 use native.Mathlib.Omega.{arith}
 use Rattle.history_spec.specs.Basics.{_∈_}
-use Rattle.history_spec.specs.History.{cellOf, Action, begin, step, drop, Attempt, untried, Event, accepted, answered, CallId, Call, attempts, FinishedCall, WithdrawnCall, Calls, called, advance, advanced, enter, CallOf, finished, pending, withdrawn}
+use Rattle.history_spec.specs.History.{Op, cellOf, Action, begin, step, drop, Attempt, untried, Event, accepted, answered, CallId, Call, attempts, FinishedCall, WithdrawnCall, Calls, called, advance, advanced, enter, CallOf, finished, pending, withdrawn}
 use Rattle.history_spec.specs.History.{run}
-use Rattle.history_spec.specs.Demand3.{Unequal, Alone, NoHardware, clearAfter}
+use Rattle.history_spec.specs.Demand3.{Unequal, Alone}
 use Rattle.history_spec.proofs.Basics.{upd-same, clash, some-inj}
 use Rattle.history_linearization.proofs.Simulation.{Tally, QuietSteps, Quietly}
 use Rattle.history_linearization.proofs.Tracks.{upd-some, tallied, tallyOf, call-of, Tracks, Change, refuses, starts, goes, ends, drops}
@@ -26,17 +26,17 @@ alone-before {b' = b'} m c d n n' s le alone e k h unequal q ne =
     go (inl z) = inl (omega (arith, z, r .4, ap (λ (x : CallId). x .at) s))
     go (inr z) = inr (omega (arith, z, ap (λ (x : CallId). x .at) (r .3 .start)))
 
-module _ {S : Type 0} (machine : S → Action → S × Event) (start : S) (clear : S → ℕ → Type 0) (doing : S → ℕ → Option Tally) (Quiet : S → ℕ → Type 0) where
-  -- the call began at a cell that is clear and is alone until n
+module _ {S : Type 0} (machine : S → Action → S × Event) (start : S) (ready : S → Op → Type 0) (doing : S → ℕ → Option Tally) (Quiet : S → ℕ → Type 0) where
+  -- the call began at a cell that was ready for it, and is alone until n
   abbrev pub Calm : Calls → Call → ℕ → Type 0
-  Calm b c n = clearAfter machine start clear (c .start .before) (cellOf (c .start .op)) × Alone b c n
+  Calm b c n = ready (run machine start (c .start .before)) (c .start .op) × Alone b c n
 
   pub record AllQuiet (s : S) (b : Calls) : Type 0 where
     pub quiet : (t : ℕ) (c : Call) → b .pending t ≡ some c → Calm b c (b .now) → Quiet s t × (attempts c ≡ 0)
     pub past : (f : FinishedCall) → f ∈ b .finished → Calm b (f .call) (f .call .last) → attempts (f .call) ≡ 0
     pub gone : (w : WithdrawnCall) → w ∈ b .withdrawn → Calm b (w .call) (w .end) → attempts (w .call) ≡ 0
 
-  pub no-hardware : {s : S} {b : Calls} → AllQuiet s b → NoHardware (clearAfter machine start clear) b
+  pub no-hardware : {s : S} {b : Calls} → AllQuiet s b → (c : Call) (n : ℕ) → CallOf b c n → ready (run machine start (c .start .before)) (c .start .op) → Alone b c n → attempts c ≡ 0
   no-hardware G c n (finished f i) a l = G .past f i (a, l)
   no-hardware G c n (pending t d h) a l = G .quiet t c h (a, l) .1
   no-hardware G c n (withdrawn w i) a l = G .gone w i (a, l)
@@ -46,7 +46,7 @@ module _ {S : Type 0} (machine : S → Action → S × Event) (start : S) (clear
       -- calm after the action, a call was quiet before it
       was-quiet : (u : ℕ) (c d : Call) (n : ℕ) → b .pending u ≡ some c → c .start ≡ d .start → b .now ≤ n → Calm (enter b a e) d n → Quiet s u × (attempts c ≡ 0)
       was-quiet u c d n h q le (r, l) =
-          G .quiet u c h (subst (λ (s : CallId). clearAfter machine start clear (s .before) (cellOf (s .op))) (sym q) r, alone-before (moves-one b dated k) c d (b .now) n q le l)
+          G .quiet u c h (subst (λ (s : CallId). ready (run machine start (s .before)) (s .op)) (sym q) r, alone-before (moves-one b dated k) c d (b .now) n q le l)
 
       was-past : (f : FinishedCall) → f ∈ b .finished → Calm (enter b a e) (f .call) (f .call .last) → attempts (f .call) ≡ 0
       was-past f i (r, l) = G .past f i (r, alone-before (moves-one b dated k) (f .call) (f .call) (f .call .last) (f .call .last) refl (omega arith) l)
@@ -55,17 +55,17 @@ module _ {S : Type 0} (machine : S → Action → S × Event) (start : S) (clear
       was-gone w i (r, l) = G .gone w i (r, alone-before (moves-one b dated k) (w .call) (w .call) (w .end) (w .end) refl (omega arith) l)
 
     -- the stepper's call has made no attempt
-    no-attempt : (t : ℕ) (x : Attempt) {e : Event} (k : Change s s' b (step t) e) (c : Call) (n : ℕ) → b .pending t ≡ some c → b .now ≤ n → QuietSteps doing clear Quiet s s' t x →
+    no-attempt : (t : ℕ) (x : Attempt) {e : Event} (k : Change s s' b (step t) e) (c : Call) (n : ℕ) → b .pending t ≡ some c → b .now ≤ n → QuietSteps doing ready Quiet s s' t x →
         Calm (enter b (step t) e) (advance b x c) n → Quiet s t × (attempts (advance b x c) ≡ 0)
     no-attempt t x k c n busy le p l = let r = was-quiet k t c (advance b x c) n busy refl le l in (r .0, rw (p .no-attempt (r .0)) (omega (arith, r .1)))
 
     -- another task's call stays as it was
-    other-quiet : (t : ℕ) (x : Attempt) {e : Event} (k : Change s s' b (step t) e) → QuietSteps doing clear Quiet s s' t x → Tracks doing s' (enter b (step t) e) → (u : ℕ) (d : Call) →
+    other-quiet : (t : ℕ) (x : Attempt) {e : Event} (k : Change s s' b (step t) e) → QuietSteps doing ready Quiet s s' t x → Tracks doing s' (enter b (step t) e) → (u : ℕ) (d : Call) →
         enter b (step t) e .pending u ≡ some d → b .pending u ≡ some d → Calm (enter b (step t) e) d (suc (b .now)) → Quiet s' u × (attempts d ≡ 0)
     other-quiet t x k p same' u d i h l = let w = was-quiet k u d d (suc (b .now)) h refl (omega arith) l in (p .kept u (tallied d) (same' u ∙ ap tallyOf i) (w .0), w .1)
 
     pub quiet-next : {a : Action} {e : Event} → Change s s' b a e → s ≡ run machine start (b .accepted) → Tracks doing s' (enter b a e) →
-        Quietly doing clear Quiet s a s' e → AllQuiet s' (enter b a e)
+        Quietly doing ready Quiet s a s' e → AllQuiet s' (enter b a e)
     quiet-next (refuses {a} {r} z) reached same' p = record {
       quiet = λ t c h l. rw z (was-quiet (refuses {a = a} {r = r} z) t c c (suc (b .now)) h refl (omega arith) l);
       past = was-past (refuses {a = a} {r = r} z);

@@ -150,9 +150,10 @@ module _ {S : Type 0} (doing : S → ℕ → Option Tally) where
   abbrev pub Free : S → ℕ → Type 0
   Free s k = (u : ℕ) (n : Tally) → doing s u ≡ some n → Unequal (n .op) → cellOf (n .op) ≢ k
 
-  module _ (clear : S → ℕ → Type 0) (Quiet : S → ℕ → Type 0) where
+  -- `ready s op`: nothing that was left in its cell makes a call of op attempt a hardware CAS
+  module _ (ready : S → Op → Type 0) (Quiet : S → ℕ → Type 0) where
     pub record QuietStarts (s s' : S) (t : ℕ) (op : Op) : Type 0 where
-      pub new : clear s (cellOf op) → Free s (cellOf op) → Quiet s' t
+      pub new : ready s op → Free s (cellOf op) → Quiet s' t
       pub others : (u : ℕ) (n : Tally) → doing s u ≡ some n → (Unequal op → cellOf op ≢ cellOf (n .op)) → Quiet s u → Quiet s' u
 
     pub record QuietSteps (s s' : S) (t : ℕ) (x : Attempt) : Type 0 where
@@ -249,7 +250,7 @@ Leaves names clock x (drop t) (answered y r) f h = (n : ℕ) → h n ≡ f n
 -- ALL OF IT, of a machine with notes beside it
 
 pub record Simulation {S N : Type 0} (machine : S → Action → S × Event) (note : N → S → Action → Event → N) (names : Names (S × N)) (start : S) (blank : N)
-    (clear : S → ℕ → Type 0) (tasks size : ℕ) (values : ℕ → ℕ) : Type 1 where
+    (ready : S → Op → Type 0) (tasks size : ℕ) (values : ℕ → ℕ) : Type 1 where
   pub doing : S → ℕ → Option Tally
   pub clock : S × N → ℕ
   -- the pending calls; and, under the numbers from `tasks` on, those withdrawn calls that took effect or may yet: by the moments of their drops
@@ -266,7 +267,7 @@ pub record Simulation {S N : Type 0} (machine : S → Action → S × Event) (no
   pub within : (x : S × N) (g : Ghost) (κ : Knowledge) → Inv x g κ → (t : ℕ) (n : Tally) → doing (x .0) t ≡ some n → (n .steps < most (n .op)) × (n .won + n .lost ≤ mostHard (n .op))
   pub follows : (x : S × N) (g : Ghost) (κ : Knowledge) → Inv x g κ → (a : Action) → Follows doing size (x .0) a (machine (x .0) a .0) (machine (x .0) a .1)
   pub forward : (x : S × N) (g : Ghost) (κ : Knowledge) → Inv x g κ → (a : Action) → Forward acting clock names tasks Inv x g κ a (beside machine note x a .0) (machine (x .0) a .1)
-  pub quietly : (x : S × N) (g : Ghost) (κ : Knowledge) → Inv x g κ → (a : Action) → Quietly doing clear Quiet (x .0) a (machine (x .0) a .0) (machine (x .0) a .1)
+  pub quietly : (x : S × N) (g : Ghost) (κ : Knowledge) → Inv x g κ → (a : Action) → Quietly doing ready Quiet (x .0) a (machine (x .0) a .0) (machine (x .0) a .1)
   -- the tasks have the numbers below `tasks`
   pub low : (x : S × N) (g : Ghost) (κ : Knowledge) → Inv x g κ → (t : ℕ) (n : Tally) → doing (x .0) t ≡ some n → t < tasks
   pub low-begin : (x : S × N) (g : Ghost) (κ : Knowledge) → Inv x g κ → (t : ℕ) (op : Op) (y : Attempt) → machine (x .0) (begin t op) .1 ≡ accepted y → t < tasks

@@ -8,9 +8,9 @@ use native.Mathlib.Omega.{arith}
 use lib.ListN.{replicate}
 use borrow.Author.Tests.{ne-eqb}
 use Rattle.history_spec.specs.Basics.{upd, _∈_}
-use Rattle.history_spec.specs.History.{aRead, aSwap, read, swap, Action, begin, step, drop, untried, success, failure, Event, refused, accepted, Value, Yes, Call, attempts, FinishedCall, WithdrawnCall, Calls, noCalls, callsOf}
+use Rattle.history_spec.specs.History.{Op, aRead, aSwap, kindOf, read, swap, Action, begin, step, drop, untried, success, failure, Event, refused, accepted, Response, Value, Yes, Call, attempts, FinishedCall, WithdrawnCall, Calls, noCalls, callsOf}
 use Rattle.history_spec.specs.History.{finished, pending, withdrawn, WellFormed}
-use Rattle.history_spec.specs.Demand3.{most, mostHard, Reports, Bounds, Unequal, Alone, NoHardware}
+use Rattle.history_spec.specs.Demand3.{most, mostHard, Reports, Bounds, Unequal, Alone, NoHardware, Reads, NoHardwareReads}
 use Rattle.history_spec.proofs.Basics.{either, clash}
 use Rattle.history_spec.proofs.Examples.{answers, the-calls, ended}
 
@@ -104,25 +104,44 @@ longest-read = within-bounds _ (omega arith) (record { kind = refl; cell = refl;
 pub longest-swap : Bounds (only (ended 0 0 (swap 0 5 7) [] 21 21 2 1 Yes))
 longest-swap = within-bounds _ (omega arith) (record { kind = refl; cell = refl; steps = refl; won = refl; lost = refl })
 
--- a swap that is alone, on a clear cell, tries the hardware CAS
-abbrev needless : FinishedCall
-needless = ended 0 0 (swap 0 5 7) [] 1 1 1 0 Yes
+-- the only call of a history: of task 0 on cell 0, it tries a hardware CAS with its one step
+abbrev trying : Op → Response → List (Action × Event)
+trying op a = (begin 0 op, accepted untried) ∷ (step 0, answers success (kindOf op) a 1 1 0) ∷ []
 
-pub no-hardware-CAS-alone : NoHardware (λ l k. Unit {0}) (callsOf ((begin 0 (swap 0 5 7), accepted untried) ∷ (step 0, answers success aSwap Yes 1 1 0) ∷ [])) → ⊥
+abbrev needless : Op → Response → FinishedCall
+needless op a = ended 0 0 op [] 1 1 1 0 a
+
+needless-alone : (op : Op) (a : Response) → Alone (callsOf (trying op a)) (needless op a .call) 1
 unfolding upd
-no-hardware-CAS-alone h = omega (arith, h (needless .call) 1 (finished needless (inl refl)) tt alone)
+needless-alone op a d n i u q ne = absurd (go (the-calls (callsOf (trying op a)) (λ t p q. rw (ne-eqb t 0 p)) d n i))
   where
-    b : Calls
-    b = callsOf ((begin 0 (swap 0 5 7), accepted untried) ∷ (step 0, answers success aSwap Yes 1 1 0) ∷ [])
+    go : d ∈ (needless op a .call ∷ []) → ⊥
+    go (inl q) = ne (ap (λ (c : Call). c .start .at) q)
 
-    alone : Alone b (needless .call) 1
-    alone d n i u q ne = absurd (go (the-calls b (λ t p q. rw (ne-eqb t 0 p)) d n i))
-      where
-        go : d ∈ (needless .call ∷ []) → ⊥
-        go (inl q) = ne (ap (λ (c : Call). c .start .at) q)
+-- WRONG: a swap does so, alone and on a clear cell
+pub no-hardware-CAS-alone : NoHardware (λ l k. Unit {0}) (callsOf (trying (swap 0 5 7) Yes)) → ⊥
+unfolding upd
+no-hardware-CAS-alone h = omega (arith, h (needless (swap 0 5 7) Yes .call) 1 (finished (needless (swap 0 5 7) Yes) (inl refl)) tt (needless-alone (swap 0 5 7) Yes))
 
--- where the cell is not clear, the same call is right
-pub hardware-CAS-on-a-cell-that-is-not-clear : NoHardware (λ l k. ⊥) (callsOf ((begin 0 (swap 0 5 7), accepted untried) ∷ (step 0, answers success aSwap Yes 1 1 0) ∷ []))
+-- WRONG: a read does so, alone and where the block is active; and so a swap of equal values
+pub no-hardware-CAS-by-a-read : NoHardwareReads (λ l k. Unit {0}) (callsOf (trying (read 0) (Value 5))) → ⊥
+unfolding upd
+no-hardware-CAS-by-a-read h = omega (arith, h (needless (read 0) (Value 5) .call) 1 (finished (needless (read 0) (Value 5)) (inl refl)) tt tt (needless-alone (read 0) (Value 5)))
+
+pub no-hardware-CAS-by-an-equal-swap : NoHardwareReads (λ l k. Unit {0}) (callsOf (trying (swap 0 5 5) Yes)) → ⊥
+unfolding upd
+no-hardware-CAS-by-an-equal-swap h = omega (arith, h (needless (swap 0 5 5) Yes .call) 1 (finished (needless (swap 0 5 5) Yes) (inl refl)) refl tt (needless-alone (swap 0 5 5) Yes))
+
+-- of a swap of unequal values that clause says nothing: the block may be active and Y true
+pub hardware-CAS-where-the-block-is-active : NoHardwareReads (λ l k. Unit {0}) (callsOf (trying (swap 0 5 7) Yes))
+unfolding upd
+hardware-CAS-where-the-block-is-active c n i reads active alone = absurd (go (the-calls (callsOf (trying (swap 0 5 7) Yes)) (λ t p q. rw (ne-eqb t 0 p)) c n i))
+  where
+    go : c ∈ (needless (swap 0 5 7) Yes .call ∷ []) → ⊥
+    go (inl q) = let e : _≡_ {A = ℕ} 5 7 = subst (λ (c : Call). Reads (c .start .op)) q reads in omega arith
+
+-- where the cell is not clear, the swap is right
+pub hardware-CAS-on-a-cell-that-is-not-clear : NoHardware (λ l k. ⊥) (callsOf (trying (swap 0 5 7) Yes))
 hardware-CAS-on-a-cell-that-is-not-clear c n i clear alone = absurd clear
 
 -- a swap beside which only one of equal values is pending tries the hardware CAS

@@ -48,6 +48,15 @@ Alone b c end = (d : Call) (n : ℕ) → CallOf b d n → Unequal (d .start .op)
 abbrev pub NoHardware : (List Action → ℕ → Type 0) → Calls → Type 0
 NoHardware Clear b = (c : Call) (n : ℕ) → CallOf b c n → Clear (c .start .before) (cellOf (c .start .op)) → Alone b c n → attempts c ≡ 0
 
+-- who runs as a read: a read, and a swap of equal values (line 14)
+abbrev pub Reads : Op → Type 0
+Reads (read k) = Unit {0}
+Reads (swap k e n) = e ≡ n
+
+-- of those, where the cell is `Active` already: a read looks at no splitter
+abbrev pub NoHardwareReads : (List Action → ℕ → Type 0) → Calls → Type 0
+NoHardwareReads Active b = (c : Call) (n : ℕ) → CallOf b c n → Reads (c .start .op) → Active (c .start .before) (cellOf (c .start .op)) → Alone b c n → attempts c ≡ 0
+
 -- by the machine that was fed the actions l
 abbrev pub clearAfter : {S : Type 0} → (S → Action → S × Event) → S → (S → ℕ → Type 0) → List Action → ℕ → Type 0
 clearAfter machine start clear l k = clear (run machine start l) k
