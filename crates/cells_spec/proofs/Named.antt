@@ -27,7 +27,7 @@ Names P Q q = (not (isIdle q) && holds q ≡ true → P (q .held)) × (not (isId
 
 -- and K, unless its call has ended
 module _ (P Q : ℕ → Type 0) (K : Type 0) where
-  abbrev LeavesNamed : Next → Type 0
+  abbrev pub LeavesNamed : Next → Type 0
   LeavesNamed (Go q) = (holds q ≡ true → P (q .held)) × (hasTaken q ≡ true → Q (q .taken)) × K
   LeavesNamed (Done f) = Prim.Unit
 
@@ -38,7 +38,7 @@ module _ (P Q : ℕ → Type 0) (K : Type 0) where
   ruleset named = (which, no-such)
 
   -- of the value that an access answers, if it is a block; and K, but after a hardware CAS of the cell
-  abbrev GivesNamed : Access → ℕ → Type 0
+  abbrev pub GivesNamed : Access → ℕ → Type 0
   GivesNamed (LoadCell k) v = P v × K
   GivesNamed (Load b f) v = K
   GivesNamed (Store b f x) v = K
@@ -49,7 +49,7 @@ module _ (P Q : ℕ → Type 0) (K : Type 0) where
 
   -- LINE BY LINE, whatever a line tests: the access was o's, and r is o counted
   module _ (t : ℕ) (o r : Record) (v : ℕ) where
-    line-named : (ℓ : Line) (a b : Bool) → ofKind ℓ a b ≡ true → (holdsBefore (number ℓ) ≡ true → P (r .held)) → (takenBefore (number ℓ) ≡ true → Q (r .taken)) → GivesNamed (accessAt ℓ t o) v → LeavesNamed (nextAt ℓ t r v)
+    pub line-named : (ℓ : Line) (a b : Bool) → ofKind ℓ a b ≡ true → (holdsBefore (number ℓ) ≡ true → P (r .held)) → (takenBefore (number ℓ) ≡ true → Q (r .taken)) → GivesNamed (accessAt ℓ t o) v → LeavesNamed (nextAt ℓ t r v)
     line-named (l1 w) a b k h m f = search named
     line-named (l2 w) a b k h m f = search named
     line-named (l3 for13) a b k h m f = search named

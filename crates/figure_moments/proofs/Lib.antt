@@ -9,4 +9,5 @@ pub mod Withdrawn
 pub mod Leaving
 pub mod Simulation
 pub mod Reachable
+pub mod Late
 pub mod RunExamples
