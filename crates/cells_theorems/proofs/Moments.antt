@@ -21,11 +21,13 @@ use Rattle.cells_spec.specs.Step.{current}
 use Rattle.history_spec.specs.History.{Action, begin, step, drop, Response, Value, Yes, No, Event, refused, accepted, answered, history, run, Calls, noCalls, callsOf}
 use Rattle.history_spec.specs.Basics.{_∈_}
 use Rattle.history_spec.specs.Linearization.{replies, Linearizes}
-use Rattle.history_spec.specs.Moments.{before, Spot, Mark, pointOf, replyOf, markOf, markOfPending, markOfLanded, marked, pendingMarks, marks, sort}
+use Rattle.history_spec.specs.Moments.{before, Spot, Mark, pointOf, replyOf, markOf, markOfPending, markOfLanded, marked, pendingMarks, marks, sort, ListedExactly}
 use Rattle.figure_cell.specs.Memory.{wordOf}
 use Rattle.figure.specs.Figure.{World, figure, opening}
 use Rattle.figure_moments.specs.Moments.{holdsBlock, Sight, Notes, noNotes, nothingNoted, dropNoted, noteStep, noteDrop, note, noting, names, lands, ruled, stands, sees, moments}
 use Rattle.figure.proofs.Records.{WellRecord}
+use Rattle.figure_moments.specs.WithdrawnRule.{Withdrawal, withdrawals, withdrawnSpot}
+use Rattle.figure_moments.proofs.WithdrawnRule.{withdrawn-rule}
 use Rattle.figure_moments.proofs.Simulation.{moments-linearize, moments-answers, never-before}
 use Rattle.cells_spec.specs.Machine.{Pool, pool}
 use Rattle.cells_theorems.specs.Terms.{start, named}
@@ -226,3 +228,7 @@ module _ (old : State) (words : List ℕ) (tasks cells blocks : ℕ) (values : L
   -- No call takes effect immediately before an action.
   pub cell-never-before : (mark : Mark) → mark ∈ poolMoments tasks (start old words tasks cells blocks values) actions → mark .spot .side ≢ before
   cell-never-before m i = never-before tasks cells values (starting-values old words tasks cells blocks values allowed) actions m (subst (λ (k : List Mark). m ∈ k) same-moments i)
+
+  -- A withdrawn call is listed exactly where the rule for withdrawn swaps says, as it is looked up in figure 2 at the end of the list.
+  pub cell-withdrawn-rule : (x : Withdrawal) → x ∈ withdrawals (opening tasks cells values) noNotes noCalls [] actions → ListedExactly (poolMoments tasks (start old words tasks cells blocks values) actions) (x .call) (withdrawnSpot (run figure (opening tasks cells values) actions) x)
+  cell-withdrawn-rule = rw same-moments (withdrawn-rule tasks cells values (starting-values old words tasks cells blocks values allowed) actions)

@@ -12,7 +12,7 @@ use Rattle.figure_lines.specs.Record.{idle}
 use Rattle.figure_lines.specs.Lines.{Line, for25, for28, l1, l2, l3, l4, l5, l6, l7, l8, l30, lineOf, accessAt, attempt, counted, nextAt}
 use Rattle.history_spec.specs.Basics.{upd, _∈_}
 use Rattle.history_spec.specs.History.{Op, Action, begin, step, drop, untried}
-use Rattle.history_spec.proofs.ListTests.{every, every-in, has, imp, has-in, by-test}
+use Rattle.history_spec.proofs.ListTests.{every, every-in, has, has-append, imp, has-in, by-test}
 use Rattle.figure_cell.specs.Memory.{Cell, accessCell}
 use Rattle.cells_spec.specs.Turn.{recordAfter, outcomeOf}
 use Rattle.cells_spec.specs.Events.{eventOf}
@@ -45,16 +45,12 @@ comes-later ℓ did m h = has-in same same-is later ℓ (imp (through25 did) (ha
 
 -- with one more line
 pub one-more : (did : List Line) (ℓ : Line) → through25 (did ++ (ℓ ∷ [])) ≡ true → (through25 did ≡ true) ⊎ (ℓ ≡ l3 for25)
-one-more [] ℓ h = inr (sym (same-is (l3 for25) ℓ (it-is (same (l3 for25) ℓ) h)))
+one-more did ℓ h = go (through25 did) (same (l3 for25) ℓ) refl refl (sym (has-append same did ℓ (l3 for25)) ∙ h)
   where
-    it-is : (b : Bool) → (b || false) ≡ true → T b
-    it-is true h = tt
-    it-is false h = absurd (false≢true h)
-one-more (a ∷ did) ℓ h = go (same (l3 for25) a) (one-more did ℓ) h
-  where
-    go : (b : Bool) → (through25 (did ++ (ℓ ∷ [])) ≡ true → (through25 did ≡ true) ⊎ (ℓ ≡ l3 for25)) → (b || through25 (did ++ (ℓ ∷ []))) ≡ true → ((b || through25 did) ≡ true) ⊎ (ℓ ≡ l3 for25)
-    go true f h = inl refl
-    go false f h = f h
+    go : (a b : Bool) → through25 did ≡ a → same (l3 for25) ℓ ≡ b → (a || b) ≡ true → (through25 did ≡ true) ⊎ (ℓ ≡ l3 for25)
+    go true b e f h = inl e
+    go false true e f h = inr (sym (same-is (l3 for25) ℓ (rw f tt)))
+    go false false e f h = absurd (false≢true h)
 
 -- the task keeps its block and its values there
 abbrev Keeps : Record → Next → Type 0

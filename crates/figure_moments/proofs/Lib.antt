@@ -10,4 +10,5 @@ pub mod Leaving
 pub mod Simulation
 pub mod Reachable
 pub mod Late
+pub mod WithdrawnRule
 pub mod RunExamples

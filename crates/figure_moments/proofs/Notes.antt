@@ -106,8 +106,22 @@ module _ (w : World) (o : Notes) (t : ℕ) (fit : lineFit (w .records t) ≡ tru
   pub notes-loaded : T (is 11 ℓ || is 20 ℓ) → o′ .loaded t ≡ o .now
   notes-loaded = notes-own (λ n. eqb n 11 || eqb n 20) (o .now) (o .loaded t)
 
-  pub keeps-stored : (u : ℕ) → T (stored (lineOf (w .records u))) → (o′ .stored u ≡ o .stored u) × (o′ .storedActive u ≡ o .storedActive u)
-  keeps-stored u b = (keeps-own (λ n. eqb n 23) (o .now) stored tt u (o .stored u) b, keeps-own (λ n. eqb n 23) (sees w t .active) stored tt u (o .storedActive u) b)
+  abbrev pub StoresKept : ℕ → Type 0
+  StoresKept u = (o′ .stored u ≡ o .stored u) × (o′ .storedActive u ≡ o .storedActive u)
+
+  -- who is not at line 23
+  pub keeps-elsewhere : (u : ℕ) → T (not (is 23 (lineOf (w .records u)))) → StoresKept u
+  keeps-elsewhere u b = (keeps-own (λ n. eqb n 23) (o .now) (λ ℓ. not (is 23 ℓ)) tt u (o .stored u) b, keeps-own (λ n. eqb n 23) (sees w t .active) (λ ℓ. not (is 23 ℓ)) tt u (o .storedActive u) b)
+
+  pub keeps-stored : (u : ℕ) → T (stored (lineOf (w .records u))) → StoresKept u
+  keeps-stored u b = keeps-elsewhere u (lies-in stored (λ ℓ. not (is 23 ℓ)) tt (lineOf (w .records u)) b)
+
+  -- nor is another task's store noted
+  pub keeps-others : (u : ℕ) → u ≢ t → StoresKept u
+  keeps-others u n = (cond-false (eqb (q .line) 23 && eqb u t) (o .now) (o .stored u) other, cond-false (eqb (q .line) 23 && eqb u t) (sees w t .active) (o .storedActive u) other)
+    where
+      other : T (eqb (q .line) 23 && eqb u t) → ⊥
+      other z = n (eqb→eq u t (both (eqb (q .line) 23) (eqb u t) z .1))
 
   pub notes-stored : T (is 23 ℓ) → (o′ .stored t ≡ o .now) × (o′ .storedActive t ≡ eqb (m .c (q .held)) 0)
   notes-stored b = rw (at-number q fit ∙ eqb→eq (number ℓ) 23 b, eq-eqb t t refl) (refl, refl)

@@ -25,6 +25,7 @@ use Rattle.figure.proofs.Tallies.{doing, follows}
 use Rattle.figure.proofs.Views.{on-in, view}
 use Rattle.figure.proofs.Worlds.{facts, cellAfter, nextAfter}
 use Rattle.figure_moments.proofs.Known.{known, κ⁺, out}
+use Rattle.figure_moments.proofs.Begins.{good-grown}
 use Rattle.figure_moments.proofs.Simulation.{Watched, actingIn, clockOf, watchNames, Invariant, q⁺, same-next, forward, opened}
 
 -- every task may have seen every value at every moment, and is early
@@ -37,6 +38,23 @@ pub record Reachable (v : ℕ) (w : World) : Type 0 where
   pub notes : Notes × Beyond
   pub ghost : Ghost
   pub holds : Invariant tasks v (w, notes) ghost trivial
+
+-- whatever is asked
+abbrev pub reachedBy : {n v : ℕ} {x : Watched} {g : Ghost} {κ : Knowledge} → Invariant n v x g κ → Reachable v (x .0)
+reachedBy {n} {v} {x} {g} {κ} i = record {
+  tasks = n;
+  notes = x .1;
+  ghost = g;
+  holds = record {
+    size = i .size;
+    tasks = i .tasks;
+    on-path = i .on-path;
+    good = good-grown (x .1 .1 .0) (x .1 .1 .1) g κ trivial (i .good) (record { saw = λ u n n′ a b m z s. tt; early = λ u n n′ a b s. tt; sees = λ u n n′ a b s. tt; fresh-early = λ u n a s. tt });
+    dated = i .dated;
+    same = i .same;
+    left = i .left;
+  };
+}
 
 module _ (v : ℕ) (w : World) (i : Reachable v w) where
   abbrev g : Ghost

@@ -13,11 +13,11 @@ use Rattle.figure_lines.specs.declared.Record.{Record}
 use Rattle.figure_lines.specs.Answers.{Next, Go, Done, Result}
 use Rattle.figure_lines.specs.Record.{noValue, first, idle, opOf}
 use Rattle.figure_lines.specs.Lines.{Line, lineOf, accessOf, nextOf}
-use Rattle.history_spec.specs.History.{Op, read, swap, Action, begin, step, drop, Attempt, untried, Event, refused, accepted, answered, history, run, Calls, callsOf, Response}
+use Rattle.history_spec.specs.History.{Op, read, swap, Action, begin, step, drop, Attempt, untried, Event, refused, accepted, answered, history, run, WithdrawnCall, Calls, callsOf, Response}
 use Rattle.history_spec.specs.Basics.{upd, _∈_}
 use Rattle.history_spec.specs.Linearization.{replies, Linearizes}
 use Rattle.history_spec.specs.Demand3.{Meets, NoHardwareReads, clearAfter}
-use Rattle.history_spec.specs.Moments.{before, Spot, Mark, pointOf, replyOf, Names}
+use Rattle.history_spec.specs.Moments.{before, Spot, Mark, pointOf, replyOf, Names, beside, ListedExactly}
 use Rattle.history_spec.proofs.Basics.{either, clash, upd-same, upd-off}
 use Rattle.history_linearization.proofs.Meets.{meets, reads-meet}
 use Rattle.history_linearization.proofs.Moments as Placing
@@ -561,3 +561,9 @@ module _ (tasks cells : ℕ) (values : List ℕ) (some-values : (cell : ℕ) →
           on : OnPath (x .0 .tasks) (x .0 .cells) t (i .on-path t .0) (x .0 .records t) → x .1 .0 .waiting (x .0 .records t .cell) ≡ none
           on (inl (h, z)) = absurd (false≢true (subst (λ (r : Record). waits (x .1 .0) t (sightBy r r (x .0 .cell)) ≡ true) h e))
           on (inr (m, q)) = waits-alone tasks cells (x .0) (x .1 .0) (x .1 .1 .0) (x .1 .1 .1) g κ i t (i .on-path t .0) m q e
+
+  -- a withdrawn call is listed exactly where it takes effect in the other figure
+  pub withdrawn-listed : (actions : List Action) (v : WithdrawnCall) → v ∈ callsOf (history figure (opening tasks cells values) actions) .withdrawn →
+      ListedExactly (moments tasks cells values actions) (v .call) (standsIn tasks (run (beside figure (watch tasks)) (opening tasks cells values, (noNotes, (opening tasks cells values, noNotes))) actions) (v .end))
+  unfolding simulation
+  withdrawn-listed actions v i = subst (λ (ms : List Mark). ListedExactly ms (v .call) (standsIn tasks (run (beside figure (watch tasks)) (opening tasks cells values, (noNotes, (opening tasks cells values, noNotes))) actions) (v .end))) (same-moments actions) (Placing.withdrawn-listed simulation actions v i)

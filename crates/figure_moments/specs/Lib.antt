@@ -1,3 +1,4 @@
 pub mod Moments
+pub mod WithdrawnRule
 pub mod Attempts
 pub mod MomentExamples

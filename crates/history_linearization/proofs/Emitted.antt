@@ -22,7 +22,7 @@ in-drops (v ∷ l) w (inl e) = inl (ap (λ (w : WithdrawnCall). w .call .start .
 in-drops (v ∷ l) w (inr i) = inr (in-drops l w i)
 
 -- two that begin at the same moment are one
-only-one : (l : List WithdrawnCall) → Once (dropBegins l) → (v w : WithdrawnCall) → v ∈ l → w ∈ l → v .call .start .at ≡ w .call .start .at → v ≡ w
+pub only-one : (l : List WithdrawnCall) → Once (dropBegins l) → (v w : WithdrawnCall) → v ∈ l → w ∈ l → v .call .start .at ≡ w .call .start .at → v ≡ w
 only-one (x ∷ l) o v w (inl e) (inl f) q = e ∙ sym f
 only-one (x ∷ l) o v w (inl e) (inr j) q = absurd (o .0 (subst (λ n. n ∈ dropBegins l) (sym (ap (λ (w : WithdrawnCall). w .call .start .at) (sym e) ∙ q)) (in-drops l w j)))
 only-one (x ∷ l) o v w (inr i) (inl f) q = absurd (o .0 (subst (λ n. n ∈ dropBegins l) (q ∙ ap (λ (w : WithdrawnCall). w .call .start .at) f) (in-drops l v i)))

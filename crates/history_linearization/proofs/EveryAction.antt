@@ -52,7 +52,7 @@ module _ {S N : Type 0} {machine : S → Action → S × Event} {note : N → S 
   start-with : Simulated M (start, blank) (withParked tasks noCalls) []
   start-with = subst (λ b. Simulated M (start, blank) b []) (λ i. record { now = 0; accepted = []; pending = λ u. sym (nobody u) i; finished = []; withdrawn = [] }) (simulated-start M)
 
-  good-start : Good (start, blank) noCalls [] []
+  pub good-start : Good (start, blank) noCalls [] []
   good-start = record {
     reached = refl;
     tracks = M .idle;
@@ -200,9 +200,12 @@ module _ {S N : Type 0} {machine : S → Action → S × Event} {note : N → S 
               let same : t ≡ u = cc in
               (c, subst (λ n. everyone tasks (enter b (drop t) (accepted y)) (tasks + n) ≡ some c) (sym (r ∙ G .simulated .clock)) (d .parked), some-inj (sym (ap (M .doing (x .0)) same) ∙ (G .tracks t ∙ ap tallyOf busy)) h)
 
-  next : (x : S × N) (b : Calls) (ms es : List Mark) (G : Good x b ms es) (a : Action) → Tracked (M .doing) size (x .0) (machine (x .0) a .0) b a (machine (x .0) a .1) →
+  tracked-next : (x : S × N) (b : Calls) (ms es : List Mark) → Good x b ms es → (a : Action) → Tracked (M .doing) size (x .0) (machine (x .0) a .0) b a (machine (x .0) a .1)
+  tracked-next x b ms es G a = let m = G .simulated in tracked (M .doing) size (x .0) (machine (x .0) a .0) b (G .tracks) a (machine (x .0) a .1) (M .follows x (m .ghost) (known x b ms es G) (m .inv) a)
+
+  pub good-next : (x : S × N) (b : Calls) (ms es : List Mark) → Good x b ms es → (a : Action) →
       Good (beside machine note x a .0) (enter b a (machine (x .0) a .1)) (endMarks M x b a (machine (x .0) a .1) ++ ms) (marked (beside machine note) names x b a (machine (x .0) a .1) ++ es)
-  next x b ms es G a k = record {
+  good-next x b ms es G a = let k = tracked-next x b ms es G a in record {
     reached = reached-next (k .change) (G .reached);
     tracks = k .tracks;
     dated = dated-on (moves-one b (G .dated) (k .change)) (G .dated);
@@ -222,7 +225,7 @@ module _ {S N : Type 0} {machine : S → Action → S × Event} {note : N → S 
       m = G .simulated
 
       f : Followed (beside machine note x a .0) (enter b a (machine (x .0) a .1)) (endMarks M x b a (machine (x .0) a .1) ++ ms)
-      f = follow x b ms es G a (machine (x .0) a .1) refl (k .tracks) (M .forward x (m .ghost) (known x b ms es G) (m .inv) a) (k .change)
+      f = let k = tracked-next x b ms es G a in follow x b ms es G a (machine (x .0) a .1) refl (k .tracks) (M .forward x (m .ghost) (known x b ms es G) (m .inv) a) (k .change)
 
   -- after all actions, what holds of the state that they lead to, with its notes; and the marks, those of the finished calls and all
   pub record AtEnd (x : S × N) (b : Calls) (es : List Mark) (l : List Action) : Type 1 where
@@ -235,10 +238,8 @@ module _ {S N : Type 0} {machine : S → Action → S × Event} {note : N → S 
   all : (l : List Action) (x : S × N) (b : Calls) (ms es : List Mark) → Good x b ms es → AtEnd x b es l
   all [] x b ms es G = record { well-formed = tt; finished = ms; emitted = es; good = G; all-marks = refl }
   all (a ∷ l) x b ms es G =
-      let m = G .simulated in
-      let k = tracked (M .doing) size (x .0) (machine (x .0) a .0) b (G .tracks) a (machine (x .0) a .1) (M .follows x (m .ghost) (known x b ms es G) (m .inv) a) in
-      let r = all l (beside machine note x a .0) (enter b a (machine (x .0) a .1)) (endMarks M x b a (machine (x .0) a .1) ++ ms) (marked (beside machine note) names x b a (machine (x .0) a .1) ++ es) (next x b ms es G a k) in
-      record { well-formed = (k .allowed, r .well-formed); finished = r .finished; emitted = r .emitted; good = r .good; all-marks = r .all-marks }
+      let r = all l (beside machine note x a .0) (enter b a (machine (x .0) a .1)) (endMarks M x b a (machine (x .0) a .1) ++ ms) (marked (beside machine note) names x b a (machine (x .0) a .1) ++ es) (good-next x b ms es G a) in
+      record { well-formed = (tracked-next x b ms es G a .allowed, r .well-formed); finished = r .finished; emitted = r .emitted; good = r .good; all-marks = r .all-marks }
 
   pub at-end : (l : List Action) → AtEnd (start, blank) noCalls [] l
   at-end l = all l (start, blank) noCalls [] [] good-start

@@ -10,7 +10,7 @@ use lib.Dec.{T}
 use Rattle.history_spec.specs.Basics.{_∈_, Once}
 use Rattle.history_spec.specs.History.{Op, Action, Event, history, run, Response, Yes, Call, FinishedCall, WithdrawnCall, Calls, noCalls, callsOf, CallOf, pending, finished, withdrawn}
 use Rattle.history_spec.specs.Linearization.{Point, replies, Placed, Linearizes}
-use Rattle.history_spec.specs.Moments.{before, itself, Spot, Mark, pointOf, replyOf, Names, beside, markOfPending, pendingMarks, sort, linearized}
+use Rattle.history_spec.specs.Moments.{before, itself, Spot, Mark, pointOf, replyOf, Names, beside, markOfPending, pendingMarks, sort, linearized, ListedExactly}
 use Rattle.history_spec.proofs.Basics.{either, clash, some-inj, mem-append, mem-left, mem-right, mem-map, point}
 use Rattle.history_linearization.proofs.Simulation.{Knowledge, Sided, Named, Simulation}
 use Rattle.history_linearization.proofs.Tracks.{tallied, tallyOf}
@@ -20,7 +20,7 @@ use Rattle.history_linearization.proofs.Parked.{is-there, was-there, ev
 use Rattle.history_linearization.proofs.Order.{sort-in, in-sort, begins, from-begins, to-begins, sort-once}
 use Rattle.history_linearization.proofs.Timeline.{Marks, points-in, sorted-answers, sorted-points}
 use Rattle.history_linearization.proofs.Kept.{Entry, of-finished, of-pending, MarkOf, Marked, same-begins}
-use Rattle.history_linearization.proofs.Emitted.{in-drops}
+use Rattle.history_linearization.proofs.Emitted.{in-drops, only-one, markAt}
 use Rattle.history_linearization.proofs.Moves.{firm, knows}
 use Rattle.history_linearization.proofs.Linearize.{Simulated}
 use Rattle.history_linearization.proofs.EveryAction.{Good, AtEnd, at-end}
@@ -53,9 +53,6 @@ of-mark (f ∷ k) (x ∷ l) M m (inr i) = let r = of-mark k l (M .1) m i in (r .
 -- MARKS OF PENDING SWAPS
 
 module _ {S : Type 0} (machine : S → Action → S × Event) (names : Names S) (s : S) (b : Calls) where
-  abbrev markAt : Call → Spot → Mark
-  markAt c p = record { spot = p; call = c .start; answer = Yes }
-
   record Listed (t : ℕ) (m : Mark) : Type 0 where
     call : Call
     spot : Spot
@@ -200,6 +197,9 @@ module _ {S N : Type 0} {machine : S → Action → S × Event} {note : N → S 
       go (inl j) = inl (waits-there w j)
       go (inr j) = made (G .emits .from w j)
 
+  same : begins (r .finished) ≡ callBegins (b .finished)
+  same = same-begins (b .finished) (r .finished) (m .kept .marked)
+
   all-marks : Marks E every-mark
   all-marks = record {
     theirs = λ w i. theirs w (whence w i);
@@ -209,9 +209,6 @@ module _ {S N : Type 0} {machine : S → Action → S × Event} {note : N → S 
     sided = λ w i. sided w (whence w i);
   }
     where
-      same : begins (r .finished) ≡ callBegins (b .finished)
-      same = same-begins (b .finished) (r .finished) (m .kept .marked)
-
       apart : (c : Call) (t : ℕ) → b .pending t ≡ some c → (f : Mark) → c .start .at ≡ f .call .at → (f ∈ r .finished) ⊎ ((v : WithdrawnCall) × (v ∈ b .withdrawn) × (p : Spot) × (M .left x (v .end) ≡ some p) × (f ≡ record { spot = p; call = v .call .start; answer = Yes })) → ⊥
       apart c t h f e (inl j) = G .distinct .apart t c h (inl (subst (λ n. n ∈ callBegins (b .finished)) (sym e) (subst (λ k. f .call .at ∈ k) same (to-begins (r .finished) f j))))
       apart c t h f e (inr (v, j, p, z, q)) = G .distinct .apart t c h (inr (subst (λ n. n ∈ dropBegins (b .withdrawn)) (sym (e ∙ ap (λ (w : Mark). w .call .at) q)) (in-drops (b .withdrawn) v j)))
@@ -297,3 +294,24 @@ module _ {S N : Type 0} {machine : S → Action → S × Event} {note : N → S 
   -- No call takes effect immediately before an action.
   pub never-before : (w : Mark) → w ∈ placing → w .spot .side ≢ before
   never-before w i = all-marks .sided w (sort-in every-mark w (subst (λ ms. w ∈ ms) are-sorted i)) .never-before
+
+  -- A withdrawn call is listed exactly where it took effect.
+  pub withdrawn-listed : (v : WithdrawnCall) → v ∈ b .withdrawn → ListedExactly placing (v .call) (M .left x (v .end))
+  withdrawn-listed v i p = (
+    (λ j. there (mem-append waiting (r .emitted) w (sort-in every-mark w (subst (λ ms. w ∈ ms) are-sorted j)))),
+    (λ z. subst (λ ms. w ∈ ms) (sym are-sorted) (in-sort every-mark w (mem-right waiting (r .emitted) w (G .emits .left v i p z)))),
+  )
+    where
+      w : Mark
+      w = markAt (v .call) p
+
+      mine : v .call .start .at ∈ dropBegins (b .withdrawn)
+      mine = in-drops (b .withdrawn) v i
+
+      made : (w ∈ r .finished) ⊎ ((u : WithdrawnCall) × (u ∈ b .withdrawn) × (q : Spot) × (M .left x (u .end) ≡ some q) × (w ≡ markAt (u .call) q)) → M .left x (v .end) ≡ some p
+      made (inl j) = absurd (G .distinct .apart-withdrawn (v .call .start .at) (subst (λ k. v .call .start .at ∈ k) same (to-begins (r .finished) w j)) mine)
+      made (inr (u, j, q, z, e)) = ap (λ (v : WithdrawnCall). M .left x (v .end)) (only-one (b .withdrawn) (G .distinct .once-withdrawn) v u i j (ap (λ (m : Mark). m .call .at) e)) ∙ z ∙ ap (λ (m : Mark). some (m .spot)) (sym e)
+
+      there : (w ∈ waiting) ⊎ (w ∈ r .emitted) → M .left x (v .end) ≡ some p
+      there (inl k) = let y = waits w k in absurd (G .distinct .apart (y .0) (y .2 .call) (y .2 .busy) (inr (subst (λ n. n ∈ dropBegins (b .withdrawn)) (ap (λ (m : Mark). m .call .at) (y .2 .is)) mine)))
+      there (inr k) = made (G .emits .from w k)

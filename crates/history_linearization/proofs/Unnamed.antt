@@ -1,9 +1,13 @@
--- Notes that only the proof looks at change no other note, and no mark.
+-- Notes change no state; and those that only the proof looks at change no other note, and no mark.
 use mathlib.Core.Path.{_≡_, refl, ap, _∙_}
 use mathlib.Core.List.{List, [], _∷_, _++_}
 use Prim.Native.Nat.{ℕ, zero, suc}
 use Rattle.history_spec.specs.History.{Action, begin, step, drop, Event, refused, accepted, answered, run, Calls, noCalls, enter}
 use Rattle.history_spec.specs.Moments.{Mark, Names, beside, marked, markOfPending, pendingMarks, marks, sort, linearized}
+
+pub same-states : {S N : Type 0} (machine : S → Action → S × Event) (note : N → S → Action → Event → N) (s : S) (o : N) (l : List Action) → run (beside machine note) (s, o) l .0 ≡ run machine s l
+same-states machine note s o [] = refl
+same-states machine note s o (a ∷ l) = same-states machine note (machine s a .0) (note o s a (machine s a .1)) l
 
 module _ {S N P : Type 0} (machine : S → Action → S × Event) (note : N → S → Action → Event → N) (names : Names (S × N)) (more : P → S → Action → Event → P) where
   abbrev pub noteBoth : N × P → S → Action → Event → N × P

@@ -2,7 +2,7 @@
 use mathlib.Core.Path.{_≡_, refl}
 use mathlib.Core.Logic.{_⊎_, inl, inr}
 use mathlib.Core.Bool.{Bool, true, false, _&&_, _||_, not, cond, false≢true}
-use mathlib.Core.List.{List, [], _∷_}
+use mathlib.Core.List.{List, [], _∷_, _++_}
 use Prim.Native.Nat.{ℕ, zero, suc}
 use lib.Dec.{T}
 use lib.ListN.{getD}
@@ -74,6 +74,19 @@ has-in eq sound (y ∷ ys) x h = go (eq x y) (sound x y) (has-in eq sound ys x) 
     go : (b : Bool) → (T b → x ≡ y) → (T (has eq ys x) → x ∈ ys) → T (b || has eq ys x) → x ∈ (y ∷ ys)
     go true here there h = inl (here tt)
     go false here there h = inr (there h)
+
+-- with one more at the end
+pub has-append : {A : Type 0} (eq : A → A → Bool) (l : List A) (y x : A) → has eq (l ++ (y ∷ [])) x ≡ (has eq l x || eq x y)
+has-append eq [] y x = go (eq x y)
+  where
+    go : (b : Bool) → (b || false) ≡ b
+    go true = refl
+    go false = refl
+has-append eq (z ∷ l) y x = go (eq x z) (has-append eq l y x)
+  where
+    go : (b : Bool) → has eq (l ++ (y ∷ [])) x ≡ (has eq l x || eq x y) → (b || has eq (l ++ (y ∷ [])) x) ≡ ((b || has eq l x) || eq x y)
+    go true e = refl
+    go false e = e
 
 pub implies : (a b : Bool) → T (not a || b) → T a → T b
 implies true b h x = h

@@ -1,10 +1,12 @@
 -- When did each call happen? The marks of CR 8: of any machine that names the moments of its calls, the list of its calls in an order that
 -- makes every answer that of the sequential specification.
+use mathlib.Core.Path.{_≡_}
 use mathlib.Core.Bool.{Bool, true, false, not, cond}
 use mathlib.Core.Option.{Option, none, some}
 use mathlib.Core.List.{List, [], _∷_, _++_}
 use Prim.Native.Nat.{ℕ, zero, suc}
 use lib.Dec.{eqb, leb}
+use Rattle.history_spec.specs.Basics.{_∈_}
 use Rattle.history_spec.specs.History.{Op, read, swap, Action, begin, step, drop, Event, refused, accepted, answered, Response, Value, Yes, No, CallId, Call, WithdrawnCall, Calls, noCalls, enter}
 use Rattle.history_spec.specs.Linearization.{Point}
 
@@ -125,3 +127,7 @@ module _ {S : Type 0} (machine : S → Action → S × Event) (names : Names S) 
   -- all marks of a list of actions, in their order
   abbrev pub linearized : ℕ → S → List Action → List Mark
   linearized n s l = sort (marks n s noCalls [] l)
+
+-- of a call that answers yes where it is listed: it is so exactly at the spot that is given, and nowhere if none is
+abbrev pub ListedExactly : List Mark → Call → Option Spot → Type 0
+ListedExactly l c there = (p : Spot) → let m : Mark = record { spot = p; call = c .start; answer = Yes } in (m ∈ l → there ≡ some p) × (there ≡ some p → m ∈ l)
