@@ -44,19 +44,19 @@ module _ (old : State) (words : List ℕ) (tasks cells blocks : ℕ) (values : L
   unfolding openQuestions
   starting-values = values-some values (not-true (hasNone values) (nth (answers (openQuestions (length words) tasks cells blocks values)) (all-yes (openQuestions (length words) tasks cells blocks values) allowed) 4))
 
-  -- DEMAND 3. For every list of begins and steps from a fresh opening, with any numbers, refused ones included, wherever tasks halt: the
-  -- calls can be put one after another on sequential cells, every finished call once with its own answer and some pending ones once each,
-  -- every one after its begin and no later than its last step; a read ends within 6 own steps with at most 1 hardware CAS, a swap within
-  -- 21 with at most 3; and a call attempts none if its cell's block was active at its begin and no other swap of unequal values is
-  -- pending on that cell from its begin to its end. The list is any list, so a task may halt between any two of the five stores that fill a
-  -- new block (lines 4 to 8), and before line 30.
+  -- DEMAND 3. For every list of begins, steps and drops from a fresh opening, with any numbers, refused ones included, wherever tasks halt:
+  -- the calls can be put one after another on sequential cells. Every finished call is there once with its own answer, and some pending and
+  -- withdrawn ones once each, every one after its begin and no later than its last step. A read ends within 6 own steps with at most 1
+  -- hardware CAS, a swap within 21 with at most 3. A call attempts none if its cell's block was active at its begin, with Y false, and no other
+  -- swap of unequal values is pending on that cell from its begin to its end. The list is any list, so a task may halt between any two of the
+  -- five stores that fill a new block (lines 4 to 8), and before line 30.
   pub cells-meet-demand-3 : Meets pool (start old words tasks cells blocks values) (clearAfter figure (opening tasks cells values) clear) cells (λ k. getD values k 0)
   cells-meet-demand-3 actions =
       subst (λ (h : List (Action × Event)). Demand3 (clearAfter figure (opening tasks cells values) clear) cells (λ k. getD values k 0) h) (sym (same-history old words tasks cells blocks values allowed actions))
       (figure-meets-demand-3 tasks cells values starting-values actions)
 
-  -- A read, and a swap of equal values, attempts none already if the block was active at its begin: Y may be true. (Whether it was is
-  -- judged as above, in the figure that was fed the accepted actions before it.)
+  -- A read, and a swap of equal values, attempts none already if the block was active at its begin: Y may be true. (Judged as above, in the
+  -- figure that was fed the accepted actions before it.)
   pub cells-read-quietly : (actions : List Action) → NoHardwareReads (clearAfter figure (opening tasks cells values) active) (callsOf (history pool (start old words tasks cells blocks values) actions))
   cells-read-quietly actions = subst (λ (h : List (Action × Event)). NoHardwareReads (clearAfter figure (opening tasks cells values) active) (callsOf h)) (sym (same-history old words tasks cells blocks values allowed actions))
       (figure-reads-quietly tasks cells values starting-values actions)

@@ -229,6 +229,6 @@ module _ (old : State) (words : List ℕ) (tasks cells blocks : ℕ) (values : L
   pub cell-never-before : (mark : Mark) → mark ∈ poolMoments tasks (start old words tasks cells blocks values) actions → mark .spot .side ≢ before
   cell-never-before m i = never-before tasks cells values (starting-values old words tasks cells blocks values allowed) actions m (subst (λ (k : List Mark). m ∈ k) same-moments i)
 
-  -- A withdrawn call is listed exactly where the rule for withdrawn swaps says, as it is looked up in figure 2 at the end of the list.
+  -- A withdrawn call is listed exactly where the rule for withdrawn swaps says. The rule is looked up in figure 2 at the end of the list.
   pub cell-withdrawn-rule : (x : Withdrawal) → x ∈ withdrawals (opening tasks cells values) noNotes noCalls [] actions → ListedExactly (poolMoments tasks (start old words tasks cells blocks values) actions) (x .call) (withdrawnSpot (run figure (opening tasks cells values) actions) x)
   cell-withdrawn-rule = rw same-moments (withdrawn-rule tasks cells values (starting-values old words tasks cells blocks values allowed) actions)

@@ -21,7 +21,7 @@ use Rattle.cells_spec.proofs.Numbers.{at-number}
 use Rattle.figure.specs.Figure.{World, withBoth, WorldAfter, figureRan, figure, triedIn, firstOf}
 use Rattle.figure.specs.Traces.{Trace, didLine, enterLine}
 use Rattle.figure_cell.proofs.LineLaws.{every-line, same, same-is, before}
-use Rattle.figure_cell.proofs.Classes.{busy, holding, swapping, taking, lies-in}
+use Rattle.figure_cell.proofs.Classes.{busy, taking, lies-in}
 use Rattle.figure_cell.proofs.Invariant as Local
 use Rattle.figure_cell.proofs.Invariant.{TaskOf}
 use Rattle.figure.proofs.Records.{OnPath, AllOnPath, Sound, upd-both, Begun, starts, begin-cases, Stepped, runs, step-cases, Dropped, leaves, drop-cases}

@@ -515,7 +515,7 @@ module _ (tasks cells : ℕ) (values : List ℕ) (some-values : (cell : ℕ) →
   pub figure-meets-demand-3 : Meets figure (opening tasks cells values) (clearAfter figure (opening tasks cells values) clear) cells (λ k. getD values k 0)
   figure-meets-demand-3 = meets simulation clear clear-ready
 
-  -- A read, and a swap of equal values, attempts no hardware CAS if the block was active at its begin, whatever Y is, and it meets no contention.
+  -- A read, and a swap of equal values, attempts no hardware CAS if it meets no contention and the block was active at its begin. Y may be true.
   pub figure-reads-quietly : (actions : List Action) → NoHardwareReads (clearAfter figure (opening tasks cells values) active) (callsOf (history figure (opening tasks cells values) actions))
   figure-reads-quietly = reads-meet simulation active reads-ready
 

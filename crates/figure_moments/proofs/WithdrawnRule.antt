@@ -72,8 +72,8 @@ abbrev Times : Bool → (at stored : ℕ) → Type 0
 Times true at s = at < s
 Times false at s = s ≤ at
 
--- what is noted of task t's pending call, begun at the moment `at`: line 23 is noted after it if it is done; and where line 25 did not answer,
--- the block was inactive then
+-- what is noted of task t's pending call, begun at the moment `at`. Line 23, if it is done, came after that. Where line 25 did not answer, the
+-- block was inactive at the store
 record OfCall (o : Notes) (did : List Line) (t at : ℕ) : Type 0 where
   times : Times (wrote did) at (o .stored t)
   late : through25 did ≡ true → o .storedActive t ≡ false

@@ -1,5 +1,5 @@
--- The rule for withdrawn swaps as CR 8 and CR 12 say it: looked up when the list is over, by what was kept of each swap at its drop. In the
--- figure every block is new and a decision stays, so that D of the block which the swap held is found there.
+-- The rule for withdrawn swaps as CR 8 and CR 12 say it. It is looked up when the list is over, by what was kept at each drop. In the figure
+-- every block is new and a decision stays, so D of the block that the swap held is found there.
 use mathlib.Core.Bool.{Bool, cond}
 use mathlib.Core.Option.{Option, none, some}
 use mathlib.Core.List.{List, [], _∷_, _++_}
@@ -10,8 +10,8 @@ use Rattle.history_spec.specs.Moments.{C3, C4, Spot}
 use Rattle.figure.specs.Figure.{World, figure}
 use Rattle.figure_moments.specs.Moments.{Notes, spotAt, note, sees}
 
--- a withdrawn call, and what its drop found: its cell, the block that it held, its new value, the action of its line 23, whether the block was
--- active then, and the action that made the block inactive
+-- a withdrawn call, and what its drop found: its cell, the block that it held, and its new value; then the action of its line 23, whether the
+-- block was active at that, and the action that made the block inactive
 pub record Withdrawal : Type 0 where
   pub call : Call
   pub cell : ℕ
@@ -40,8 +40,7 @@ withdrawals w o b l (a ∷ r) = let e = figure w a .1 in withdrawals (figure w a
 
 -- THE RULE. w is the figure at the end.
 
--- of a call that has stored: there if its block was active then; or else, if its block's decided value is its new one, at the action that made the
--- block inactive
+-- of a call that has stored: at its store, if its block was active then. Else where the block became inactive, if its decided value is the new one
 abbrev pub effectOf : World → Withdrawal → Option Spot
 effectOf w x = cond (x .storedActive) (some (spotAt (x .stored) C4)) (cond (eqb (w .cell (x .cell) .d (x .block)) (x .new)) (some (spotAt (x .inactive) C3)) none)
 

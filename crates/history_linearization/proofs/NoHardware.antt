@@ -1,4 +1,4 @@
--- A call that begins at a cell that is ready for it and meets no contention makes no hardware CAS: its task is quiet as long as it is alone.
+-- A call that begins at a cell that is ready for it, and meets no contention, makes no hardware CAS. Its task is quiet as long as it is alone.
 use mathlib.Core.Path.{_≡_, refl, sym, ap, _∙_, subst}
 use mathlib.Core.Logic.{_≢_, _⊎_, inl, inr}
 use mathlib.Core.Option.{Option, none, some}

@@ -3,7 +3,7 @@
 -- wrong definition here.)
 use mathlib.Core.Path.{_≡_, refl, sym, ap, _∙_, subst}
 use mathlib.Core.Logic.{_≢_, _⊎_, inl, inr}
-use mathlib.Core.Bool.{Bool, true, false, not, _&&_, _||_}
+use mathlib.Core.Bool.{Bool, false, not, _&&_, _||_}
 use mathlib.Core.Option.{Option, none, some}
 use mathlib.Core.List.{List, [], _∷_, _++_, map}
 use Prim.Native.Nat.{ℕ, zero, suc, _+_, _*_, _≤_, _<_}
@@ -435,7 +435,7 @@ pub no-stale-read : (l : List Point) → Linearizes five (callsOf stale-read) l 
 unfolding upd
 no-stale-read = no-order five (callsOf stale-read) (λ t p q. rw (ne-eqb t 0 p, ne-eqb t 1 q)) tt
 
--- a swap is withdrawn; then a read answers the value before it, and after that one its new value: as if it took effect after its drop
+-- a swap is withdrawn; then a read answers the value before it, and a later one its new value: an effect after its drop
 abbrev effect-after-a-drop : List (Action × Event)
 effect-after-a-drop =
     (begin 0 (swap 0 5 7), accepted untried) ∷ (step 0, accepted untried) ∷ (drop 0, accepted untried) ∷
@@ -445,7 +445,7 @@ pub no-effect-after-a-drop : (l : List Point) → Linearizes five (callsOf effec
 unfolding upd
 no-effect-after-a-drop = no-order five (callsOf effect-after-a-drop) (λ t p q. rw (ne-eqb t 0 p, ne-eqb t 1 q)) tt
 
--- a swap of 5 to 7 steps, and is withdrawn at the end; meanwhile another swaps 7 back to 5, and then a read answers 7: as if it took effect twice
+-- a swap of 5 to 7 is pending, and is withdrawn at the end. Another swaps 7 back to 5, and a read after that answers 7: an effect twice
 abbrev effect-twice : List (Action × Event)
 effect-twice =
     (begin 0 (swap 0 5 7), accepted untried) ∷ (step 0, accepted untried) ∷ (begin 1 (swap 0 7 5), accepted untried) ∷ (step 1, answers untried aSwap Yes 1 0 0) ∷
