@@ -1,14 +1,16 @@
 -- The moments of small lists of actions in the figure, those of P1, P5, P6, P9 and P10 among them, computed: spots and rules, before any text.
 -- (What the cells print of P1 to P10: `prints` in session_spec; what moments prints: `prints` in moments_text.)
 use mathlib.Core.Path.{_≡_, refl}
+use mathlib.Core.Option.{Option, none, some}
 use mathlib.Core.List.{List, [], _∷_, _++_, map}
 use Prim.Native.Nat.{ℕ}
 use lib.ListN.{replicate}
 use Rattle.history_spec.specs.Basics.{upd}
-use Rattle.history_spec.specs.History.{Op, read, swap, Action, begin, step, drop}
-use Rattle.history_spec.specs.Moments.{Side, itself, after, Rule, R1, R2, C1, C2, C3, C4, C5, C6, Mark}
-use Rattle.figure.specs.Figure.{figureRan, figureStepped, figureBegun, figureDropped}
-use Rattle.figure_moments.specs.Moments.{moments}
+use Rattle.history_spec.specs.History.{Op, read, swap, Action, begin, step, drop, run, noCalls}
+use Rattle.history_spec.specs.Moments.{Side, itself, after, Rule, R1, R2, C1, C2, C3, C4, C5, C6, Spot, Mark}
+use Rattle.figure.specs.Figure.{opening, figure, figureRan, figureStepped, figureBegun, figureDropped}
+use Rattle.figure_moments.specs.Moments.{noNotes, spotAt, moments}
+use Rattle.figure_moments.specs.WithdrawnRule.{withdrawals, withdrawnSpot}
 
 -- a mark as it will be printed
 record Brief : Type 0 where
@@ -83,3 +85,23 @@ pub moments-hold :
     )
 unfolding upd figureRan figureStepped figureBegun figureDropped
 moments-hold = (refl, (refl, (refl, (refl, (refl, (refl, (refl, (refl, (refl, (refl, (refl, (refl, (refl, (refl, (refl, (refl, (refl, tt)))))))))))))))))
+
+-- THE RULE FOR WITHDRAWN SWAPS, looked up at the end of the list
+
+abbrev Rules : List (List Action × List (Option Spot)) → Type 0
+Rules [] = Unit {0}
+Rules ((l, r) ∷ c) = let w = opening 3 1 (5 ∷ []) in (map (withdrawnSpot (run figure w l)) (withdrawals w noNotes noCalls [] l) ≡ r) × Rules c
+
+pub rules-hold :
+    Rules (
+    -- it stored late: its value is decided after its drop; nothing is decided yet; another value was decided, and line 25 did not answer it
+    (lateStore ++ drop 1 ∷ stepsBy 2 0, some (spotAt 12 C3) ∷ []) ∷
+    (lateStore ++ drop 1 ∷ stepsBy 1 0, none ∷ []) ∷
+    (meeting ++ stepsBy 3 0 ++ stepsBy 1 1 ++ stepsBy 1 0 ++ stepsBy 4 1 ++ drop 1 ∷ stepsBy 1 0, none ∷ []) ∷
+    -- it stored in an active block; it has not stored, though its task's call before it has
+    (alone 0 (swap 0 5 7) 8 ++ drop 0 ∷ alone 1 (read 0) 3, some (spotAt 8 C4) ∷ []) ∷
+    (alone 0 (swap 0 5 7) 10 ++ alone 0 (swap 0 7 9) 4 ++ drop 0 ∷ [], none ∷ []) ∷
+    []
+    )
+unfolding upd figureRan figureStepped figureBegun figureDropped
+rules-hold = (refl, (refl, (refl, (refl, (refl, tt)))))
