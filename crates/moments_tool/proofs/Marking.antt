@@ -37,6 +37,9 @@ use Rattle.moments_tool.proofs.Keeping.{Kept, Keeps, AllKept, later, ke
 abbrev left : ℕ → Pool → Notes → Calls → List Mark → List Action → List Mark
 left n x o b l r = marks (noting pool seesPool) (names pool seesPool) n (x, o) b l r
 
+abbrev marksOf : Pool → Notes → Calls → Action → Event → List Mark
+marksOf x o b a u = marked (noting pool seesPool) (names pool seesPool) (x, o) b a u
+
 pub record Marking (n : ℕ) (whole : List Mark) (x : Pool) (o : Notes) (ks : List Waiter) (words : List ℕ) (rest : List Action) : Type 0 where
   pub calls : Calls
   pub found : List Mark
@@ -166,7 +169,7 @@ module _ (s : State) (p : List ℕ) (records : length (s .records) ≡ 32) (task
 
     abbrev Next : Action → Event → Type 0
     Next a u = (withWaiting (then a u .waiting) o′ ≡ then a u)
-        × Listed words′ (marked (noting pool seesPool) (names pool seesPool) ((s, p), withWaiting f notes) b a u ++ l)
+        × Listed words′ (marksOf (s, p) (withWaiting f notes) b a u ++ l)
         × AllKept (enter b a u) ks′ (then a u .waiting)
 
     -- who waits at a task's cell: q, if the test passes
@@ -198,16 +201,16 @@ module _ (s : State) (p : List ℕ) (records : length (s .records) ≡ 32) (task
             → Listed words′ (markOf (noting pool seesPool) (names pool seesPool) (b .pending t) a (ruled (withWaiting f notes) t (seesPool (s, p) t) a) ++ l)
         go (c, y, eo, et) = rw (y, k .words-here, ← (same-spot z f a)) (one-more listed (endingSpot i (own t) (rec t) (sees t) a) a t (rec t) c eo et (k .word-here) (omega (arith, z .below, tasks)) (k .cell))
 
-    landed-here : (t : ℕ) → Coded t Moved words words′ ks′ o′ → Listed words′ (marked (noting pool seesPool) (names pool seesPool) ((s, p), withWaiting f notes) b (step t) (accepted x) ++ l)
+    landed-here : (t : ℕ) → Coded t Moved words words′ ks′ o′ → Listed words′ (marksOf (s, p) (withWaiting f notes) b (step t) (accepted x) ++ l)
     landed-here t k =
-        subst (λ (w : List ℕ). Listed w (marked (noting pool seesPool) (names pool seesPool) ((s, p), withWaiting f notes) b (step t) (accepted x) ++ l)) (sym (k .words-here))
+        subst (λ (w : List ℕ). Listed w (marksOf (s, p) (withWaiting f notes) b (step t) (accepted x) ++ l)) (sym (k .words-here))
         (landed-listed b (waiterAt ks (rec t .cell)) (decides (rec t .line) (sees t)) (rec t .loaded) (f (rec t .cell)) (kept .each (rec t .cell)) listed (k .word-here))
 
     -- a drop: it waits, or is listed, or nothing is known of it
     withdrawn : (t : ℕ) → t < s .tasks → isIdle (rec t) ≡ false → Coded t Dropped words words′ ks′ o′ → Next (drop t) (accepted x)
     withdrawn t h g k = (
       ap (withWaiting (then (drop t) (accepted x) .waiting)) (k .noted-here),
-      subst (λ (w : List ℕ). Listed w (marked (noting pool seesPool) (names pool seesPool) ((s, p), withWaiting f notes) b (drop t) (accepted x) ++ l)) (sym (k .words-here))
+      subst (λ (w : List ℕ). Listed w (marksOf (s, p) (withWaiting f notes) b (drop t) (accepted x) ++ l)) (sym (k .words-here))
           (one-pending s p notes b begun t (omega (arith, h, tasks)) (k .cell) listed (stands notes t (seesPool (s, p) t)) refl (k .word-here)),
       waiters (drop t) (accepted x) t (k .cell) (waits notes t (seesPool (s, p) t)) late (some waiting) (k .kept-here) (λ _. new (begun t g)),
     )
@@ -266,10 +269,10 @@ module _ (s : State) (p : List ℕ) (records : length (s .records) ≡ 32) (task
       here : Marking n whole (y .state, y .pool) o′ ks′ words′ rest
       here = record {
         calls = enter (m .calls) a v;
-        found = marked (noting pool seesPool) (names pool seesPool) ((s, p), withWaiting (m .waiting) notes) (m .calls) a v ++ m .found;
+        found = marksOf (s, p) (withWaiting (m .waiting) notes) (m .calls) a v ++ m .found;
         waiting = note pool seesPool (withWaiting (m .waiting) notes) (s, p) a v .waiting;
         goes =
-            subst (λ (z : Notes). left n (y .state, y .pool) z (enter (m .calls) a v) (marked (noting pool seesPool) (names pool seesPool) ((s, p), withWaiting (m .waiting) notes) (m .calls) a v ++ m .found) rest ≡ whole) (sym (k .0))
+            subst (λ (z : Notes). left n (y .state, y .pool) z (enter (m .calls) a v) (marksOf (s, p) (withWaiting (m .waiting) notes) (m .calls) a v ++ m .found) rest ≡ whole) (sym (k .0))
             (m .goes);
         listed = k .1;
         begun = begun-next records tasks (m .calls) x (m .begun) a y (did s p a);
