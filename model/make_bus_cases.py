@@ -90,8 +90,7 @@ def seen_in(trace, times, data):
     model = cells.open_cells(*opening[:3], [0] * (5 * opening.b),
                              opening.values, False)
     for action in actions:
-        (model.step if len(action) == 1 else
-         model.begin_read if len(action) == 2 else model.begin_swap)(*action)
+        model.act(action.word, *action)
     if any(record.busy for record in model.tasks):
         yield "unfinished calls"
     if not trace.calls:

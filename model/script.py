@@ -31,6 +31,11 @@ class Script:
         self.write_steps(task, count)
         return self
 
+    def drop(self, task):
+        assert self.model.drop(task) is None
+        self.lines.append("(drop %d)" % task)
+        return self
+
     def steps(self, task, most):
         """At most this many steps, as far as the call goes."""
         count = 0
