@@ -94,7 +94,7 @@ def kind_of_unfinished(history, o, mark):
         if mark.rule == "C3":
             return "unfinished, C3"
         line = {23: "at 24", 24: "at 26"}.get(o.last[0], "that saw C")
-        if o.last == (24, 0) and history.figure.tasks[o.task].line != 26:
+        if o.last == (24, 0) and o.next_line != 26:
             line = "that saw C"
         return "unfinished, C4 " + line
     if o.last is None:
@@ -109,7 +109,7 @@ def kind_of_unfinished(history, o, mark):
         return "not listed, late and undecided"
     if history.decided_value(o.block) == o.new:
         return "not listed, never stored though D is its new value"
-    line = history.figure.tasks[o.task].line
+    line = o.next_line
     if line in (22, 30):
         return "not listed, at %d" % line
     return "not listed, a swap before its store"

@@ -150,7 +150,7 @@ MISREADINGS = [
     ("an unfinished store on an active block is not listed", LEFT_C4_MARK,
      "return None"),
     ("an unfinished store is listed only if line 24 found C false", LEFT_C4,
-     LEFT_C4.replace("if is", "if history.figure.tasks[o.task].line in (24, 26)"
+     LEFT_C4.replace("if is", "if o.next_line in (24, 26)"
                      " and is")),
     ("an unfinished store is listed only after line 24", LEFT_C4,
      LEFT_C4.replace("if is", "if 24 in o.at and is")),
@@ -158,7 +158,7 @@ MISREADINGS = [
      LEFT_C4, LEFT_C4.replace("is_active_at_23(history, o)",
                               "o.block not in history.inactive")),
     ("an unfinished store that saw C is C3", LEFT_C4_MARK, LEFT_C4_MARK.replace(
-        '"C4"', '"C4" if history.figure.tasks[o.task].line in (24, 26)'
+        '"C4"', '"C4" if o.next_line in (24, 26)'
         ' else "C3"')),
     ("an unfinished store in a block inactive by now is C3", LEFT_C4_MARK,
      LEFT_C4_MARK.replace('"C4"', '"C3" if o.block in history.inactive else'
@@ -193,15 +193,15 @@ MISREADINGS = [
         "max(o.at[10], history.decided[o.block])",
         '"R2" if o.word == cells.READ else "C1"')),
     ("an unfinished swap at 22 is listed", *not_stored(
-        "history.figure.tasks[o.task].line == 22", "o.at[20]", '"C2"')),
+        "o.next_line == 22", "o.at[20]", '"C2"')),
     ("an unfinished swap that will answer no at 28 is listed", *not_stored(
         "o.last == (2, 28) and history.decided_value(o.block) != o.expected",
         "max(o.at[15], history.decided[o.block])", '"C5"')),
     ("an unfinished swap whose block is replaced is listed", *not_stored(
-        "history.figure.tasks[o.task].line == 30 and o.block in"
+        "o.next_line == 30 and o.block in"
         " history.replaced", "history.replaced[o.block]", '"C6"')),
     ("an unfinished swap at 30 is listed", *not_stored(
-        "history.figure.tasks[o.task].line == 30", "o.at[8]", '"C6"')),
+        "o.next_line == 30", "o.at[8]", '"C6"')),
     # the order
     ("ties by the higher task", KEY, KEY.replace("self.call.task",
                                                  "-self.call.task")),
