@@ -10,11 +10,13 @@ from collections import Counter
 import cells
 import draw
 import make_cases
+import moments
 import nudge
 import shaker
 import tools
 from cases_attempts import to_23
 from cases_calls import P1, P9, P10, PLACES, path_scripts
+from cases_drop_tools import nudge_drop_cases
 from cases_refusals import padded
 from script import Script, contend
 
@@ -38,6 +40,10 @@ WANTED = {
     "a refused action is exchanged": 20,
     "a task above N - 1 is exchanged": 10,
     "a neighbour of the same task": 100,
+    "a drop is exchanged": 20,
+    "a refused drop is exchanged": 5,
+    "the call is withdrawn after the exchange": 8,
+    "its task was dropped before": 10,
 }
 
 
@@ -56,6 +62,7 @@ class Cases(make_cases.Cases):
         self.refusals += trace.refusals
         if not trace.refusals:
             self.seen.update(seen_in(trace, *sizes(data)))
+            self.seen.update(drops_seen_in(trace, sizes(data)[1]))
         return trace
 
     def named(self, name, data, *calls):
@@ -130,6 +137,27 @@ def seen_in(trace, n, opening):
             yield "a refused action is exchanged"
         if max(tasks[i], tasks[i + 1]) >= n:
             yield "a task above N - 1 is exchanged"
+
+
+def drops_seen_in(trace, opening):
+    """The same of drops."""
+    actions, (begin, last, _) = trace.actions, trace.named
+    history = moments.History(opening, actions)
+    drops = {o.drop for o in history.calls}
+    if any(o.drop is not None and o.task == actions[begin].task
+           for o in history.calls if o.begin < begin):
+        yield "its task was dropped before"
+    end = len(actions) - 1 if trace.exchange is None else trace.exchange
+    for i in range(min(end, last)):
+        two = [at for at in (i, i + 1) if actions[at].word == "drop"]
+        if two and actions[i].task != actions[i + 1].task:
+            yield ("a drop is exchanged" if drops & set(two)
+                   else "a refused drop is exchanged")
+    if trace.became == nudge.UNFINISHED:
+        history = moments.History(opening, nudge.exchanged(actions, end))
+        begin = nudge.place_after(begin, end)
+        if any(o.begin == begin and o.drop is not None for o in history.calls):
+            yield "the call is withdrawn after the exchange"
 
 
 # ------------------------------------------------------- written by hand
@@ -464,6 +492,7 @@ def make():
     size_cases(cases)
     refusal_cases(cases)
     drawn_cases(cases)
+    nudge_drop_cases(cases, kept)
     for kind, count in WANTED.items():
         assert cases.seen[kind] >= count, (kind, cases.seen[kind])
     assert set(cases.seen) == set(WANTED), set(cases.seen) - set(WANTED)
