@@ -3,7 +3,7 @@
 
     drop_selftest.py [COUNT [SEED]]      (400 and 2012 if left out)
 
-The entry in edited states: its questions, and that it leaves the record idle with
+Sessions told by hand.  The entry in edited states: its questions, and that it leaves the record idle with
 its other fields 0, the counts true and all else as it was.  Then COUNT drawn lists
 with drops, each by every claim of selftest.py (the figure with a new block each
 time, counts by path, bounds, the promise of no hardware swap, a telling on plain
@@ -21,10 +21,53 @@ import moments_selftest
 import reader
 import selftest
 import session
+from cases_calls import P_START
 from cases_drop import late_stores
 from selftest import check
 
 NONE = cells.NONE
+
+
+# -------------------------------------------------------------------- by hand
+
+def by_hand():
+    """What sessions with drops print, told line by line from the papers."""
+    # 1 to 8: lines 15 to 21 and the store.  The read's lines 10 to 12 are at 11 to
+    # 13.  Then a swap finds Y true at its line 17, action 17; its steps are at 15
+    # to 27, and both of its hardware swaps are won.
+    told("a winner dropped after its store", [
+        "(open 2 1 4 (5))", "(swap 0 0 5 7)", "(again 8 (step 0))", "(drop 0)",
+        "(read 1 0)", "(again 3 (step 1))", "(swap 1 0 7 9)",
+        "(again 13 (step 1))", "(drop 1)"],
+        ["(done 1 read 0 7 3 0 0)", "(done 1 swap 0 yes 13 2 0)",
+         "(no 28 11)", "(cell 0 9)", "(end 2 0 2 1000)"],
+        ["(at 8 itself 0 swap 0 C4)", "(at 12 itself 1 read 0 R1)",
+         "(at 27 itself 1 swap 0 C6)"])
+    # P9's begin: task 0 sets C at 12, task 1 stores at 13 and is dropped.  Its
+    # read decides at 20 for what it had stored; task 0 is at line 1.
+    told("a late store decided by its own task", [
+        *P_START, "(again 2 (step 0))", "(step 1)", "(drop 1)", "(read 1 0)",
+        "(again 6 (step 1))"],
+        ["(done 1 read 0 9 6 1 0)", "(cell 0 9)", "(end 1 1 1 1000)"],
+        ["(at 12 itself 1 swap 0 C3)", "(at 20 itself 1 read 0 R2)"])
+    # The same, but task 0 has loaded 5 at 13; the store at 14 is too late.  Task 0
+    # decides at 16, takes a block and puts 7 there at 23.
+    told("a late store that does not count", [
+        *P_START, "(again 3 (step 0))", "(step 1)", "(drop 1)",
+        "(again 8 (step 0))"],
+        ["(done 0 swap 0 yes 13 2 0)", "(cell 0 7)", "(end 1 0 2 2000)"],
+        ["(at 23 itself 0 swap 0 C6)"])
+    # Undecided: look answers the value that a read would decide for.
+    told("a late store that nobody decided", [
+        *P_START, "(again 2 (step 0))", "(step 1)", "(drop 1)", "(drop 0)"],
+        ["(cell 0 9)", "(end 0 0 0 0)"], [])
+
+
+def told(name, lines, printed, listed):
+    data = draw.text(lines)
+    check(name, session.run(data, ask_fit=True).decode().split("\n")[:-1],
+          printed)
+    check(name, moments.run(data).decode().split("\n")[:-1], listed)
 
 
 # ------------------------------------------------------------------ the entry
@@ -172,8 +215,8 @@ def drawn_lists(count, seed):
         lists.judge(name, opening, actions)
         listed += moments_selftest.judged(name, data)
         alike += same_without_drops(name, opening, actions)
-    lists.judge_coverage(False)
     if count >= 400:
+        lists.judge_coverage(False)
         judge_withdrawn(lists)
     return lists, listed, alike
 
@@ -193,6 +236,7 @@ def judge_withdrawn(lists):
 def main():
     count, seed = (int(word) for word in (
         sys.argv[1:] + ["400", "2012"][len(sys.argv) - 1:])[:2])
+    by_hand()
     drops_in_edited_states()
     drops_are_asked()
     lists, listed, alike = drawn_lists(count, seed)
