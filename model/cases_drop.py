@@ -7,7 +7,8 @@ import draw
 import moments
 import reader
 from cases_attempts import to_23
-from cases_calls import P1, P9, P10, PLACES, halt_at_30, path_scripts
+from cases_calls import (P1, P9, P10, PLACES, halt_at_30, one_block_left,
+                         path_scripts)
 from cases_fill import FILL_STANDS, take_one_block, ways
 from cases_moments import THREES, opened
 from script import Script, contend, turn_blocks
@@ -91,49 +92,38 @@ def alone_afterwards(s, task, k):
 
 def splitter_scripts():
     """Name and script: p is dropped, and nobody is left in a swap.  Y is true or
-    false after it; C is false but in the last ones."""
-    for line in range(15, 22):
+    false after it; C is false where nobody has done line 27."""
+    for line in (*range(15, 22), 23, 24, 26):
         yield "winner_at_%d" % line, lambda s, p, q, k, line=line: (
             s.swap(p, k, 5, 9).until(p, line).drop(p))
     yield "winner_at_22", lambda s, p, q, k: (
         s.swap(p, k, 4, 9).until(p, 22).drop(p))
-    for line in (23, 24, 26):
-        yield "winner_at_%d" % line, lambda s, p, q, k, line=line: (
-            s.swap(p, k, 5, 9).until(p, line).drop(p))
-
-    # p is past line 17 and another has stored X since; then that one wins, or
-    # has won, or has ended
     for line in (18, 19, 27):
-        def before_the_winner(s, p, q, k, line=line):
-            s.swap(p, k, 5, 9).step(p, 3).swap(q, k, 5, 7).step(q, 3)
-            s.until(p, line).drop(p).out(q)
-
-        def beside_the_winner(s, p, q, k, line=line):
-            s.swap(p, k, 5, 9).step(p, 3).swap(q, k, 5, 7).step(q, 6)
-            s.until(p, line).drop(p).out(q)
-
-        def after_the_winner(s, p, q, k, line=line):
-            s.swap(p, k, 5, 9).step(p, 3).swap(q, k, 5, 7).out(q)
-            s.until(p, line).drop(p)
-
-        for script in (before_the_winner, beside_the_winner,
-                       after_the_winner):
-            yield "loser_at_%d_%s" % (line, script.__name__), script
-
-    def at_27_by_17(s, p, q, k):
+        for name, script in losers(line):
+            yield "loser_at_%d_%s" % (line, name), script
+    yield "loser_at_27_by_17", lambda s, p, q, k: (
         s.swap(q, k, 5, 7).step(q, 4).swap(p, k, 5, 9).until(p, 27).drop(p)
-        s.out(q)
-
-    def after_27(s, p, q, k):
+        .out(q))
+    yield "loser_after_27", lambda s, p, q, k: (
         s.swap(q, k, 5, 7).step(q, 4).swap(p, k, 5, 9).until(p, 1).drop(p)
-        s.out(q)
+        .out(q))
+    yield "loser_and_winner", lambda s, p, q, k: (
+        s.swap(q, k, 5, 7).step(q, 5).swap(p, k, 5, 9).until(p, 27).drop(q)
+        .drop(p))
 
-    def both(s, p, q, k):
-        s.swap(q, k, 5, 7).step(q, 5).swap(p, k, 5, 9).until(p, 27)
-        s.drop(q).drop(p)
 
-    for script in (at_27_by_17, after_27, both):
-        yield "loser_%s" % script.__name__, script
+def losers(line):
+    """p is past line 17 and q has stored X since; then q wins, or has won, or has
+    ended."""
+    def met(s, p, q, k, steps):
+        return s.swap(p, k, 5, 9).step(p, 3).swap(q, k, 5, 7).steps(q, steps)
+
+    yield "before_the_winner", lambda s, p, q, k: (
+        met(s, p, q, k, 3).until(p, line).drop(p).out(q))
+    yield "beside_the_winner", lambda s, p, q, k: (
+        met(s, p, q, k, 6).until(p, line).drop(p).out(q))
+    yield "after_the_winner", lambda s, p, q, k: (
+        met(s, p, q, k, cells.MOST_STEPS).until(p, line).drop(p))
 
 
 def splitter_cases(cases):
@@ -206,7 +196,10 @@ def pool_cases(cases):
             turn_blocks(s, n - 2, n - 1, 2, v - 1)
         s.read(0, 0).out(0)
         cases.accepted("drop_pool_n_%d_v_%d" % (n, v), s.lines)
-    # dropped before the first load: no block was held
+
+
+def begun_cases(cases):
+    """Dropped before the first load: no block was held."""
     for name, begin in (("read", ("read", 0, 0)), ("swap", ("swap", 0, 0, 5, 7)),
                         ("equal_swap", ("swap", 0, 0, 5, 5))):
         s = Script(3, 2, 7, [5, 6])
@@ -214,17 +207,15 @@ def pool_cases(cases):
         turn_blocks(s, 1, 2, 6, 1)
         s.read(0, 0).out(0)
         cases.accepted("drop_pool_begun_%s" % name, s.lines)
-    # one block is unused and taken; the drop leaves two, then all but the cells'
+
+
+def last_block_cases(cases):
+    """Every block is used; a drop leaves two unused, the others' drops all but the
+    cells'."""
     for n, v in ((2, 2), (3, 2), (8, 2), (32, 16)):
         b = cells.least_blocks(n, v)
         p, r = n - 1, n - 2
-        s = Script(n, v, b, [5] * v)
-        contend(s, p, r, 1)
-        for task in range(n - 2):
-            halt_at_30(s, task, r)
-        value = s.value(0)
-        s.swap(p, 0, value, 7).swap(r, 0, value, 8).step(p, 3).step(r, 2)
-        s.until(p, 4).out(r).swap(r, 1, 9, 6).until(r, 30).step(p)
+        s = one_block_left(n, v).step(p)
         assert not s.model.has_unused_block()
         s.drop(p)
         assert s.model.counts[:b].count(0) == 2
@@ -350,107 +341,94 @@ def early(s, p, k, steps=8):
 def store_scripts():
     """Name, the rule that p's store is listed with, and the script: the store, its
     drop, and who goes on after it.  p swaps 5 for 9, and q 5 for 7."""
-    yield from late_scripts()
-    yield from early_scripts()
-
-
-def late_scripts():
     for line in (24, 1, 2, 3):
-        def undecided(s, p, q, r, k, line=line):
-            late(s, p, q, k, line).drop(p)
-
-        def decided_by_q(s, p, q, r, k, line=line):
-            late(s, p, q, k, line).drop(p).out(q)
-
-        def decided_by_a_read(s, p, q, r, k, line=line):
-            late(s, p, q, k, line).drop(p).read(r, k).out(r)
-
-        def decided_by_its_own_read(s, p, q, r, k, line=line):
-            late(s, p, q, k, line).drop(p).read(p, k).out(p).out(q)
-
-        def decided_and_replaced_by_itself(s, p, q, r, k, line=line):
-            late(s, p, q, k, line).drop(p).swap(p, k, 9, 4).out(p).out(q)
-
-        def decided_in_its_next_call(s, p, q, r, k, line=line):
-            late(s, p, q, k, line).drop(p).swap(p, k, 5, 4).step(p, 2)
-            s.until(q, 3).step(p, 2).out(q)
-
-        def decided_after_its_next_call(s, p, q, r, k, line=line):
-            late(s, p, q, k, line).drop(p)
-            s.read(p, k).step(p, 2).drop(p).swap(p, k, 6, 6).step(p, 1)
-            s.out(q).out(p)
-
-        def other_value(s, p, q, r, k, line=line):
-            to_23(s, p, q, k)
-            s.until(q, 2).step(p).until(p, line).drop(p).out(q)
-
-        def other_value_by_a_read(s, p, q, r, k, line=line):
-            to_23(s, p, q, k)
-            s.read(r, k).until(r, 2).step(p).until(p, line).drop(p).out(r)
-            s.read(p, k).out(p).out(q)
-
-        def after_the_decision(s, p, q, r, k, line=line):
-            to_23(s, p, q, k)
-            s.until(q, 3).step(p).until(p, line).drop(p).out(q)
-
-        def after_the_replacement(s, p, q, r, k, line=line):
-            to_23(s, p, q, k)
-            s.out(q).step(p).until(p, line).drop(p).read(r, k).out(r)
-
         # at line 3 it has decided for its own value
         yield "late_at_%d_undecided" % line, "C3" if line == 3 else None, (
-            undecided)
-        for script in (decided_by_q, decided_by_a_read,
-                       decided_by_its_own_read,
-                       decided_and_replaced_by_itself,
-                       decided_in_its_next_call, decided_after_its_next_call):
-            yield "late_at_%d_%s" % (line, script.__name__), "C3", script
-        for script in (other_value, other_value_by_a_read, after_the_decision,
-                       after_the_replacement)[2 * (line == 3):]:
-            yield "late_at_%d_%s" % (line, script.__name__), None, script
+            lambda s, p, q, r, k, line=line: late(s, p, q, k, line).drop(p))
+        for name, script in that_count(line):
+            yield "late_at_%d_%s" % (line, name), "C3", script
+        for name, script in that_do_not_count(line):
+            yield "late_at_%d_%s" % (line, name), None, script
 
-    def at_23(s, p, q, r, k):
+    def not_yet(s, p, q, r, k):
         to_23(s, p, q, k)
         s.drop(p).out(q).read(r, k).out(r)
 
-    def lost_at_30(s, p, q, r, k):
-        to_23(s, p, q, k)
-        s.until(q, 3).until(p, 30).drop(p).out(q)
-
-    yield "late_not_yet", None, at_23
+    yield "late_not_yet", None, not_yet
     yield "late_lost_at_30", None, lost_at_30
-
-
-def early_scripts():
     for steps in (8, 9):
-        def active(s, p, q, r, k, steps=steps):
-            early(s, p, k, steps).drop(p)
-
-        def active_then_read(s, p, q, r, k, steps=steps):
-            early(s, p, k, steps).drop(p).read(r, k).out(r)
-
-        def active_then_replaced(s, p, q, r, k, steps=steps):
-            early(s, p, k, steps).drop(p).swap(q, k, 9, 6).out(q)
-            s.read(p, k).out(p)
-
-        def active_then_replaced_by_itself(s, p, q, r, k, steps=steps):
-            early(s, p, k, steps).drop(p).swap(p, k, 9, 4).out(p)
-            s.swap(p, k, 4, 9).step(p, steps).drop(p)
-
-        def inactive_then_dropped(s, p, q, r, k, steps=steps):
-            early(s, p, k, steps).swap(q, k, 9, 6).step(q, 4).drop(p)
-            s.swap(p, k, 5, 5).out(p).out(q)
-
-        for script in (active, active_then_read, active_then_replaced,
-                       active_then_replaced_by_itself, inactive_then_dropped):
-            yield "stored_and_%d_%s" % (steps, script.__name__), "C4", script
-
+        for name, script in on_an_active_block(steps):
+            yield "stored_and_%d_%s" % (steps, name), "C4", script
     for line in (1, 2, 3):
-        def saw_it(s, p, q, r, k, line=line):
-            early(s, p, k).swap(q, k, 9, 6).step(q, 4).until(p, line).drop(p)
-            s.swap(p, k, 9, 8).out(p).out(q)
+        yield "stored_and_saw_it_at_%d" % line, "C4", (
+            lambda s, p, q, r, k, line=line: early(s, p, k).swap(q, k, 9, 6)
+            .step(q, 4).until(p, line).drop(p).swap(p, k, 9, 8).out(p).out(q))
 
-        yield "stored_and_saw_it_at_%d" % line, "C4", saw_it
+
+def that_count(line):
+    """A late store, decided for after its drop, or before it by itself."""
+    def dropped(s, p, q, k):
+        return late(s, p, q, k, line).drop(p)
+
+    yield "decided_by_q", lambda s, p, q, r, k: dropped(s, p, q, k).out(q)
+    yield "decided_by_a_read", lambda s, p, q, r, k: (
+        dropped(s, p, q, k).read(r, k).out(r))
+    yield "decided_by_its_own_read", lambda s, p, q, r, k: (
+        dropped(s, p, q, k).read(p, k).out(p).out(q))
+    yield "decided_and_replaced_by_itself", lambda s, p, q, r, k: (
+        dropped(s, p, q, k).swap(p, k, 9, 4).out(p).out(q))
+    yield "decided_in_its_next_call", lambda s, p, q, r, k: (
+        dropped(s, p, q, k).swap(p, k, 5, 4).step(p, 2).until(q, 3).step(p, 2)
+        .out(q))
+    yield "decided_after_its_next_call", lambda s, p, q, r, k: (
+        dropped(s, p, q, k).read(p, k).step(p, 2).drop(p).swap(p, k, 6, 6)
+        .step(p, 1).out(q).out(p))
+
+
+def that_do_not_count(line):
+    """A late store of which the one who decides has not heard."""
+    def other_value(s, p, q, r, k):
+        to_23(s, p, q, k)
+        s.until(q, 2).step(p).until(p, line).drop(p).out(q)
+
+    def other_value_by_a_read(s, p, q, r, k):
+        to_23(s, p, q, k)
+        s.read(r, k).until(r, 2).step(p).until(p, line).drop(p).out(r)
+        s.read(p, k).out(p).out(q)
+
+    def after_the_decision(s, p, q, r, k):
+        to_23(s, p, q, k)
+        s.until(q, 3).step(p).until(p, line).drop(p).out(q)
+
+    def after_the_replacement(s, p, q, r, k):
+        to_23(s, p, q, k)
+        s.out(q).step(p).until(p, line).drop(p).read(r, k).out(r)
+
+    if line != 3:  # where it decides itself
+        yield "other_value", other_value
+        yield "other_value_by_a_read", other_value_by_a_read
+    yield "after_the_decision", after_the_decision
+    yield "after_the_replacement", after_the_replacement
+
+
+def lost_at_30(s, p, q, r, k):
+    to_23(s, p, q, k)
+    s.until(q, 3).until(p, 30).drop(p).out(q)
+
+
+def on_an_active_block(steps):
+    """The store of a swap of so many steps."""
+    yield "active", lambda s, p, q, r, k: early(s, p, k, steps).drop(p)
+    yield "active_then_read", lambda s, p, q, r, k: (
+        early(s, p, k, steps).drop(p).read(r, k).out(r))
+    yield "active_then_replaced", lambda s, p, q, r, k: (
+        early(s, p, k, steps).drop(p).swap(q, k, 9, 6).out(q).read(p, k).out(p))
+    yield "active_then_replaced_by_itself", lambda s, p, q, r, k: (
+        early(s, p, k, steps).drop(p).swap(p, k, 9, 4).out(p)
+        .swap(p, k, 4, 9).step(p, steps).drop(p))
+    yield "inactive_then_dropped", lambda s, p, q, r, k: (
+        early(s, p, k, steps).swap(q, k, 9, 6).step(q, 4).drop(p)
+        .swap(p, k, 5, 5).out(p).out(q))
 
 
 def rule_of_store(lines, task):
@@ -664,6 +642,8 @@ def session_drop_cases(cases):
     splitter_cases(cases)
     fill_cases(cases)
     pool_cases(cases)
+    begun_cases(cases)
+    last_block_cases(cases)
     refusal_cases(cases)
     again_cases(cases)
     end_cases(cases)

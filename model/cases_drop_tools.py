@@ -8,7 +8,7 @@ import cells
 import draw
 from cases_attempts import to_23
 from cases_calls import P1, P9, P10
-from cases_drop import early, late, late_stores
+from cases_drop import early, late
 from script import Script
 
 
@@ -118,24 +118,11 @@ def named_cases(cases):
     cases.refused("drop_actions_2001", 0, 0, [*lines, "(drop 0)"], 19)
 
 
-def nudge_drop_cases(cases, kept):
+def nudge_drop_cases(cases):
     longer_cases(cases)
     separate_cases(cases)
     store_cases(cases)
     named_cases(cases)
-    for seed in range(1, 21):
-        n = 2 + seed % 3
-        v = 1 + (seed % 7 == 0)
-        lines = draw.draw_session(
-            draw.Draw(12900 + seed), n, v, cells.least_blocks(n, v), draw.Style(
-                length=24 + seed % 30, hot_cells=v, values=2 + seed % 2,
-                burst=1 + seed % 3, right_guess=85, reads=30, equal=5,
-                refusals=(0, 0, 6)[seed % 3], idle=(0, 20, 40)[seed % 3],
-                drops=(6, 12)[seed % 2]), 100)
-        kept(cases, "drop_drawn_n_%d_s%d" % (n, seed), lines, 5)
-    for seed in range(1, 13):
-        kept(cases, "drop_late_s%d" % seed,
-             late_stores(draw.Draw(12950 + seed), 20, 2), 11)
 
 
 # ------------------------------------------------------------------------ bus
