@@ -3,13 +3,14 @@
 
     drop_selftest.py [COUNT [SEED]]      (400 and 2012 if left out)
 
-Sessions told by hand.  The entry in edited states: its questions, and that it leaves the record idle with
-its other fields 0, the counts true and all else as it was.  Then COUNT drawn lists
-with drops, each by every claim of selftest.py (the figure with a new block each
-time, counts by path, bounds, the promise of no hardware swap, a telling on plain
-cells) and of moments_selftest.py (the printed order of moments).  And each list
-once more without drops: a task that is dropped halts there, and its next calls are
-those of a task that had none; the answers and the moments are the same.
+Sessions told by hand.  The entry in edited states: its questions, and that it
+leaves the record idle with its other fields 0, the counts true and all else as it
+was.  Then COUNT drawn lists with drops, each by every claim of selftest.py (the
+figure with a new block each time, counts by path, bounds, the promise of no
+hardware swap, a telling on plain cells) and of moments_selftest.py (the printed
+order of moments).  And each list once more without drops: a task that is dropped
+halts there, and its next calls are those of a task that had none; the answers and
+the moments are the same.
 """
 
 import sys

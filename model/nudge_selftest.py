@@ -19,7 +19,6 @@ import draw
 import make_nudge_cases
 import moments
 import nudge
-import reader
 import shaker
 import tools
 from cases_calls import P1
