@@ -4,10 +4,10 @@
     attempts.py [TASKS [VALUES]]      (2 and 2 if left out)
 
 Goes through every state that the tasks reach on one cell from its fresh
-openings, with reads and swaps of the values below VALUES, and prints for each
-kind, path and answer the patterns met: w for won and l for lost, in the order
-of the attempts.  Then for each kind and answer the pairs (won, lost).  Ends
-with 1 if the patterns are not PATTERNS.
+openings, with reads and swaps of the values below VALUES and with drops, and
+prints for each kind, path and answer the patterns met: w for won and l for lost,
+in the order of the attempts.  Then for each kind and answer the pairs (won,
+lost).  Ends with 1 if the patterns are not PATTERNS.
 
 Blocks are told apart by who names, holds or has taken them, not by their
 numbers, and what an unused block has is left out: lines 4 to 8 fill every word.
@@ -123,6 +123,10 @@ class Search:
                 model.begin(task, call[0], 0, *call[1:])
                 self.found(model, key, task, (), "")
             return
+        # "the record is idle" (change request 12)
+        model = model_of(key)
+        model.drop(task)
+        self.found(model, key, task, (), "")
         model = model_of(key)
         record = model.tasks[task]
         result = model.step(task)

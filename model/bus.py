@@ -5,7 +5,7 @@
 
 prints what `bus LL LH SL SH HL HH` prints: the low and the high time of a load,
 of a store and of a hardware swap, in tenths of a nanosecond.  Written from
-document 02 (CR 11), document 01 and the design page, alone.
+document 02 (CR 11 and 12), document 01 and the design page, alone.
 """
 
 from collections import Counter
@@ -48,25 +48,25 @@ class Trace:
 
 
 def finished_calls(opening, actions):
-    """"each finished call, in order of finishing"."""
+    """"each finished call, in order of finishing"; a withdrawn one "ends there
+    without finishing" (change request 12)."""
     n, v, b, values = opening
     model = cells.open_cells(n, v, b, [0] * (cells.WORDS * b), values, False)
     lines = [[] for _ in range(n)]
     before = [0] * n
     for action in actions:
-        if not isinstance(action, reader.Step):
-            begin = (model.begin_read if isinstance(action, reader.Read)
-                     else model.begin_swap)
-            begin(*action)
-            continue
         task = action.task
-        if task < n and model.tasks[task].busy:
+        if isinstance(action, reader.Step) and task < n:
             record = model.tasks[task]
-            lines[task].append((record.line, record.wanted_by))
-        if isinstance(model.step(task), cells.Finished):
+            if record.busy:
+                lines[task].append((record.line, record.wanted_by))
+        result = model.act(action.word, *action)
+        if isinstance(result, cells.Finished):
             yield Call(task, before[task], lines[task])
             lines[task] = []
             before[task] += 1
+        elif isinstance(action, reader.Drop) and result is None:
+            lines[task] = []
 
 
 def whole_down(tenths):

@@ -45,14 +45,14 @@ ASK = """        number = times_refusal(list(zip(lows, highs)))
             raise reader.Bad(number)
 """
 CALLS = "trace.calls = list(finished_calls(opening, actions))"
-STEP = """        if task < n and model.tasks[task].busy:
-            record = model.tasks[task]
-            lines[task].append((record.line, record.wanted_by))
+STEP = """            if record.busy:
+                lines[task].append((record.line, record.wanted_by))
 """
-BEGUN = """            begin(*action)
-            continue
+ACTED = "        result = model.act(action.word, *action)\n"
+FINISHED = """            lines[task] = []
+            before[task] += 1
 """
-FINISHED = "            lines[task] = []\n"
+DROPPED = "elif isinstance(action, reader.Drop) and result is None:"
 NUMBERS = "numbers = reader.numbers(arguments, 6)"
 
 STORES = "STORE_LINES = frozenset((4, 5, 6, 7, 8, 16, 18, 22, 23, 26, 27))"
@@ -125,18 +125,27 @@ MISREADINGS = [
     ("a deciding part is done once", TOTAL, TOTAL.replace(
         "loads *", "(loads - 2 * ((3, 25) in self.lines and (3, 28) in"
         " self.lines)) *")),
-    ("unfinished calls' accesses go to the next", FINISHED, ""),
+    ("finished calls' accesses go to the next", FINISHED,
+     "            before[task] += 1\n"),
+    ("withdrawn calls' accesses go to the next", DROPPED, "elif False:"),
+    ("a refused drop forgets accesses", DROPPED,
+     "elif isinstance(action, reader.Drop):\n"
+     "            lines[0] = []\n        elif False:"),
+    ("a drop forgets every task's accesses", DROPPED, DROPPED
+     + "\n            lines = [[] for _ in range(n)]"),
+    ("withdrawn calls are told too", DROPPED, DROPPED
+     + "\n            yield Call(task, before[task], lines[task])"),
+    ("withdrawn calls are counted in n", DROPPED, DROPPED
+     + "\n            before[task] += 1"),
     ("unfinished calls are told too", CALLS,
      "trace.calls = list(finished_calls(opening, actions))\n"
      "    if not trace.calls and actions:\n"
      "        trace.calls = [Call(0, 0, [])]"),
     ("refused steps are counted", STEP, STEP.replace(
-        " and model.tasks[task].busy", "").replace("record.line,",
-                                                   "record.line or 10,")),
-    ("begins are loads", BEGUN, BEGUN.replace(
-        "            continue", "            if action.task < n:\n"
-        "                lines[action.task].append((10, 0))\n"
-        "            continue")),
+        "record.busy", "True").replace("record.line,", "record.line or 10,")),
+    ("begins are loads", ACTED, ACTED
+     + "        if task < n and action.word in ('read', 'swap'):\n"
+     "            lines[task].append((10, 0))\n"),
     # n and the order
     ("n is counted from 1", BUS, BUS.replace("call.n,", "call.n + 1,")),
     ("n is counted from 1 in all", ALL, ALL.replace("longest.n)",

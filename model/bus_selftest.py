@@ -77,7 +77,8 @@ def drawn_sessions(count):
             drawn, n, v, cells.least_blocks(n, v), draw.Style(
                 length=drawn.between(5, 150), hot_cells=v, values=3,
                 burst=drawn.between(1, 8), refusals=drawn.pick((0, 5)),
-                halts=drawn.below(2), runs_out=drawn.pick((0, 30)))))
+                halts=drawn.below(2), runs_out=drawn.pick((0, 30)),
+                drops=drawn.pick((0, 5, 15)))))
         times = draw_times(drawn)
         wanted = wanted_text(data, times)
         check("bus %s of\n%s" % (times, data.decode()),

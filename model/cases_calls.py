@@ -284,16 +284,16 @@ def halt_cases(cases):
 
 # ------------------------------------------------------------------- the pool
 
+def halt_at_30(s, task, q, cell=0):
+    """The task ends up at line 30 with a replaced block held."""
+    value = s.value(cell)
+    s.swap(task, cell, value, 1000 + task).swap(q, cell, value, 2000 + task)
+    s.step(task, 3).step(q, 2).until(task, 30).out(q)
+    assert s.next_line(task) == (30, 0)
+
+
 def pool_cases(cases):
     """Blocks go round the pool while halted tasks hold and have taken some."""
-
-    def halt_at_30(s, task, q, cell=0):
-        """The task ends up at line 30 with a replaced block held."""
-        value = s.value(cell)
-        s.swap(task, cell, value, 1000 + task).swap(q, cell, value, 2000 + task)
-        s.step(task, 3).step(q, 2).until(task, 30).out(q)
-        assert s.next_line(task) == (30, 0)
-
     for n, v, b in ((3, 1, 6), (3, 1, 7), (3, 1, 128), (4, 2, 9), (8, 1, 16),
                     (8, 1, 17), (8, 4, 19), (16, 1, 32), (32, 1, 64),
                     (32, 1, 65), (32, 16, 79)):
@@ -337,7 +337,7 @@ def pool_cases(cases):
         s.read(r, 0).out(r).read(t, v - 1).out(t).out(q)
         s.swap(r, 0, 77, 78).out(r).swap(t, v - 1, 5, 6).out(t)
         cases.accepted("pool_taken_n_%d_v_%d_b_%d_t%d" % (n, v, b, p), s.lines)
-    last_block_cases(cases, halt_at_30)
+    last_block_cases(cases)
     # One task alone: its block is released with its call.
     s = Script(1, 1, 2, [5])
     for i in range(6):
@@ -345,21 +345,27 @@ def pool_cases(cases):
     cases.accepted("pool_one_task", s.lines)
 
 
-def last_block_cases(cases, halt_at_30):
-    """Line 4 where one block alone is unused (change request 10): p holds a
-    replaced block, every other but r has its own and has taken one; r, who
-    replaced the last one, has taken one for the other cell."""
+def one_block_left(n, v, more=0):
+    """Line 4 where one block alone is unused (change request 10): p, the last
+    task, holds a replaced block, every other but r has its own and has taken one;
+    r, the task before it, who replaced the last one, has taken one for the other
+    cell."""
+    p, r = n - 1, n - 2
+    s = Script(n, v, cells.least_blocks(n, v) + more, [5] * v)
+    contend(s, p, r, 1)
+    for task in range(n - 2):
+        halt_at_30(s, task, r)
+    value = s.value(0)
+    s.swap(p, 0, value, 7).swap(r, 0, value, 8).step(p, 3).step(r, 2)
+    return s.until(p, 4).out(r).swap(r, 1, 9, 6).until(r, 30)
+
+
+def last_block_cases(cases):
     for n, v, more in ((2, 2, 0), (3, 2, 0), (4, 3, 0), (8, 2, 0), (8, 2, 1),
                        (16, 16, 0), (32, 2, 0), (32, 16, 0)):
-        b = cells.least_blocks(n, v) + more
         p, r = n - 1, n - 2
-        s = Script(n, v, b, [5] * v)
-        contend(s, p, r, 1)
-        for task in range(n - 2):
-            halt_at_30(s, task, r)
-        value = s.value(0)
-        s.swap(p, 0, value, 7).swap(r, 0, value, 8).step(p, 3).step(r, 2)
-        s.until(p, 4).out(r).swap(r, 1, 9, 6).until(r, 30)
+        s = one_block_left(n, v, more)
+        b = s.model.b
         unused = [block for block in range(b) if not s.model.is_used(block)]
         assert s.next_line(p) == (4, 0) and len(unused) == 1 + more
         name = "pool_last_block_n_%d_v_%d_b_%d" % (n, v, b)

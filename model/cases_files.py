@@ -151,7 +151,8 @@ def form_cases(cases):
                        ("again1", b"(again1 (step 0))"),
                        ("agai", b"(agai 1 (step 0))"),
                        ("look", b"(look 0)"), ("done", b"(done 0)"),
-                       ("drop", b"(drop 0)"), ("add", b"(add 0 0 1 1)"),
+                       ("drops", b"(drops 0)"), ("dro", b"(dro 0)"),
+                       ("cap_drop", b"(Drop 0)"), ("add", b"(add 0 0 1 1)"),
                        ("offer", b"(offer 0 0 5)"),
                        ("cell", b"(cell 0 5)"), ("end", b"(end)"),
                        ("quoted", b'("step" 0)'), ("s", b"(s 0)")):
@@ -165,6 +166,7 @@ def form_cases(cases):
         "read": (b"read", b"0", b"0"),
         "swap": (b"swap", b"0", b"0", b"5", b"7"),
         "step": (b"step", b"0"),
+        "drop": (b"drop", b"0"),
     }
     for word, items in whole.items():
         before = b"" if word == "open" else OPEN

@@ -510,7 +510,7 @@ def refusal_cases(cases):
     refused(14, "open_twice", ["(open 2 1 5 (5))"] * 2)
     refused(14, "leading_zero", ["(open 2 1 5 (5))", "(step 00)"])
     refused(14, "word", ["(open 2 1 5 (5))", "(at 0)"])
-    refused(14, "drop", ["(open 2 1 5 (5))", "(read 0 0)", "(drop 0)"])
+    refused(14, "drops", ["(open 2 1 5 (5))", "(read 0 0)", "(drops 0)"])
     refused(14, "before_05", ["(open 2 1 5 (4294967295))", "(step)"])
     refused(15, "actions", ["(open 2 1 5 (5))", "(again 65536 (step 0))"])
     refused(15, "before_02", ["(open 2 0 5 (5))", "(again 65536 (step 0))"])

@@ -1,7 +1,8 @@
 """The library of cells: pool, blocks, task records, the lines of figure 2.
 
 Written from document 01 ("Shared cells for the milling unit's tasks"), change
-requests 2, 5, 7 and 10 of document 02 and source document 003, figure 2, alone.
+requests 2, 5, 7, 10 and 12 of document 02 and source document 003, figure 2,
+alone.
 Their sentences are quoted in the comments where they decide something.
 """
 
@@ -104,7 +105,8 @@ class Record:
         self.clear()
 
     def clear(self):
-        """"A finished call leaves it idle, its other fields 0."""
+        """"A finished call leaves it idle, its other fields 0", and so does a
+        drop (change request 12)."""
         self.line = IDLE
         self.wanted_by = 0
         self.kind = 0
@@ -290,7 +292,7 @@ class Cells:
                 and record.won + record.lost <= MOST_HARD_SO_FAR)
 
     def refusal(self, task=None, cell=None, begin=False, swap=None,
-                step=False):
+                step=False, drop=False):
         """The number of the first question answered no, or 0.  The questions
         follow in the paper's order, "as far as the entry names them"."""
         if self.ask_fit and not self.is_fit():
@@ -303,7 +305,8 @@ class Cells:
             return 9
         if swap is not None and NONE in swap:
             return 10
-        if step and not self.tasks[task].busy:
+        # "A drop asks 6, 7 and 11" (change request 12)
+        if (step or drop) and not self.tasks[task].busy:
             return 11
         # "Refused: 20, line 4 finds every block used, asked after 11" (change
         # request 10)
@@ -362,8 +365,27 @@ class Cells:
         self.move_counts(before, after)
         return finished
 
+    def drop(self, task):
+        """"the call is withdrawn, its blocks are released and the record is
+        idle, its other fields 0" (change request 12).  The pool is left as it
+        is: "A dropped winner leaves Y true"."""
+        number = self.refusal(task=task, drop=True)
+        if number:
+            return Refused(number)
+        record = self.tasks[task]
+        before = list(record.blocks())
+        record.clear()
+        self.move_counts(before, ())
+        return None
+
+    def act(self, word, *numbers):
+        """The entry that an action's word names, asked these numbers."""
+        entry = {"read": self.begin_read, "swap": self.begin_swap,
+                 "step": self.step, "drop": self.drop}[word]
+        return entry(*numbers)
+
     def move_counts(self, before, after):
-        """The blocks that a step's cell and record named before it and name
+        """The blocks that an action's cell and record named before it and name
         after it."""
         for block in before:
             count(self.counts, block, -1)

@@ -20,6 +20,11 @@ A case with L makes so many steps over the case's record, which the caller keeps
 and lends, and prints for each the record's line after it and the answer, and of a
 finished call whether it was answered yes, its steps, and its hardware swaps won
 and lost.
+
+A case with D asks so many drops, one after the other, of the case's state, and
+prints for each the answer; after an accepted one also the line of the task's
+record, 0 if every other field of that record is 0, else 1, and the stored counts of
+uses of the blocks from 0 to B - 1.
 """
 
 import operator
@@ -41,7 +46,8 @@ PLAIN = dict(
     r=0, s=0,               # hardware swaps won, lost
     t=0, u=0, v=5, w=7,     # of the calls: task, cell, expected, new
     x=0, y=6,               # how many values open is given; the second
-    L=0)                    # how many steps are lent the record
+    L=0,                    # how many steps are lent the record
+    D=0)                    # how many drops are asked
 
 # A fresh reading of it: cells 0 and 1 name blocks 0 and 1.
 COUNTS = [1, 1] + [0] * (cells.MOST_BLOCKS - 2)
@@ -57,7 +63,7 @@ def read_case(line):
     words, colon, name = line.partition(":")
     case = dict(PLAIN, counts=list(COUNTS))
     for word in words.split(" ") if words else ():
-        if not (colon and re.fullmatch("[a-zLZ](0|[1-9][0-9]*)", word)):
+        if not (colon and re.fullmatch("[a-zDLZ](0|[1-9][0-9]*)", word)):
             raise ValueError("not a case: %r" % line)
         if word[0] == "Z":
             case["counts"][case["z"]] = int(word[1:])
@@ -127,10 +133,14 @@ def answer(case, entry):
         return ACTED, state.pool
     if isinstance(result, cells.Finished):
         return ENDED, state.pool
-    # "A refusal returns the number alone; pool, records and state stay
-    # identical."
+    return refused(result, state, before), state.pool
+
+
+def refused(result, state, before):
+    """"A refusal returns the number alone; pool, records and state stay
+    identical."""
     changed = "" if words_of(state) == before else "!"
-    return "%d%s" % (result.number, changed), state.pool
+    return "%d%s" % (result.number, changed)
 
 
 def look(case, pool):
@@ -164,12 +174,25 @@ def lent_steps(case):
         result = state.step(case["t"])
         said = ACTED
         if isinstance(result, cells.Refused):
-            changed = "" if words_of(state) == before else "!"
-            said = "%d%s" % (result.number, changed)
+            said = refused(result, state, before)
         elif result is not None:
             said = "%s %d %d %d %d" % (
                 ENDED, result.answer, result.steps, result.won, result.lost)
         yield "%d %s" % (record.line, said)
+
+
+def drops(case):
+    """What is printed of each drop."""
+    state, task = state_of(case), case["t"]
+    for _ in range(case["D"]):
+        before = words_of(state)
+        result = state.drop(task)
+        if isinstance(result, cells.Refused):
+            yield refused(result, state, before)
+        else:
+            line, *others = state.tasks[task].words()
+            yield " ".join(map(str, (ACTED, line, int(any(others)),
+                                     *state.counts[:state.b])))
 
 
 def printed(line):
@@ -177,6 +200,8 @@ def printed(line):
     case, name = read_case(line)
     if case["L"]:
         return " ".join([name, *lent_steps(case)])
+    if case["D"]:
+        return " ".join([name, *drops(case)])
     if case["x"]:
         return "%s %s" % (name, open_answer(case))
     task, cell = case["t"], case["u"]

@@ -45,7 +45,7 @@ class Style:
 
     def __init__(self, length=200, hot_cells=1, values=4, burst=3,
                  right_guess=60, reads=20, equal=8, refusals=0, halts=0,
-                 idle=20, runs_out=0):
+                 idle=20, runs_out=0, drops=0):
         self.length = length            # actions
         self.hot_cells = hot_cells      # cells that calls are begun on
         self.values = values            # values drawn from 0 upward
@@ -57,6 +57,7 @@ class Style:
         self.halts = halts              # tasks that halt for good midway
         self.idle = idle                # percent: an idle task is preferred
         self.runs_out = runs_out        # percent: a burst runs the call out
+        self.drops = drops              # percent: a busy task is dropped
 
 
 def draw_actions(draw, model, style):
@@ -75,10 +76,7 @@ def draw_actions(draw, model, style):
 
     def do(action):
         actions.append(action)
-        word, *args = action
-        entry = {"read": model.begin_read, "swap": model.begin_swap,
-                 "step": model.step}[word]
-        return entry(*args)
+        return model.act(*action)
 
     def halted(task):
         if task not in halting:
@@ -89,7 +87,7 @@ def draw_actions(draw, model, style):
 
     while len(actions) < style.length:
         if draw.percent(style.refusals):
-            do(draw_refused(draw, model))
+            do(draw_refused(draw, model, bool(style.drops)))
             continue
         going = [t for t in range(model.n) if not halted(t)]
         task = draw.pick(going)
@@ -98,6 +96,10 @@ def draw_actions(draw, model, style):
             task = draw.pick(idle) if idle else task
         if not model.tasks[task].busy:
             do(draw_call(draw, model, style, task, first + draw.below(hot)))
+            continue
+        # nothing is drawn for a style without drops
+        if style.drops and draw.percent(style.drops):
+            do(("drop", task))
             continue
         burst = draw.between(1, style.burst)
         if draw.percent(style.runs_out):
@@ -120,7 +122,7 @@ def draw_call(draw, model, style, task, cell):
     return ("swap", task, cell, expected, new)
 
 
-def draw_refused(draw, model):
+def draw_refused(draw, model, drops=False):
     """An action likely to be refused, often for several reasons at once."""
     edges = (cells.NONE, cells.NONE - 1, 32, 33, 255, 256)
     task = draw.pick((draw.below(model.n), model.n, model.n + 1,
@@ -131,7 +133,7 @@ def draw_refused(draw, model):
     new = draw.pick((draw.below(4), expected, cells.NONE))
     return draw.pick((("read", task, cell),
                       ("swap", task, cell, expected, new),
-                      ("step", task)))
+                      ("step", task), ("drop", task))[:3 + drops])
 
 
 def form(action):

@@ -19,6 +19,7 @@ from collections import Counter
 import cells
 import draw
 import session
+from cases_drop import late_stores
 from script import Script, counted, turn_blocks
 
 LIMIT_SECONDS = 20
@@ -73,7 +74,7 @@ def sizes(d):
 
 
 def contention(d):
-    """Calls that meet, most of them run out, some refusals, some halts."""
+    """Calls that meet, most of them run out, some refusals, halts and drops."""
     n, v, b = sizes(d)
     style = draw.Style(
         length=d.pick((10, 30, 60, 120, 250)), hot_cells=d.pick((1, 1, 2, v)),
@@ -81,7 +82,7 @@ def contention(d):
         right_guess=d.pick((30, 60, 90)), reads=d.pick((5, 20, 40)),
         equal=d.pick((3, 15)), refusals=d.pick((0, 0, 3, 10)),
         halts=d.pick((0, 0, 1, 3)), idle=d.pick((0, 20, 40)),
-        runs_out=d.pick((0, 20, 60)))
+        runs_out=d.pick((0, 20, 60)), drops=d.pick((0, 0, 3, 10)))
     return draw.text(draw.draw_session(d, n, v, b, style,
                                        d.pick((0, 30, 100))))
 
@@ -107,6 +108,8 @@ def few_steps_apart(d):
         for _ in range(d.between(2, 10)):
             lines.append("(again %d (step %d))" % (
                 d.pick((1, 2, 2, 3, 3, 4, 5, 6, 7, 7, 9)), d.below(n)))
+            if d.percent(10):
+                lines.append("(drop %d)" % d.below(n))
         if d.percent(80):
             for t in range(n):
                 lines.append("(again 21 (step %d))" % t)
@@ -143,7 +146,14 @@ def blocks_turn(d):
         for task in range(n - 2):
             if d.percent(60):
                 s.out(task)
+            elif s.model.tasks[task].busy and d.percent(50):
+                s.drop(task)
     return draw.text(s.lines)
+
+
+def drops(d):
+    """Stores that come late, and tasks dropped about then."""
+    return draw.text(late_stores(d, d.pick((10, 25, 50))))
 
 
 def taken_block_waits(d, s, task, helper):
@@ -194,9 +204,11 @@ def number(d, good=90):
 
 
 def any_form(d, depth):
-    kind = d.below(10)
+    kind = d.below(11)
     if kind < 5:
         return "(step %s)" % number(d, 97)
+    if kind == 10:
+        return "(drop %s)" % number(d, 97)
     if kind < 6:
         return "(read %s %s)" % (number(d), number(d))
     if kind < 8:
@@ -269,7 +281,8 @@ def many_bytes(d):
 
 
 TOKENS = (b"(", b"(", b")", b")", b" ", b" ", b"\n", b"0", b"1", b"5", b"open",
-          b"read", b"swap", b"step", b"again", b"(step 0)", b"(5)", b"()",
+          b"read", b"swap", b"step", b"drop", b"again", b"(step 0)", b"(5)",
+          b"()",
           b"(open 1 1 3 (5))\n", b"\0", b"\xff", b"\r", b"\t", b"01")
 
 
@@ -322,8 +335,8 @@ def damage(d, data):
         word = place.group()
         other = d.pick((word + word[-1:], word[:-1], word.capitalize(),
                         word[:-1] + b"x", b"x" + word[1:], word + b"0",
-                        d.pick((b"open", b"read", b"swap", b"step", b"again",
-                                b"look", b"done", b"no"))))
+                        d.pick((b"open", b"read", b"swap", b"step", b"drop",
+                                b"again", b"look", b"done", b"no"))))
         return data[:place.start()] + other + data[place.end():]
     lines = data.split(b"\n")
     at = d.below(len(lines))
@@ -344,8 +357,8 @@ def damaged(d):
 
 
 # What is drawn, and how often in a thousand.
-MAKERS = ((contention, 230), (rate_near_half, 20), (few_steps_apart, 220),
-          (blocks_turn, 80), (any_forms, 90), (any_open, 60), (deep, 60),
+MAKERS = ((contention, 210), (rate_near_half, 20), (few_steps_apart, 200),
+          (blocks_turn, 70), (drops, 50), (any_forms, 90), (any_open, 60), (deep, 60),
           (token_soup, 30), (damaged, 194), (many_bytes, 6),
           (many_actions, 10))
 

@@ -15,6 +15,7 @@ import make_cases
 import shaker
 import tools
 from cases_calls import P1, P9, P10, path_scripts
+from cases_drop_tools import bus_drop_cases
 from cases_refusals import padded
 from script import Script, contend, turn_blocks
 
@@ -38,7 +39,7 @@ WANTED = {
     **{"all, least, rest %d" % rest: 2 for rest in range(10)},
     **{"all, greatest, rest %d" % rest: 2 for rest in range(10)},
     "a range of one point": 20, "a range from 0": 20, "a time of 1,000,000": 10,
-    "no call finished": 5, "unfinished calls": 20,
+    "no call finished": 5, "unfinished calls": 20, "withdrawn calls": 20,
     "the longest is the first": 10, "the longest is the last": 10,
     "the longest is between": 10,
     "several share the greatest total": 30,
@@ -89,9 +90,10 @@ def seen_in(trace, times, data):
     opening, actions = tools.take_session(data)
     model = cells.open_cells(*opening[:3], [0] * (5 * opening.b),
                              opening.values, False)
-    for action in actions:
-        (model.step if len(action) == 1 else
-         model.begin_read if len(action) == 2 else model.begin_swap)(*action)
+    results = [(action.word, model.act(action.word, *action))
+               for action in actions]
+    if ("drop", None) in results:
+        yield "withdrawn calls"
     if any(record.busy for record in model.tasks):
         yield "unfinished calls"
     if not trace.calls:
@@ -355,6 +357,7 @@ def make():
     long_cases(cases)
     refusal_cases(cases)
     drawn_cases(cases)
+    bus_drop_cases(cases, COUNTS, draw_times)
     for kind, count in WANTED.items():
         assert cases.seen[kind] >= count, (kind, cases.seen[kind])
     assert set(cases.seen) == set(WANTED), set(cases.seen) - set(WANTED)

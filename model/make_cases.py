@@ -17,6 +17,7 @@ import session
 from cases_attempts import attempt_cases
 from cases_calls import (contention_cases, halt_cases, meeting_cases,
                          paper_cases, path_cases, pool_cases, rate_cases)
+from cases_drop import session_drop_cases
 from cases_fill import fill_cases
 from cases_files import again_cases, bracket_cases, form_cases
 from cases_refusals import (action_refusals, file_refusals, open_edges,
@@ -75,6 +76,7 @@ def make():
     rate_cases(cases)
     attempt_cases(cases)
     contention_cases(cases)
+    session_drop_cases(cases)
     return cases
 
 

@@ -2,7 +2,7 @@
 
 Each file is a session.  Everything is the same on every run.  The cases must come
 by every rule with each of its moments, and by every way in which a call is left
-unfinished, listed or not.
+unfinished or withdrawn, listed or not.
 """
 
 from collections import Counter
@@ -11,13 +11,14 @@ import cells
 import make_cases
 import moments
 from cases_calls import paper_cases
+from cases_drop import moments_drop_cases
 from cases_moments import (again_cases, drawn_cases, early_cases, halt_cases,
                            lives_cases, long_cases, observer_cases, path_cases,
                            refusal_cases, shared_cases, store_cases,
                            unfinished_cases)
 
 # The kept sessions stay below this many bytes, and so does what one prints.
-MOST_DATA = 400000
+MOST_DATA = 500000
 MOST_PRINTED = 100000
 
 # What the cases come by, each at least so often.
@@ -39,6 +40,18 @@ WANTED = {
     "not listed, never stored though D is its new value": 10,
     "not listed, at 22": 3, "not listed, at 30": 10,
     "not listed, a swap before its store": 20,
+    "withdrawn, C4 at 24": 20, "withdrawn, C4 at 26": 10,
+    "withdrawn, C4 that saw C": 3,
+    "withdrawn, C3 decided before its drop": 10,
+    "withdrawn, C3 decided after its drop": 20,
+    "withdrawn, not listed, a read": 5,
+    "withdrawn, not listed, a swap of equal values": 5,
+    "withdrawn, not listed, begun only": 10,
+    "withdrawn, not listed, late and undecided": 3,
+    "withdrawn, not listed, late and another value decided": 20,
+    "withdrawn, not listed, never stored though D is its new value": 5,
+    "withdrawn, not listed, at 22": 1, "withdrawn, not listed, at 30": 3,
+    "withdrawn, not listed, a swap before its store": 20,
     "several at one decision": 20, "several noes after one replacement": 10,
     "a no of a lower task than the one that replaced": 5,
     "a no of a higher task than the one that replaced": 5,
@@ -94,7 +107,7 @@ def kind_of_unfinished(history, o, mark):
         if mark.rule == "C3":
             return "unfinished, C3"
         line = {23: "at 24", 24: "at 26"}.get(o.last[0], "that saw C")
-        if o.last == (24, 0) and history.figure.tasks[o.task].line != 26:
+        if o.last == (24, 0) and o.next_line != 26:
             line = "that saw C"
         return "unfinished, C4 " + line
     if o.last is None:
@@ -109,10 +122,20 @@ def kind_of_unfinished(history, o, mark):
         return "not listed, late and undecided"
     if history.decided_value(o.block) == o.new:
         return "not listed, never stored though D is its new value"
-    line = history.figure.tasks[o.task].line
+    line = o.next_line
     if line in (22, 30):
         return "not listed, at %d" % line
     return "not listed, a swap before its store"
+
+
+def kind_of_withdrawn(history, o, mark):
+    kind = kind_of_unfinished(history, o, mark)
+    if mark is None:
+        return "withdrawn, " + kind
+    if mark.rule == "C3":
+        return "withdrawn, C3 decided %s its drop" % (
+            "before" if history.decided[o.block] < o.drop else "after")
+    return kind.replace("unfinished", "withdrawn")
 
 
 def seen_in(trace):
@@ -123,7 +146,9 @@ def seen_in(trace):
         if o.finished:
             yield kind_of_finished(history, listed[o])
         else:
-            yield kind_of_unfinished(history, o, listed.get(o))
+            kind_of = (kind_of_unfinished if o.drop is None
+                       else kind_of_withdrawn)
+            yield kind_of(history, o, listed.get(o))
     places = {}
     for mark in trace.marks:
         places.setdefault((mark.moment, mark.side), []).append(mark)
@@ -153,6 +178,7 @@ def make():
     again_cases(cases)
     long_cases(cases)
     drawn_cases(cases)
+    moments_drop_cases(cases)
     for kind, count in WANTED.items():
         assert cases.seen[kind] >= count, (kind, cases.seen[kind])
     assert set(cases.seen) == set(WANTED), set(cases.seen) - set(WANTED)
@@ -164,4 +190,4 @@ def make():
 def say(cases):
     return "%d calls listed, %d left out" % (cases.listed, sum(
         count for kind, count in cases.seen.items()
-        if kind.startswith("not listed")))
+        if "not listed" in kind))

@@ -10,11 +10,14 @@ from collections import Counter
 import cells
 import draw
 import make_cases
+import moments
 import nudge
 import shaker
 import tools
 from cases_attempts import to_23
 from cases_calls import P1, P9, P10, PLACES, path_scripts
+from cases_drop import late_stores
+from cases_drop_tools import nudge_drop_cases
 from cases_refusals import padded
 from script import Script, contend
 
@@ -38,6 +41,10 @@ WANTED = {
     "a refused action is exchanged": 20,
     "a task above N - 1 is exchanged": 10,
     "a neighbour of the same task": 100,
+    "a drop is exchanged": 20,
+    "a refused drop is exchanged": 5,
+    "the call is withdrawn after the exchange": 8,
+    "its task was dropped before": 10,
 }
 
 
@@ -56,6 +63,7 @@ class Cases(make_cases.Cases):
         self.refusals += trace.refusals
         if not trace.refusals:
             self.seen.update(seen_in(trace, *sizes(data)))
+            self.seen.update(drops_seen_in(trace, sizes(data)[1]))
         return trace
 
     def named(self, name, data, *calls):
@@ -130,6 +138,27 @@ def seen_in(trace, n, opening):
             yield "a refused action is exchanged"
         if max(tasks[i], tasks[i + 1]) >= n:
             yield "a task above N - 1 is exchanged"
+
+
+def drops_seen_in(trace, opening):
+    """The same of drops."""
+    actions, (begin, last, _) = trace.actions, trace.named
+    history = moments.History(opening, actions)
+    drops = {o.drop for o in history.calls}
+    if any(o.drop is not None and o.task == actions[begin].task
+           for o in history.calls if o.begin < begin):
+        yield "its task was dropped before"
+    end = len(actions) - 1 if trace.exchange is None else trace.exchange
+    for i in range(min(end, last)):
+        two = [at for at in (i, i + 1) if actions[at].word == "drop"]
+        if two and actions[i].task != actions[i + 1].task:
+            yield ("a drop is exchanged" if drops & set(two)
+                   else "a refused drop is exchanged")
+    if trace.became == nudge.UNFINISHED:
+        history = moments.History(opening, nudge.exchanged(actions, end))
+        begin = nudge.place_after(begin, end)
+        if any(o.begin == begin and o.drop is not None for o in history.calls):
+            yield "the call is withdrawn after the exchange"
 
 
 # ------------------------------------------------------- written by hand
@@ -435,22 +464,36 @@ def close_session(drawn):
     return s.lines
 
 
+def draw_few(cases, name, seed, number, one_in, drops=0):
+    """The calls of a short drawn session."""
+    n = 2 + number % 3
+    v = 1 + (number % 7 == 0)
+    lines = draw.draw_session(
+        draw.Draw(seed + number), n, v, cells.least_blocks(n, v), draw.Style(
+            length=24 + number % 30, hot_cells=v, values=2 + number % 2,
+            burst=1 + number % 4, right_guess=80, reads=30, equal=5,
+            refusals=(0, 0, 6)[number % 3], idle=(0, 20, 40)[number % 3],
+            drops=drops), 100)
+    kept(cases, "%s_n_%d_s%d" % (name, n, number), lines, one_in)
+
+
 def drawn_cases(cases):
     drawn = draw.Draw(90)
     for number in range(200):
         kept(cases, "close_%d" % number, close_session(drawn), 13)
-    for seed in range(1, 31):
-        n = 2 + seed % 3
-        v = 1 + (seed % 7 == 0)
-        lines = draw.draw_session(
-            draw.Draw(9000 + seed), n, v, cells.least_blocks(n, v), draw.Style(
-                length=24 + seed % 30, hot_cells=v, values=2 + seed % 2,
-                burst=1 + seed % 4, right_guess=80, reads=30, equal=5,
-                refusals=(0, 0, 6)[seed % 3], idle=(0, 20, 40)[seed % 3]), 100)
-        kept(cases, "drawn_n_%d_s%d" % (n, seed), lines, 9)
+    for number in range(1, 31):
+        draw_few(cases, "drawn", 9000, number, 9)
     for seed in range(8):
         kept(cases, "shaken_s%d" % seed,
              shaker.shake(99 * seed, 2 + seed % 3, 1, 11, 40 + 5 * seed), 5)
+
+
+def drawn_drop_cases(cases):
+    for number in range(1, 21):
+        draw_few(cases, "drop_drawn", 12900, number, 5, (6, 12)[number % 2])
+    for number in range(1, 13):
+        kept(cases, "drop_late_s%d" % number,
+             late_stores(draw.Draw(12950 + number), 20, 2), 11)
 
 
 def make():
@@ -464,6 +507,8 @@ def make():
     size_cases(cases)
     refusal_cases(cases)
     drawn_cases(cases)
+    nudge_drop_cases(cases)
+    drawn_drop_cases(cases)
     for kind, count in WANTED.items():
         assert cases.seen[kind] >= count, (kind, cases.seen[kind])
     assert set(cases.seen) == set(WANTED), set(cases.seen) - set(WANTED)

@@ -4,8 +4,8 @@
     moments.py < SESSION
 
 prints what `moments` prints.  Written from source document 003, section 5, and
-document 02 (CR 8), alone; o.23 is, as there, the execution of line 23 by the
-call o.  run(data) is the exact text for a session file's bytes.
+document 02 (CR 8 and 12), alone; o.23 is, as there, the execution of line 23 by
+the call o.  run(data) is the exact text for a session file's bytes.
 """
 
 import sys
@@ -35,7 +35,8 @@ class Figure(cells.Cells):
 
 
 class Call:
-    """A begin that isn't refused, and its task's steps after it."""
+    """A begin that isn't refused, and its task's steps after it.  "A withdrawn
+    call has only its steps before the drop" (change request 12)."""
 
     def __init__(self, begin, task, word, cell, expected, new):
         self.begin = begin
@@ -46,8 +47,10 @@ class Call:
         self.new = new
         self.at = {}        # line -> the action that did it
         self.last = None    # the last line done, and the line that wanted it
+        self.next_line = None  # after it, while it is not finished
         self.block = None   # o.b
-        self.answer = None  # None while it is unfinished
+        self.answer = None  # None while it is unfinished, or if withdrawn
+        self.drop = None    # the action that withdrew it
 
     @property
     def finished(self):
@@ -70,6 +73,8 @@ class History:
         for i, action in enumerate(actions):
             if isinstance(action, reader.Step):
                 result = self.step(i, *action)
+            elif isinstance(action, reader.Drop):
+                result = self.drop(i, *action)
             elif isinstance(action, reader.Read):
                 result = self.begin(i, cells.READ, *action)
             else:
@@ -96,11 +101,20 @@ class History:
         before = self.block_state(call)
         result = self.figure.step(task)
         self.note(i, call, before, self.block_state(call))
+        call.next_line = record.line
         if call.block is None:
             call.block = record.held
         if result is not None:
             call.answer = result.answer
             del self.under_way[task]
+        return result
+
+    def drop(self, i, task):
+        """The call "ends there without finishing" (change request 12).  Its block
+        stays what it is here, as it is never filled again."""
+        result = self.figure.drop(task)
+        if result is None:
+            self.under_way.pop(task).drop = i
         return result
 
     def block_state(self, call):
@@ -222,7 +236,9 @@ def finished_mark(history, o):
 
 
 def unfinished_mark(history, o):
-    """Whether and where an unfinished call is listed (change request 8)."""
+    """Whether and where an unfinished call is listed (change request 8), and a
+    withdrawn one "by its rule for unfinished ones, its block meant as filled when
+    the swap held it" (change request 12)."""
     if 23 not in o.at:
         return None
     if is_active_at_23(history, o):

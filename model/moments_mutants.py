@@ -58,6 +58,9 @@ NOTE = """                if is_now and not was:
                     event[call.block] = i
 """
 EACH = "for i, action in enumerate(actions):"
+DROP = "result = self.figure.drop(task)"
+DROPPED = "self.under_way.pop(task).drop = i"
+BEGUN = "            self.under_way[task] = call"
 PRINTED = 'return "".join(mark.line() for mark in trace.marks).encode("ascii")'
 
 
@@ -150,7 +153,7 @@ MISREADINGS = [
     ("an unfinished store on an active block is not listed", LEFT_C4_MARK,
      "return None"),
     ("an unfinished store is listed only if line 24 found C false", LEFT_C4,
-     LEFT_C4.replace("if is", "if history.figure.tasks[o.task].line in (24, 26)"
+     LEFT_C4.replace("if is", "if o.next_line in (24, 26)"
                      " and is")),
     ("an unfinished store is listed only after line 24", LEFT_C4,
      LEFT_C4.replace("if is", "if 24 in o.at and is")),
@@ -158,7 +161,7 @@ MISREADINGS = [
      LEFT_C4, LEFT_C4.replace("is_active_at_23(history, o)",
                               "o.block not in history.inactive")),
     ("an unfinished store that saw C is C3", LEFT_C4_MARK, LEFT_C4_MARK.replace(
-        '"C4"', '"C4" if history.figure.tasks[o.task].line in (24, 26)'
+        '"C4"', '"C4" if o.next_line in (24, 26)'
         ' else "C3"')),
     ("an unfinished store in a block inactive by now is C3", LEFT_C4_MARK,
      LEFT_C4_MARK.replace('"C4"', '"C3" if o.block in history.inactive else'
@@ -193,15 +196,58 @@ MISREADINGS = [
         "max(o.at[10], history.decided[o.block])",
         '"R2" if o.word == cells.READ else "C1"')),
     ("an unfinished swap at 22 is listed", *not_stored(
-        "history.figure.tasks[o.task].line == 22", "o.at[20]", '"C2"')),
+        "o.next_line == 22", "o.at[20]", '"C2"')),
     ("an unfinished swap that will answer no at 28 is listed", *not_stored(
         "o.last == (2, 28) and history.decided_value(o.block) != o.expected",
         "max(o.at[15], history.decided[o.block])", '"C5"')),
     ("an unfinished swap whose block is replaced is listed", *not_stored(
-        "history.figure.tasks[o.task].line == 30 and o.block in"
+        "o.next_line == 30 and o.block in"
         " history.replaced", "history.replaced[o.block]", '"C6"')),
     ("an unfinished swap at 30 is listed", *not_stored(
-        "history.figure.tasks[o.task].line == 30", "o.at[8]", '"C6"')),
+        "o.next_line == 30", "o.at[8]", '"C6"')),
+    # withdrawn calls (change request 12)
+    ("no withdrawn call is listed", NOT_STORED,
+     NOT_STORED.replace(":", " or o.drop is not None:")),
+    ("a withdrawn store on an active block is not listed", LEFT_C4,
+     LEFT_C4.replace("if is", "if o.drop is None and is")),
+    ("a withdrawn store is listed only if its block is active at the drop",
+     LEFT_C4, LEFT_C4.replace("if is", "if (o.drop is None or history.inactive"
+                              ".get(o.block, o.drop) >= o.drop) and is")),
+    ("a withdrawn store in a block inactive by now is C3", LEFT_C4_MARK,
+     LEFT_C4_MARK.replace('"C4"', '"C3" if o.drop is not None and o.block in'
+                          ' history.inactive else "C4"')),
+    ("a withdrawn store is listed at its drop", LEFT_C4_MARK,
+     LEFT_C4_MARK.replace("o.at[23]", "o.at[23] if o.drop is None else"
+                          " o.drop")),
+    ("a withdrawn late store is never listed", LEFT_C3_IF, LEFT_C3_IF.replace(
+        "if o", "if o.drop is None and o")),
+    ("a withdrawn late store is listed if decided before its drop", LEFT_C3_IF,
+     LEFT_C3_IF.replace("if o.block in history.decided", "if"
+                        " history.decided.get(o.block, MOST) < (o.drop or"
+                        " MOST)").replace("    if", "    MOST = 10 ** 9\n"
+                                          "    if", 1)),
+    ("a withdrawn late store is listed if decided after its drop", LEFT_C3_IF,
+     LEFT_C3_IF.replace("if o.block in history.decided", "if"
+                        " history.decided.get(o.block, -1) > (o.drop or -1)")),
+    ("a withdrawn late store is listed at its drop", LEFT_C3, LEFT_C3.replace(
+        "history.inactive[o.block]", "history.inactive[o.block] if o.drop is"
+        " None else o.drop")),
+    ("a withdrawn late store is listed at its last step", LEFT_C3,
+     LEFT_C3.replace("history.inactive[o.block]", "history.inactive[o.block]"
+                     " if o.drop is None else max(o.at.values())")),
+    ("a withdrawn late store is listed whatever was decided", *left_out(
+        "o.drop is not None", "history.inactive[o.block]", '"C3"')),
+    ("a withdrawn late store is listed if it is undecided", *left_out(
+        "o.drop is not None and o.block not in history.decided",
+        "history.inactive[o.block]", '"C3"')),
+    ("a withdrawn call is forgotten", DROPPED, "self.calls.remove("
+     "self.under_way.pop(task))"),
+    ("a withdrawn call is forgotten by the next begin", BEGUN, BEGUN
+     + "\n            self.calls[:] = [o for o in self.calls if o.drop is None"
+     " or o.task != task]"),
+    ("a refused drop withdraws the call before", DROP, DROP + "\n        for o in"
+     " self.calls if result is not None else ():\n            if o.task == task:"
+     "\n                o.answer = None"),
     # the order
     ("ties by the higher task", KEY, KEY.replace("self.call.task",
                                                  "-self.call.task")),

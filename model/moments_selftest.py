@@ -4,13 +4,13 @@ of the printed list.
 
     moments_selftest.py [COUNT]
 
-P1 to P10 by hand.  Then COUNT drawn sessions, each judged from its printed text:
-every finished call is listed once and every unfinished one at most once, after
-its begin and not later than its last step; fed to plain cells in the printed
-order they give every finished call's answer; every moment is at a line that its
-rule names; and the abstract value (the source's AV) changes just where a swap
-that changes its cell is listed, and is what every other call saw.  Then the same
-sessions tell the wrong readings of moments_mutants.py.
+P1 to P10 by hand.  Then COUNT drawn sessions, some with drops, each judged from
+its printed text: every finished call is listed once and every unfinished or
+withdrawn one at most once, after its begin and not later than its last step; fed
+to plain cells in the printed order they give every finished call's answer; every
+moment is at a line that its rule names; and the abstract value (the source's AV)
+changes just where a swap that changes its cell is listed, and is what every other
+call saw.  Then the same sessions tell the wrong readings of moments_mutants.py.
 """
 
 import re
@@ -24,6 +24,7 @@ import reader
 import session
 import shaker
 from cases_calls import P1, P9, P10
+from cases_drop import late_stores
 from selftest import NewBlockEachTime
 
 NONE = cells.NONE
@@ -141,26 +142,22 @@ class Told:
         self.abstract = self.abstract_values()
 
     def act(self, i, action, under_way):
-        model = self.model
-        if not isinstance(action, reader.Step):
-            begin = (model.begin_read if isinstance(action, reader.Read)
-                     else model.begin_swap)
-            if begin(*action) is None:
-                under_way[action.task] = Call(i, action)
-                self.calls.append(under_way[action.task])
+        task, call = action.task, under_way.get(action.task)
+        if call is not None and isinstance(action, reader.Step):
+            record = self.model.tasks[task]
+            call.last = i
+            call.lines[i] = record.line, record.wanted_by
+            self.steps[i] = record.line, call.cell
+        result = self.model.act(action.word, *action)
+        if isinstance(result, cells.Refused):
             return
-        call = under_way.get(action.task)
-        if call is None:
-            model.step(action.task)
-            return
-        record = model.tasks[action.task]
-        call.last = i
-        call.lines[i] = record.line, record.wanted_by
-        self.steps[i] = record.line, call.cell
-        result = model.step(action.task)
         if result is not None:
             call.finished, call.answer = True, result.answer
-            del under_way[action.task]
+        if result is not None or isinstance(action, reader.Drop):
+            del under_way[task]
+        elif not isinstance(action, reader.Step):
+            under_way[task] = Call(i, action)
+            self.calls.append(under_way[task])
 
     def look(self, cell):
         block = self.model.current[cell]
@@ -225,6 +222,8 @@ def judge(data, text):
         if call.finished:
             claim("the answer on plain cells", answer == call.answer)
         else:
+            # "CR 8's tool lists a withdrawn swap by its rule for unfinished
+            # ones" (change request 12)
             claim("an unfinished one is listed as yes", answer is True)
         judge_abstract_value(told, call, i, side, answer)
         changes = answer is True and call.swap[0:1] != call.swap[1:]
@@ -282,8 +281,16 @@ def judge_abstract_value(told, call, i, side, answer):
 
 # ------------------------------------------------------------ drawn sessions
 
-def drawn_sessions(count):
-    drawn = draw.Draw(2008)
+def many_lives(drawn, drops):
+    """A few tasks on one cell; its blocks are filled again and again."""
+    n = drawn.between(2, 3)
+    return draw.draw_session(drawn, n, 1, cells.least_blocks(n, 1), draw.Style(
+        length=300, values=3, burst=drawn.between(1, 4), right_guess=95,
+        reads=10, equal=3, drops=drops))
+
+
+def drawn_sessions(count, drops=(0, 4, 12), seed=2008):
+    drawn = draw.Draw(seed)
     for number in range(count):
         n = drawn.pick((2, 2, 3, 3, 4, 6))
         v = drawn.between(1, 2)
@@ -292,12 +299,16 @@ def drawn_sessions(count):
             yield shaker.shake(drawn.below(2 ** 32), n, v, b,
                                drawn.between(20, 300))
             continue
+        if number % 5 in (2, 3):
+            maker = (late_stores, many_lives)[number % 5 - 2]
+            yield draw.text(maker(drawn, drawn.pick(drops)))
+            continue
         yield draw.text(draw.draw_session(drawn, n, v, b, draw.Style(
             length=drawn.between(20, 150), hot_cells=v,
             values=drawn.between(2, 4), burst=drawn.between(1, 8),
             refusals=drawn.pick((0, 5)), halts=drawn.below(3),
             reads=drawn.pick((10, 30)), equal=drawn.pick((5, 20)),
-            runs_out=drawn.pick((0, 30)))))
+            runs_out=drawn.pick((0, 30)), drops=drawn.pick(drops))))
 
 
 def judged(name, data):

@@ -44,6 +44,30 @@ DONE = """(done %d %s %d %s %d %d %d)" % (
             task, result.kind, result.cell, answer, result.steps,
             result.won, result.lost))"""
 
+# What a drop does, and what the session says of it.
+BLOCKS = "before = list(record.blocks())\n"
+CLEARS = BLOCKS + "        record.clear()\n"
+RELEASES = "self.move_counts(before, ())"
+ASKS_11 = "if (step or drop) and not self.tasks[task].busy:"
+ACTS = "        result = self.cells.act(action.word, *action)\n"
+WITHDRAWS = "            self.withdrawn(action.task)\n"
+
+
+def held_at_drop(condition, word, value):
+    """A drop stores this word of the held block as well."""
+    return CLEARS, ("if record.holds_a_block and %s:\n            self.pool["
+                    "WORDS * record.held + %s] = %s\n        "
+                    % (condition, word, value) + CLEARS)
+
+
+def kept_at_drop(*names):
+    """A drop leaves these fields of the record."""
+    return CLEARS, CLEARS.replace(
+        "record.clear()", "kept = [(name, getattr(record, name)) for name in %r]"
+        "\n        record.clear()\n        for name, value in kept:\n"
+        "            setattr(record, name, value)" % (names,))
+
+
 # What is misread; the file; the text replaced; the text put there.
 MISREADINGS = [
     # document 01, "Readings to keep out"
@@ -427,6 +451,85 @@ MISREADINGS = [
      "self.finished, unfinished, self.hard,",
      "self.finished, unfinished, self.hard"
      " + sum(record.hard for record in self.cells.tasks),"),
+    # change request 12
+    ("a drop keeps its blocks counted", "cells", RELEASES, "pass"),
+    ("a drop keeps the held block counted", "cells", BLOCKS,
+     BLOCKS.replace("\n", "[1:]\n")),
+    ("a drop keeps the taken block counted", "cells", BLOCKS,
+     BLOCKS.replace("\n", "[:1]\n")),
+    ("a drop frees its blocks for all", "cells", RELEASES,
+     "for block in before:\n            self.counts[block] = 0"),
+    ("a drop frees the cell's block", "cells", BLOCKS,
+     "before = [self.current[record.cell], *record.blocks()]\n"),
+    ("a drop takes the count of a block not yet held", "cells", BLOCKS,
+     "before = [record.held, *list(record.blocks())[1:]]\n"),
+    ("a drop resets Y", "cells", *held_at_drop("True", "Y", "0")),
+    ("a dropped winner resets Y", "cells",
+     *held_at_drop("20 <= record.line <= 26", "Y", "0")),
+    ("a dropped loser resets Y", "cells",
+     *held_at_drop("record.line in (19, 27)", "Y", "0")),
+    ("a drop resets X", "cells", *held_at_drop("True", "X", "NO_TASK")),
+    ("a drop makes the block inactive", "cells",
+     *held_at_drop("True", "C", "1")),
+    ("a dropped winner makes the block inactive", "cells",
+     *held_at_drop("19 <= record.line <= 26", "C", "1")),
+    ("a dropped store is taken back", "cells",
+     *held_at_drop("record.line in (24, 26)", "V", "record.expected")),
+    ("a drop at 23 stores", "cells",
+     *held_at_drop("record.line == 23", "V", "record.new")),
+    ("a drop decides an inactive block", "cells", *held_at_drop(
+        "self.pool[WORDS * record.held + C] and self.pool[WORDS *"
+        " record.held + D] == NONE", "D",
+        "self.pool[WORDS * record.held + V]")),
+    ("a dropped task at 30 installs its block", "cells", CLEARS,
+     "if record.line == 30 and self.current[record.cell] == record.held:\n"
+     "            count(self.counts, record.held, -1)\n"
+     "            count(self.counts, record.installing, 1)\n"
+     "            self.current[record.cell] = record.installing\n        "
+     + CLEARS),
+    ("a drop does the next line first", "cells", CLEARS,
+     "if record.line != 4:\n            self.do_line(task, record)\n        "
+     + CLEARS),
+    ("a drop leaves the steps", "cells", *kept_at_drop("steps")),
+    ("a drop leaves the won", "cells", *kept_at_drop("won")),
+    ("a drop leaves the lost", "cells", *kept_at_drop("lost")),
+    ("a drop leaves the task busy", "cells", *kept_at_drop(
+        "line", "wanted_by", "kind", "cell", "expected", "new", "held",
+        "installing")),
+    ("a dropped call begins anew", "cells", CLEARS, BLOCKS
+     + "        record.line = 10 if record.runs_read_lines else 15\n"),
+    ("an idle task may be dropped", "cells", ASKS_11,
+     ASKS_11.replace("(step or drop)", "step")),
+    ("a drop of an idle task gives 9", "cells", "            return 11\n",
+     "            return 9 if drop else 11\n"),
+    ("a drop of no task gives 11", "cells", "            return 7\n",
+     "            return 11 if drop else 7\n"),
+    ("a read is not dropped", "cells", ASKS_11, ASKS_11.replace(
+        "not self.tasks[task].busy", "(not self.tasks[task].busy or drop and"
+        " self.tasks[task].kind == READ)")),
+    ("a call without a step is not dropped", "cells", ASKS_11, ASKS_11.replace(
+        "not self.tasks[task].busy", "(not self.tasks[task].busy or drop and"
+        " not self.tasks[task].steps)")),
+    ("a drop is printed", "session", WITHDRAWS, WITHDRAWS
+     + "            self.out.append('(drop %d)' % action.task)\n"),
+    ("a withdrawn call counts as finished", "session", WITHDRAWS, WITHDRAWS
+     + "            self.finished += 1\n"),
+    ("a withdrawn call counts as unfinished", "session", WITHDRAWS, WITHDRAWS
+     + "            self.cells.tasks.append(cells.Record())\n"
+     "            self.cells.tasks[-1].line = 10\n"),
+    ("a withdrawn call's hardware swaps are counted", "session", ACTS,
+     "        if isinstance(action, reader.Drop) and action.task <"
+     " self.cells.n:\n"
+     "            self.hard += self.cells.tasks[action.task].hard\n" + ACTS),
+    ("a drop is no action", "reader", "    return 1\n",
+     "    return int(not isinstance(form, Drop))\n"),
+    ("a drop names a cell", "reader", "return Drop(*numbers(rest, 1))",
+     "return Drop(*numbers(rest, 2)[:1])"),
+    ("a drop's task may be left out", "reader", "return Drop(*numbers(rest, 1))",
+     "return Drop(*numbers(rest or [b'0'], 1))"),
+    ("no drop within again", "reader", "        count, = numbers(rest[:1], 1)\n",
+     "        if any(item[:1] == [b'drop'] for item in rest):\n"
+     "            raise Bad(14)\n        count, = numbers(rest[:1], 1)\n"),
     ("a refused open goes on to the end line", "session",
      "            self.refused(0, self.cells.number)\n            return\n",
      "            self.refused(0, self.cells.number)\n"
@@ -769,6 +872,22 @@ FIT_MISREADINGS = [
     ("fit alone takes the new limit", "    number = open_refusal(n, v, b, pool,"
      " values)\n", "    number = open_refusal(n, v, b if b != v + 2 * n - 1 else"
      " 0, pool, values)\n"),
+    # change request 12
+    ("a drop does not ask 6", ASK_FIT, ASK_FIT.replace("and not", "and not drop"
+                                                       " and not")),
+    ("a drop asks 20", AT_4, AT_4.replace("step", "(step or drop)")),
+    ("a refused drop clears the record", "            return 11\n",
+     "            self.tasks[task].clear()\n            return 11\n"),
+    ("a drop leaves the counts", RELEASES, "pass"),
+    ("a drop releases the held block alone", BLOCKS,
+     BLOCKS.replace("\n", "[:1]\n")),
+    ("a drop releases the taken block alone", BLOCKS,
+     BLOCKS.replace("\n", "[1:]\n")),
+    ("a drop clears the counts of its blocks", RELEASES,
+     "for block in before:\n            self.counts[block] = 0"),
+    *(("a drop leaves the record's %s" % name, *kept_at_drop(name))
+      for name in ("line", "wanted_by", "kind", "cell", "expected", "new",
+                   "held", "installing", "steps", "won", "lost")),
     ("20 is not asked", ASKS_20, "if False:"),
     ("every block used is not fit", "return 20\n", "return 6\n"),
     ("every block used gives 11", "return 20\n", "return 11\n"),

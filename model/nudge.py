@@ -5,7 +5,8 @@ answer?
     nudge.py T n < SESSION
 
 prints what `nudge T n` prints; n is how many calls T finished before the named
-one.  Written from document 02 (CR 9), document 01 and the design page, alone.
+one.  Written from document 02 (CR 9 and 12), document 01 and the design page,
+alone.
 """
 
 from collections import Counter
@@ -41,11 +42,7 @@ def opened(opening):
 
 
 def act(model, action):
-    if isinstance(action, reader.Step):
-        return model.step(*action)
-    if isinstance(action, reader.Read):
-        return model.begin_read(*action)
-    return model.begin_swap(*action)
+    return model.act(action.word, *action)
 
 
 def find_call(opening, actions, task, n):
@@ -58,7 +55,7 @@ def find_call(opening, actions, task, n):
         result = act(model, action)
         if action.task != task or isinstance(result, cells.Refused):
             continue
-        if not isinstance(action, reader.Step):
+        if isinstance(action, (reader.Read, reader.Swap)):
             begin = i
         elif isinstance(result, cells.Finished):
             if before == n:
@@ -69,15 +66,19 @@ def find_call(opening, actions, task, n):
 
 def becomes(opening, actions, begin):
     """What becomes of the call that this action begins: NOT_BEGUN, UNFINISHED
-    or its answer."""
+    or its answer.  A withdrawn call "ends there without finishing" (change
+    request 12)."""
     model = opened(opening)
     task = actions[begin].task
     for i, action in enumerate(actions):
         result = act(model, action)
         if i == begin and isinstance(result, cells.Refused):
             return NOT_BEGUN
-        if (i > begin and action.task == task
-                and isinstance(result, cells.Finished)):
+        if i <= begin or action.task != task:
+            continue
+        if isinstance(action, reader.Drop):
+            return UNFINISHED
+        if isinstance(result, cells.Finished):
             return result.answer
     return UNFINISHED
 

@@ -23,6 +23,11 @@ from cases_calls import P1
 
 EACH = "for i in range(len(actions) - 1):"
 SAME = "if actions[i].task == actions[i + 1].task:"
+DROPPED = "        if isinstance(action, reader.Drop):\n"
+AFTER = "        if i <= begin or action.task != task:\n"
+ENDS = """        elif isinstance(result, cells.Finished):
+            if before == n:
+"""
 FOLLOW = """    if begin == i:
         return begin + 1
     if begin == i + 1:
@@ -131,6 +136,25 @@ MISREADINGS = [
      "        if became == answer and task_ends(opening, actions) !="
      " task_ends(opening, exchanged(actions, i)):\n"
      "            became = None"),
+    # drops (change request 12)
+    ("a drop does not end the call", DROPPED, "        if False:\n"),
+    ("any task's drop ends the call", AFTER, "        if i > begin and"
+     " isinstance(action, reader.Drop):\n            return UNFINISHED\n"
+     + AFTER),
+    ("a refused drop before the begin ends the call", AFTER, "        if"
+     " isinstance(action, reader.Drop) and action.task == task:\n"
+     "            return UNFINISHED\n" + AFTER),
+    ("a drop is nobody's", SAME, "if actions[i].task == actions[i + 1].task and"
+     " 'drop' not in (actions[i].word, actions[i + 1].word):"),
+    ("drops are left out before", "    begin, _, answer = trace.named\n",
+     "    actions = [action for action in actions if action.word != 'drop']\n"
+     "    trace.named = find_call(opening, actions, task, n)\n"
+     "    begin, _, answer = trace.named\n"),
+    ("n counts withdrawn calls", ENDS, "        elif isinstance(action,"
+     " reader.Drop):\n            before += 1\n" + ENDS),
+    ("a withdrawn call is named too", ENDS, "        elif isinstance(action,"
+     " reader.Drop) and before == n:\n            return begin, i, UNFINISHED\n"
+     + ENDS),
     # the named call
     ("n is counted from 1", FOUND, FOUND.replace("before == n",
                                                  "before + 1 == n")),

@@ -3,12 +3,13 @@
 
     nudge_selftest.py [COUNT]
 
-COUNT drawn sessions, and the stored ones that are short: for every finished call and every exchange of neighbours of
-different tasks the exchanged session is written as a file of its own and run by
-the figure with a new block each time (moments.History); the earliest one that
-matters is what nudge.py prints.  An exchange of a begin, of a refused action and
-of any actions after the call's last step and the next matters never.  Then the
-refusals in their order, and the arguments.
+COUNT drawn sessions, some with drops, and the stored ones that are short: for
+every finished call and every exchange of neighbours of different tasks the
+exchanged session is written as a file of its own and run by the figure with a new
+block each time (moments.History); the earliest one that matters is what nudge.py
+prints.  An exchange of a begin, of a drop, of a refused action and of any actions
+after the call's last step and the next matters never.  Then the refusals in their
+order, and the arguments.
 """
 
 import sys
@@ -18,7 +19,6 @@ import draw
 import make_nudge_cases
 import moments
 import nudge
-import reader
 import shaker
 import tools
 from cases_calls import P1
@@ -81,7 +81,8 @@ def drawn_sessions(count):
             drawn, n, v, cells.least_blocks(n, v), draw.Style(
                 length=drawn.between(15, 45), hot_cells=v, values=3,
                 burst=drawn.between(1, 4), right_guess=80,
-                refusals=drawn.pick((0, 8)), runs_out=drawn.pick((0, 30)))))
+                refusals=drawn.pick((0, 8)), runs_out=drawn.pick((0, 30)),
+                drops=drawn.pick((0, 5, 15)))))
 
 
 def stored_sessions():
@@ -114,6 +115,7 @@ def told_two_ways(data):
         check("nudge %d %d of\n%s" % (o.task, n, data.decode()),
               nudge.run(o.task, n, data), wanted)
         for i in found:
+            # a drop is no step
             check("two steps, not after the last and the next", (
                 i in steps, i + 1 in steps, i <= max(o.at.values()),
                 {i, i + 1} & begins), (True, True, True, set()))

@@ -1,8 +1,8 @@
 """The session file: questions 12 to 15, in their order.
 
-Written from document 01 alone: "Questions before anything is done", session
-file, and "Sessions in brackets".  Each question is asked of the whole file
-before the next one.
+Written from document 01 ("Questions before anything is done", session file,
+and "Sessions in brackets") and change request 12 of document 02, alone.  Each
+question is asked of the whole file before the next one.
 """
 
 import re
@@ -84,9 +84,12 @@ class Open(NamedTuple):
     values: tuple
 
 
+# The actions, each with the word of its form.
+
 class Read(NamedTuple):
     task: int
     cell: int
+    word = "read"
 
 
 class Swap(NamedTuple):
@@ -94,10 +97,19 @@ class Swap(NamedTuple):
     cell: int
     expected: int
     new: int
+    word = "swap"
 
 
 class Step(NamedTuple):
     task: int
+    word = "step"
+
+
+class Drop(NamedTuple):
+    """"Add `(drop T)`" (change request 12)."""
+
+    task: int
+    word = "drop"
 
 
 class Again(NamedTuple):
@@ -146,6 +158,8 @@ def repeatable_form(items):
         return Swap(*numbers(rest, 4))
     if word == b"step":
         return Step(*numbers(rest, 1))
+    if word == b"drop":
+        return Drop(*numbers(rest, 1))
     if word == b"again":
         count, = numbers(rest[:1], 1)
         return Again(count, tuple(map(repeatable_form, rest[1:])))
@@ -156,7 +170,8 @@ def repeatable_form(items):
 
 def count_actions(form):
     """The actions of a form after repeating.  An again is none itself: "Its
-    actions are begins of a read, begins of a swap and steps"."""
+    actions are begins of a read, begins of a swap and steps", and "Demand 3's
+    list now holds drops too" (change request 12)."""
     if isinstance(form, Again):
         return form.count * sum(map(count_actions, form.forms))
     return 1

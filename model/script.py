@@ -15,15 +15,19 @@ class Script:
         self.model = cells.open_cells(n, v, b, [0] * (5 * b), values, False)
         assert isinstance(self.model, cells.Cells)
 
-    def read(self, task, cell):
-        assert self.model.begin_read(task, cell) is None
-        self.lines.append("(read %d %d)" % (task, cell))
+    def act(self, *action):
+        assert self.model.act(*action) is None
+        self.lines.append(draw.form(action))
         return self
 
+    def read(self, task, cell):
+        return self.act("read", task, cell)
+
     def swap(self, task, cell, expected, new):
-        assert self.model.begin_swap(task, cell, expected, new) is None
-        self.lines.append("(swap %d %d %d %d)" % (task, cell, expected, new))
-        return self
+        return self.act("swap", task, cell, expected, new)
+
+    def drop(self, task):
+        return self.act("drop", task)
 
     def step(self, task, count=1):
         for _ in range(count):

@@ -9,6 +9,7 @@ and that an attempt is won where it changes memory and lost where it does not.
 """
 
 import sys
+from collections import Counter
 from fractions import Fraction
 
 import attempts
@@ -207,11 +208,9 @@ def every_refusal_changes_nothing():
         model = cells.open_cells(n, v, b, [7] * (5 * b), [1] * v)
         draw.draw_actions(drawn, model, draw.Style(length=30))
         for _ in range(40):
-            word, *args = draw.draw_refused(drawn, model)
+            action = draw.draw_refused(drawn, model, True)
             before = everything(model)
-            result = {"read": model.begin_read, "swap": model.begin_swap,
-                      "step": model.step}[word](*args)
-            if isinstance(result, cells.Refused):
+            if isinstance(model.act(*action), cells.Refused):
                 check("a refusal changes nothing", everything(model), before)
 
 
@@ -257,8 +256,8 @@ def unfit_states_are_refused():
             # the counts are true of what is damaged
             model.counts = model.fresh_counts()
         check("unfit", (model.begin_read(9, 9), model.step(9), model.look(9),
-                        model.begin_swap(9, 9, 9, 9)),
-              (cells.Refused(6),) * 4)
+                        model.begin_swap(9, 9, 9, 9), model.drop(9)),
+              (cells.Refused(6),) * 5)
     # "how many times it is used" is asked of blocks alone: those below B
     for block in range(5, cells.MOST_BLOCKS):
         model = cells.open_cells(2, 1, 5, [0] * 25, [5])
@@ -490,17 +489,18 @@ def attempts_by_the_papers():
 def attempts_told_by_memory(model, actions):
     """Runs the actions.  From a fresh opening an attempt is won exactly if it
     changes memory: D becomes other than none, or the cell's block another.  And
-    after each step the counts of uses are those of a reading."""
+    after each action the counts of uses are those of a reading."""
     def memory():
         return list(model.pool), list(model.current)
 
     tries = {}
     for word, task, *numbers in actions:
-        if word != "step":
-            begin = model.begin_read if word == "read" else model.begin_swap
-            begin(task, *numbers)
-            continue
-        if task >= model.n or not model.tasks[task].busy:
+        if word != "step" or task >= model.n or not model.tasks[task].busy:
+            model.act(word, task, *numbers)
+            if word == "drop":
+                tries.pop(task, None)
+            check("counts of uses", model.counts[:model.b],
+                  counts_by_reading(model))
             continue
         record = model.tasks[task]
         line, before = record.line, memory()
@@ -552,10 +552,8 @@ def counts_by_reading(model):
     return used
 
 
-def count_answers(module, line, wanted, c, d, current, held, taken, other_held,
-                  other_taken):
-    """Whether the state is fit, whether task 0's step ends its call, the counts
-    after it, and how they differ from a reading."""
+def count_state(module, line, wanted, c, d, current, held, taken, other_held,
+                other_taken):
     model = module.open_cells(3, 2, 9, [0] * 45, [5, 6])
     model.current = [1, current]
     model.last_taken = 6
@@ -572,6 +570,13 @@ def count_answers(module, line, wanted, c, d, current, held, taken, other_held,
     record.held, record.installing, record.loaded = held, taken, 5
     model.pool[5 * held + 2], model.pool[5 * held + 4] = c, d
     model.counts = counts_by_reading(model) + [9] * 119
+    return model
+
+
+def count_answers(module, *state):
+    """Whether the state is fit, whether task 0's step ends its call, the counts
+    after it, and how they differ from a reading."""
+    model = count_state(module, *state)
     fit = model.is_fit()
     model.ask_fit = False
     result = model.step(0)
@@ -608,17 +613,34 @@ def open_figure(n, v, b, pool, values, ask_fit):
 
 
 class Call:
-    def __init__(self, begin, action, active):
+    """A begin that isn't refused; C and Y are those of its cell's block then."""
+
+    def __init__(self, begin, action, c=0, y=0):
         self.begin = begin
         self.word, self.task, self.cell, *self.swap = action
+        self.c, self.y = c, y
         self.last = begin      # its last step so far
         self.answer = None
         self.finished = False
-        self.hard = 0
-        self.unhindered = active
+        self.withdrawn = False
+        self.steps = self.hard = 0
+        self.alone = True      # no other unequal swap is unfinished meanwhile
 
     def is_unequal_swap(self):
         return bool(self.swap) and self.swap[0] != self.swap[1]
+
+    def makes_no_hardware_swap(self):
+        """"A call makes none if its cell's block was active at its begin and,
+        from then to its end, no other swap with unequal values is unfinished on
+        that cell" (demand 3); this "also needs Y false at the begin" (change
+        request 12).  A read, or a swap that becomes one, does not look at Y and
+        needs it not."""
+        return self.alone and not self.c and (
+            not self.y or not self.is_unequal_swap())
+
+    def needed_y_false(self):
+        """A hardware swap that Y alone explains."""
+        return self.alone and not self.c and self.y and self.hard
 
     def on_plain_cell(self, value):
         """The answer, and the cell's value after it."""
@@ -632,43 +654,47 @@ def calls_of(model, actions):
     """Runs the actions; the calls, for the tellings."""
     calls, under_way = [], {}
     for i, action in enumerate(actions):
-        word, task = action[0], action[1]
-        if word == "step":
-            result = model.step(task)
-            if isinstance(result, cells.Refused):
-                continue
+        word, task = action[:2]
+        result = model.act(*action)
+        if isinstance(result, cells.Refused):
+            continue
+        if word == "drop":
+            # "from there on it isn't unfinished either" (change request 12)
+            under_way.pop(task).withdrawn = True
+        elif word == "step":
             call = under_way[task]
             call.last = i
-            call.hard = result.hard if result else model.tasks[task].hard
+            count = result or model.tasks[task]
+            call.steps, call.hard = count.steps, count.hard
             if result:
                 call.answer, call.finished = result.answer, True
                 del under_way[task]
-            continue
-        begin = model.begin_read if word == "read" else model.begin_swap
-        if isinstance(begin(*action[1:]), cells.Refused):
-            continue
-        cell = action[2]
-        at = cells.WORDS * model.current[cell]
-        call = Call(i, action, model.pool[at + cells.C] == 0)
-        for other in under_way.values():
-            if other.cell == cell:
-                if call.is_unequal_swap():
-                    other.unhindered = False
-                if other.is_unequal_swap():
-                    call.unhindered = False
-        under_way[task] = call
-        calls.append(call)
+        else:
+            at = cells.WORDS * model.current[action[2]]
+            call = Call(i, action, model.pool[at + cells.C],
+                        model.pool[at + cells.Y])
+            meet(call, under_way.values())
+            under_way[task] = call
+            calls.append(call)
     return calls
+
+
+def meet(call, others):
+    """A call that begins, and those unfinished then."""
+    for other in others:
+        if other.cell == call.cell:
+            other.alone = other.alone and not call.is_unequal_swap()
+            call.alone = call.alone and not other.is_unequal_swap()
 
 
 def can_be_told(calls, start):
     """Whether some order of one cell's calls gives every finished one its
     answer: "Every finished call stands there once, and some unfinished ones
     once each, every one at a moment after its begin and no later than its
-    last step."""
+    last step."  "The sequential telling admits withdrawn calls as it does
+    unfinished ones" (change request 12)."""
     calls = [c for c in calls if c.last > c.begin or c.finished]
-    everyone = [i for i, c in enumerate(calls) if c.finished]
-    wanted = sum(1 << i for i in everyone)
+    wanted = sum(1 << i for i, c in enumerate(calls) if c.finished)
     before = [sum(1 << j for j, d in enumerate(calls) if d.last < c.begin)
               for c in calls]
     seen = set()
@@ -681,91 +707,123 @@ def can_be_told(calls, start):
             continue
         seen.add((told, value))
         for i, call in enumerate(calls):
-            if told >> i & 1:
-                continue
-            # finished calls that ended before it began come first; an
-            # unfinished one that did may no longer be told
-            if before[i] & wanted & ~told:
-                continue
-            if any(told >> j & 1 and before[j] >> i & 1
-                   for j in range(len(calls))):
+            # finished calls that ended before it began come first
+            if told >> i & 1 or before[i] & wanted & ~told:
                 continue
             answer, after = call.on_plain_cell(value)
             if call.finished and answer != call.answer:
                 continue
-            todo.append((told | 1 << i, after))
+            # one that is not finished may no longer be told after it if it
+            # had done its last step before
+            todo.append((told | 1 << i | before[i], after))
     return False
 
 
-def drawn_lists(count):
-    seen = session.Trace()
-    patterns = {}
-    halted = set()
-    drawn = draw.Draw(2003)
-    for number in range(count):
-        n = drawn.pick((2, 2, 3, 3, 4, 6))
-        v = drawn.between(1, 2)
-        b = cells.least_blocks(n, v) + drawn.pick((0, 0, 1, 5))
-        style = draw.Style(length=drawn.between(20, 120), hot_cells=v,
-                           values=drawn.between(2, 4),
-                           burst=drawn.between(1, 7),
-                           refusals=drawn.pick((0, 5)),
-                           halts=drawn.below(3),
-                           runs_out=drawn.pick((0, 30)))
-        values = [drawn.below(style.values) for _ in range(v)]
-        model = cells.open_cells(n, v, b, [9] * (5 * b), values)
-        actions = draw.draw_actions(drawn, model, style)
-        data = draw.text([draw.opening_line(n, v, b, values)]
-                         + draw.lines_of(actions))
-        name = "drawn list %d\n%s" % (number, data.decode())
+def drawn_list(drawn, drops):
+    """An opening, and actions drawn for it."""
+    n = drawn.pick((2, 2, 3, 3, 4, 6))
+    v = drawn.between(1, 2)
+    b = cells.least_blocks(n, v) + drawn.pick((0, 0, 1, 5))
+    style = draw.Style(length=drawn.between(20, 120), hot_cells=v,
+                       values=drawn.between(2, 4), burst=drawn.between(1, 7),
+                       refusals=drawn.pick((0, 5)), halts=drawn.below(3),
+                       runs_out=drawn.pick((0, 30)), drops=drawn.pick(drops))
+    values = [drawn.below(style.values) for _ in range(v)]
+    opening = n, v, b, values
+    return opening, draw.draw_actions(drawn, opened(opening), style)
 
+
+def opened(opening):
+    n, v, b, values = opening
+    return cells.open_cells(n, v, b, [9] * (5 * b), values)
+
+
+def text_of(opening, actions):
+    return draw.text([draw.opening_line(*opening)] + draw.lines_of(actions))
+
+
+class Lists:
+    """The claims on lists, and what the lists came by."""
+
+    def __init__(self):
+        self.paths = Counter()
+        self.patterns = {}
+        self.halted = set()     # next lines of those left unfinished
+        self.withdrawn = set()  # lines done last by those withdrawn
+        self.needed_y_false = 0
+
+    def judge(self, name, opening, actions):
+        self.judge_printed(name, text_of(opening, actions))
+        attempts_told_by_memory(opened(opening), actions)
+        calls = calls_of(opened(opening), actions)
+        for call in calls:
+            self.judge_call(name, call)
+        for cell, value in enumerate(opening[3]):
+            check(name + "the telling of cell %d" % cell, can_be_told(
+                [c for c in calls if c.cell == cell], value), True)
+
+    def judge_printed(self, name, data):
         trace = session.Trace()
         pool_text = session.run(data, trace, ask_fit=True)
         check(name + "the figure with a new block each time", pool_text,
               session.run(data, open_cells=open_figure))
-        for (task, finished, lines), tries in zip(trace.calls, trace.attempts):
+        for (_, finished, lines), tries in zip(trace.calls, trace.attempts):
             path = cells.path_of(lines)
             check(name + path, cells.counts_of(lines), cells.PATHS[path])
             check(name + path, (finished.steps, finished.won + finished.lost),
                   (cells.PATHS[path][0], cells.PATHS[path][3]))
-            patterns.setdefault(attempts.call_key(finished, lines),
-                                set()).add(tries or "-")
-        seen.paths.update(trace.paths)
-        seen.refusals.update(trace.refusals)
-        halted.update(line for line, _ in trace.next_lines)
+            self.patterns.setdefault(attempts.call_key(finished, lines),
+                                     set()).add(tries or "-")
+        self.paths.update(trace.paths)
+        self.halted.update(line for line, _ in trace.next_lines)
+        self.withdrawn.update(lines[-1] if lines else None
+                              for _, lines in trace.withdrawn)
         check(name + "questions 6 and 20",
               (trace.refusals[6], trace.refusals[20]), (0, 0))
 
-        model = cells.open_cells(n, v, b, [9] * (5 * b), values)
-        attempts_told_by_memory(model, actions)
-        model = cells.open_cells(n, v, b, [9] * (5 * b), values)
-        calls = calls_of(model, actions)
-        for call in calls:
-            if call.unhindered:
-                check(name + "no hardware swap", call.hard, 0)
-        for cell in range(v):
-            check(name + "the telling of cell %d" % cell, can_be_told(
-                [c for c in calls if c.cell == cell], values[cell]), True)
-    missing = set(cells.PATHS) - {cells.UNREACHED} - set(seen.paths)
-    check("paths not come by", missing, set())
-    if count >= 400:
-        check("lines of the fill that none halted at",
-              (cells.FILL_LINES | {30}) - halted, set())
-    check(cells.UNREACHED, seen.paths[cells.UNREACHED], 0)
-    for key, found in patterns.items():
-        check("patterns of %s %s %s that the search has not" % key,
-              found - set(attempts.PATTERNS[key].split(" ")), set())
-    if count >= 400:
-        check("patterns not come by", attempts.joined(patterns),
-              attempts.PATTERNS)
-    return sum(seen.paths.values())
+    def judge_call(self, name, call):
+        """"A read ends within 6 own steps with at most 1 hardware swap, a swap
+        within 17 with at most 3", since change request 2 within 21; one that is
+        not finished "has then done fewer steps than its kind's most"."""
+        steps, hard = (21, 3) if call.is_unequal_swap() else (6, 1)
+        check(name + "steps", call.steps <= steps - (not call.finished), True)
+        check(name + "hardware swaps", call.hard <= hard, True)
+        if call.makes_no_hardware_swap():
+            check(name + "no hardware swap", call.hard, 0)
+        self.needed_y_false += bool(call.needed_y_false())
+
+    def judge_coverage(self, all_patterns):
+        """What lists must come by, and what none does."""
+        missing = set(cells.PATHS) - {cells.UNREACHED} - set(self.paths)
+        check("paths not come by", missing, set())
+        check(cells.UNREACHED, self.paths[cells.UNREACHED], 0)
+        for key, found in self.patterns.items():
+            check("patterns of %s %s %s that the search has not" % key,
+                  found - set(attempts.PATTERNS[key].split(" ")), set())
+        if all_patterns:
+            check("lines of the fill that none halted at",
+                  (cells.FILL_LINES | {30}) - self.halted, set())
+            check("patterns not come by", attempts.joined(self.patterns),
+                  attempts.PATTERNS)
+
+
+def drawn_lists(count, drops=(0,), seed=2003):
+    """Lists with these percents of drops, judged."""
+    lists = Lists()
+    drawn = draw.Draw(seed)
+    for number in range(count):
+        opening, actions = drawn_list(drawn, drops)
+        name = "drawn list %d\n%s" % (number,
+                                      text_of(opening, actions).decode())
+        lists.judge(name, opening, actions)
+    lists.judge_coverage(count >= 400)
+    return lists
 
 
 def tellings_are_judged():
     """can_be_told on lists known to have a telling, or none."""
     def call(begin, last, swap, answer, finished=True):
-        c = Call(begin, ("swap", 0, 0, *swap) if swap else ("read", 0, 0),
-                 True)
+        c = Call(begin, ("swap", 0, 0, *swap) if swap else ("read", 0, 0))
         c.last, c.answer, c.finished = last, answer, finished
         return c
 
@@ -805,9 +863,10 @@ def main():
           dict(attempts_by_the_papers()))
     counts_are_kept()
     count = int(sys.argv[1]) if len(sys.argv) > 1 else 400
-    calls = drawn_lists(count)
+    lists = drawn_lists(count)
+    check("Y is true after a drop alone", lists.needed_y_false, 0)
     print("selftest: P1 to P10 and %d drawn lists with %d calls agree"
-          % (count, calls))
+          % (count, sum(lists.paths.values())))
 
 
 if __name__ == "__main__":

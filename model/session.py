@@ -22,6 +22,7 @@ class Trace:
         self.paths = Counter()     # the table's path -> how often
         self.calls = []            # (task, Finished, lines done), as finished
         self.attempts = []         # of each of them, w for won, l for lost
+        self.withdrawn = []        # (task, lines done), as dropped
         self.next_lines = []       # (line, wanted by) left by each task
 
     def finished(self, task, finished, lines, attempts):
@@ -70,14 +71,13 @@ class Session:
         self.end()
 
     def act(self, action):
-        if isinstance(action, reader.Step):
-            if self.trace is not None:
-                return self.traced_step(action.task)
-            return self.cells.step(action.task)
-        if isinstance(action, reader.Read):
-            return self.cells.begin_read(action.task, action.cell)
-        return self.cells.begin_swap(action.task, action.cell,
-                                     action.expected, action.new)
+        if self.trace is not None and isinstance(action, reader.Step):
+            return self.traced_step(action.task)
+        result = self.cells.act(action.word, *action)
+        # A drop that isn't refused prints nothing (change request 12).
+        if isinstance(action, reader.Drop) and result is None:
+            self.withdrawn(action.task)
+        return result
 
     def traced_step(self, task):
         """The step, with its line and what became of a hardware swap noted."""
@@ -93,6 +93,16 @@ class Session:
         self.attempts[task] += ("w" * (after.won - won)
                                 + "l" * (after.lost - lost))
         return result
+
+    def withdrawn(self, task):
+        if self.trace is not None:
+            self.trace.withdrawn.append((task, tuple(self.lines[task])))
+            self.forget(task)
+
+    def forget(self, task):
+        """The lines done are of one call."""
+        self.lines[task] = []
+        self.attempts[task] = ""
 
     # ------------------------------------------------------ printed lines
 
@@ -118,12 +128,12 @@ class Session:
         if self.trace is not None:
             self.trace.finished(task, result, self.lines[task],
                                 self.attempts[task])
-            self.lines[task] = []
-            self.attempts[task] = ""
+            self.forget(task)
 
     def end(self):
         """"At the end, for each cell, `(cell K value)` by look, then `(end f
-        u h r)`"."""
+        u h r)`".  "The end line counts a withdrawn call neither as finished nor
+        as unfinished" (change request 12)."""
         for k in range(self.cells.v):
             self.out.append("(cell %d %d)" % (k, self.cells.look(k)))
         unfinished = sum(record.busy for record in self.cells.tasks)

@@ -28,6 +28,7 @@ DRAWS = """    swaps = generator.draw() % 2 == 1
     new = generator.draw() % 4
 """
 BEGIN = "action = draw_begin(generator, task, v)"
+BEGUN = "model.act(action.word, *action)\n        actions"
 ASK_3 = """    number = cells.open_refusal(n, v, b, range(cells.WORDS * b), None)
     if number:
         return number
@@ -132,11 +133,10 @@ MISREADINGS = [
     ("a swap's values are kept unequal", *draws(
         "    new = generator.draw() % 4\n", "    new = generator.draw() % 4\n"
         "    while new == expected:\n        new = generator.draw() % 4\n")),
-    ("a begin also steps", "begin(model, action)\n        actions",
-     "begin(model, action)\n            model.step(task)\n        actions"),
-    ("a read is done with its begin", "begin(model, action)\n        actions",
-     "if isinstance(action, reader.Swap):\n"
-     "                begin(model, action)\n        actions"),
+    ("a begin also steps", BEGUN, BEGUN.replace(
+        "\n", "\n            model.step(task)\n")),
+    ("a read is done with its begin", BEGUN,
+     "if isinstance(action, reader.Swap):\n                " + BEGUN),
     ("a busy task may begin", BUSY, "if model.tasks[task].busy"
      " and model.tasks[task].steps < 20:"),
     ("a read takes three steps", BUSY, "if model.tasks[task].steps == 3 and"

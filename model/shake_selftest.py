@@ -94,8 +94,7 @@ def told_from_text(five):
     # one's: none is refused
     opening, actions = reader.read_session(text)
     check(name, opening, (n, v, b, (0,) * v))
-    check(name, ["(%s)" % " ".join(map(str, (shaker.WORDS[type(action)],
-                                             *action)))
+    check(name, ["(%s)" % " ".join(map(str, (action.word, *action)))
                  for action in actions], lines)
     trace = session.Trace()
     printed = session.run(text, trace, ask_fit=len(lines) < 300)

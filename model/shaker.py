@@ -61,7 +61,7 @@ def draw_actions(seed, n, v, b, length):
             model.step(task)
         else:
             action = draw_begin(generator, task, v)
-            begin(model, action)
+            model.act(action.word, *action)
         actions.append(action)
     return actions
 
@@ -78,18 +78,8 @@ def draw_begin(generator, task, v):
     return reader.Swap(task, cell, expected, new)
 
 
-def begin(model, action):
-    if isinstance(action, reader.Read):
-        model.begin_read(*action)
-    else:
-        model.begin_swap(*action)
-
-
-WORDS = {reader.Read: "read", reader.Swap: "swap", reader.Step: "step"}
-
-
 def line_of(action):
-    return "(%s %s)\n" % (WORDS[type(action)], " ".join(map(str, action)))
+    return "(%s %s)\n" % (action.word, " ".join(map(str, action)))
 
 
 def shake(seed, n, v, b, length):
