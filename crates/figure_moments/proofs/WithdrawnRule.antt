@@ -42,7 +42,7 @@ use Rattle.figure.proofs.Views.{view}
 use Rattle.figure.proofs.Worlds.{facts, pending-at, cellAfter, nextAfter, stepAfter}
 use Rattle.figure.proofs.Fixed.{Fixed, fixed-next}
 use Rattle.figure_moments.specs.Moments.{holdsBlock, Notes, noNotes, nothingNoted, noted, dropNoted, spotAt, stands, sees, moments}
-use Rattle.figure_moments.specs.WithdrawnRule.{Withdrawal, withdrawal, withdraws, withdrawals, effectOf, withdrawnSpot}
+use Rattle.figure_moments.specs.WithdrawnRule.{Withdrawal, keptOf, withdraws, withdrawals, effectOf, withdrawnSpot}
 use Rattle.figure_moments.proofs.Notes.{cond-true, cond-false, holds-block, figure-line-is, keeps-elsewhere, notes-stored, keeps-others, keeps-inactive}
 use Rattle.figure_moments.proofs.Known.{known}
 use Rattle.figure_moments.proofs.Drops.{parkedWorld, parkedNotes}
@@ -351,7 +351,7 @@ module _ (n v : ℕ) (w : World) (o : Notes) (w⁺ : World) (p : Notes) (g : Gho
                 inactive-at = λ z. upd-same (p .inactive) u (p .inactive t) ∙ notes .inactive;
               })
 
-    drop-ruled : On w w₂ → Ruled n (w₂, (dropNoted o t (sees w t), (w⁺₂, p₂))) (withdraw b t) (enterLine now r (drop t) (accepted untried)) (withdrawal w o t (b .pending t) ++ ys)
+    drop-ruled : On w w₂ → Ruled n (w₂, (dropNoted o t (sees w t), (w⁺₂, p₂))) (withdraw b t) (enterLine now r (drop t) (accepted untried)) (keptOf w o t (b .pending t) ++ ys)
     drop-ruled on = record {
       past = λ u. omega (arith, R .past u);
       calls = λ u d h. go u d (upd-some (b .pending) t none u d h);
@@ -365,7 +365,7 @@ module _ (n v : ℕ) (w : World) (o : Notes) (w⁺ : World) (p : Notes) (g : Gho
         old : Matches n w₂ w⁺₂ p₂ ys (b .withdrawn)
         old = matches-on n on (omega arith) stays-drop ys (b .withdrawn) (R .withdrawn)
 
-        with-new : (x : Option Call) → b .pending t ≡ x → Matches n w₂ w⁺₂ p₂ (withdrawal w o t x ++ ys) (alsoWithdrawn x (b .now) (b .withdrawn))
+        with-new : (x : Option Call) → b .pending t ≡ x → Matches n w₂ w⁺₂ p₂ (keptOf w o t x ++ ys) (alsoWithdrawn x (b .now) (b .withdrawn))
         with-new none h = old
         with-new (some c) h = ((refl, omega (arith, clock), subst (λ m. Kept w₂ w⁺₂ p₂ (n + m) (its-drop on c h)) clock (new-kept on c h)), old)
 

@@ -22,15 +22,15 @@ pub record Withdrawal : Type 0 where
   pub inactive : ℕ
 
 -- of task t's pending call
-abbrev pub withdrawal : World → Notes → ℕ → Option Call → List Withdrawal
-withdrawal w o t none = []
-withdrawal w o t (some c) = let r = w .records t in record { call = c; cell = r .cell; block = r .held; new = r .new; stored = o .stored t; storedActive = o .storedActive t; inactive = o .inactive t } ∷ []
+abbrev pub keptOf : World → Notes → ℕ → Option Call → List Withdrawal
+keptOf w o t none = []
+keptOf w o t (some c) = let r = w .records t in record { call = c; cell = r .cell; block = r .held; new = r .new; stored = o .stored t; storedActive = o .storedActive t; inactive = o .inactive t } ∷ []
 
 abbrev pub withdraws : World → Notes → Calls → Action → Event → List Withdrawal
 withdraws w o b (begin t op) e = []
 withdraws w o b (step t) e = []
 withdraws w o b (drop t) (refused n) = []
-withdraws w o b (drop t) (accepted x) = withdrawal w o t (b .pending t)
+withdraws w o b (drop t) (accepted x) = keptOf w o t (b .pending t)
 withdraws w o b (drop t) (answered x r) = []
 
 -- those so far, and those of the actions to come, the last one first
