@@ -200,7 +200,7 @@ module _ {S N : Type 0} {machine : S → Action → S × Event} {note : N → S 
               let same : t ≡ u = cc in
               (c, subst (λ n. everyone tasks (enter b (drop t) (accepted y)) (tasks + n) ≡ some c) (sym (r ∙ G .simulated .clock)) (d .parked), some-inj (sym (ap (M .doing (x .0)) same) ∙ (G .tracks t ∙ ap tallyOf busy)) h)
 
-  tracked-next : (x : S × N) (b : Calls) (ms es : List Mark) → Good x b ms es → (a : Action) → Tracked (M .doing) size (x .0) (machine (x .0) a .0) b a (machine (x .0) a .1)
+  pub tracked-next : (x : S × N) (b : Calls) (ms es : List Mark) → Good x b ms es → (a : Action) → Tracked (M .doing) size (x .0) (machine (x .0) a .0) b a (machine (x .0) a .1)
   tracked-next x b ms es G a = let m = G .simulated in tracked (M .doing) size (x .0) (machine (x .0) a .0) b (G .tracks) a (machine (x .0) a .1) (M .follows x (m .ghost) (known x b ms es G) (m .inv) a)
 
   pub good-next : (x : S × N) (b : Calls) (ms es : List Mark) → Good x b ms es → (a : Action) →

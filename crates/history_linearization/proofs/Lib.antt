@@ -16,5 +16,6 @@ pub mod Emitted
 pub mod EveryAction
 pub mod Moments
 pub mod Meets
+pub mod Undropped
 pub mod EndsWithin
 pub mod Unnamed

@@ -15,7 +15,7 @@ use Rattle.history_linearization.proofs.Tracks.{upd-some, tallied, tall
 use Rattle.history_linearization.proofs.MovesOne.{Onward, Dated, MovesOne, continues, last-one, ended-finished, last-withdrawn, dropped-withdrawn, moves-one}
 
 -- a call that is alone was so before
-alone-before : {t : ℕ} {b b' : Calls} → MovesOne 0 t b b' → (c d : Call) (n n' : ℕ) → c .start ≡ d .start → n ≤ n' → Alone b' d n' → Alone b c n
+pub alone-before : {t : ℕ} {b b' : Calls} → MovesOne 0 t b b' → (c d : Call) (n n' : ℕ) → c .start ≡ d .start → n ≤ n' → Alone b' d n' → Alone b c n
 alone-before {b' = b'} m c d n n' s le alone e k h unequal q ne =
     go (alone (r .0) (r .1) (r .2) (subst (λ (x : CallId). Unequal (x .op)) (r .3 .start) unequal) (cc (r .3 .start)) (λ z. ne (cc (r .3 .start))))
   where

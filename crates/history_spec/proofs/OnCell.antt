@@ -31,7 +31,7 @@ module _ {A : Type 0} (cell : A → ℕ) (idle : A) where
   -- A RECORD CHANGES
 
   module _ (f : ℕ → A) (t : ℕ) (q : A) where
-    on-other : (k u : ℕ) → u ≢ t → on (upd f t q) k u ≡ on f k u
+    pub on-other : (k u : ℕ) → u ≢ t → on (upd f t q) k u ≡ on f k u
     unfolding on
     on-other k u e = ap (λ r. cond (eqb (cell r) k) r idle) (upd-off f t q u e)
 

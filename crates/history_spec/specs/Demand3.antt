@@ -6,7 +6,7 @@ use mathlib.Core.List.{List, _++_}
 use Prim.Native.Nat.{ℕ, _≤_, _<_}
 use lib.ListN.{replicate}
 use Rattle.history_spec.specs.Basics.{_∈_}
-use Rattle.history_spec.specs.History.{Op, read, swap, cellOf, kindOf, Report, Action, step, Event, history, run, Call, attempts, FinishedCall, WithdrawnCall, Calls, noCalls, callsOf, CallOf, WellFormed}
+use Rattle.history_spec.specs.History.{Op, read, swap, cellOf, kindOf, Report, Action, step, drop, Event, history, run, Call, attempts, FinishedCall, WithdrawnCall, Calls, noCalls, callsOf, CallOf, WellFormed}
 use Rattle.history_spec.specs.Linearization.{Point, Linearizes}
 
 -- BOUNDS
@@ -56,6 +56,18 @@ Reads (swap k e n) = e ≡ n
 -- of those, where the cell is `Active` already: a read looks at no splitter
 abbrev pub NoHardwareReads : (List Action → ℕ → Type 0) → Calls → Type 0
 NoHardwareReads Active b = (c : Call) (n : ℕ) → CallOf b c n → Reads (c .start .op) → Active (c .start .before) (cellOf (c .start .op)) → Alone b c n → attempts c ≡ 0
+
+-- no swap with unequal values was withdrawn on c's cell before its begin
+abbrev pub NoneWithdrawn : Calls → Call → Type 0
+NoneWithdrawn b c = (w : WithdrawnCall) → w ∈ b .withdrawn → Unequal (w .call .start .op) → cellOf (w .call .start .op) ≡ cellOf (c .start .op) → c .start .at ≤ w .end
+
+-- of calls on such a cell, where it is `Active` already: only a withdrawn swap leaves more behind
+abbrev pub NoHardwareUndropped : (List Action → ℕ → Type 0) → Calls → Type 0
+NoHardwareUndropped Active b = (c : Call) (n : ℕ) → CallOf b c n → NoneWithdrawn b c → Active (c .start .before) (cellOf (c .start .op)) → Alone b c n → attempts c ≡ 0
+
+-- a list of begins and steps, as demand 3 was before CR 12
+abbrev pub NoDrops : List Action → Type 0
+NoDrops l = (t : ℕ) → drop t ∈ l → ⊥
 
 -- by the machine that was fed the actions l
 abbrev pub clearAfter : {S : Type 0} → (S → Action → S × Event) → S → (S → ℕ → Type 0) → List Action → ℕ → Type 0
