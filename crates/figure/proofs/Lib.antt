@@ -5,6 +5,7 @@ pub mod Views
 pub mod Operations
 pub mod Worlds
 pub mod Quietly
+pub mod Marks
 pub mod Fixed
 pub mod TracedCalls
 pub mod Exchange

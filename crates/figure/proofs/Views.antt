@@ -44,6 +44,9 @@ view w g k = record { cell = w .cell k; task = on (w .records) k; value = g .cel
 -- A RECORD CHANGES
 
 module _ (f : ℕ → Record) (t : ℕ) (q : Record) where
+  pub on-other : (k u : ℕ) → u ≢ t → on (upd f t q) k u ≡ on f k u
+  on-other = OnCell.on-other (λ (r : Record). r .cell) idle f t q
+
   pub on-changed : (k : ℕ) → (q .cell ≡ k) ⊎ (q ≡ idle) → on (upd f t q) k ≡ upd (on f k) t q
   on-changed = OnCell.on-changed (λ (r : Record). r .cell) idle f t q
 
