@@ -14,11 +14,13 @@ use Rattle.cells_spec.specs.declared.State.{State}
 use Rattle.figure_lines.specs.Record.{noValue}
 use Rattle.cells_spec.specs.Questions.{refusal, hasNone, openQuestions, answers}
 use Rattle.cells_spec.proofs.Tests.{nth, all-yes, none-of}
-use Rattle.history_spec.specs.History.{Action, Event, history, Call, callsOf}
-use Rattle.history_spec.specs.Demand3.{most, Demand3, Meets, Finishes, NoHardwareReads, clearAfter}
+use Rattle.history_spec.specs.History.{Action, Event, history, Call, noCalls, callsOf}
+use Rattle.history_spec.specs.Demand3.{most, Demand3, Meets, Finishes, NoHardware, NoHardwareReads, NoHardwareUndropped, NoDrops, clearAfter}
 use Rattle.history_linearization.proofs.EndsWithin.{ends-within}
+use Rattle.history_linearization.proofs.Undropped.{none-withdrawn}
 use Rattle.figure.specs.Figure.{figure, opening, active, clear}
 use Rattle.figure_moments.proofs.Simulation.{figure-meets-demand-3, figure-reads-quietly}
+use Rattle.figure_moments.proofs.Undropped.{figure-undropped-quietly}
 use Rattle.cells_spec.specs.Machine.{pool}
 use Rattle.cells_theorems.specs.Terms.{start}
 use Rattle.cells_theorems.proofs.Refines.{same-history}
@@ -60,6 +62,15 @@ module _ (old : State) (words : List ℕ) (tasks cells blocks : ℕ) (values : L
   pub cells-read-quietly : (actions : List Action) → NoHardwareReads (clearAfter figure (opening tasks cells values) active) (callsOf (history pool (start old words tasks cells blocks values) actions))
   cells-read-quietly actions = subst (λ (h : List (Action × Event)). NoHardwareReads (clearAfter figure (opening tasks cells values) active) (callsOf h)) (sym (same-history old words tasks cells blocks values allowed actions))
       (figure-reads-quietly tasks cells values starting-values actions)
+
+  -- So does every call, if no swap of unequal values was withdrawn on its cell before that.
+  pub cells-undropped-quietly : (actions : List Action) → NoHardwareUndropped (clearAfter figure (opening tasks cells values) active) (callsOf (history pool (start old words tasks cells blocks values) actions))
+  cells-undropped-quietly actions = subst (λ (h : List (Action × Event)). NoHardwareUndropped (clearAfter figure (opening tasks cells values) active) (callsOf h)) (sym (same-history old words tasks cells blocks values allowed actions))
+      (figure-undropped-quietly tasks cells values starting-values actions)
+
+  -- Demand 3's own sentence, of lists of begins and steps: a call attempts none if its cell's block was active at its begin and it is alone.
+  pub cells-quietly-without-drops : (actions : List Action) → NoDrops actions → NoHardware (clearAfter figure (opening tasks cells values) active) (callsOf (history pool (start old words tasks cells blocks values) actions))
+  cells-quietly-without-drops actions no-drops c n i = cells-undropped-quietly actions c n i (λ w j. absurd (rw (none-withdrawn pool (start old words tasks cells blocks values) noCalls actions no-drops) at j))
 
   -- From anywhere in any list, at most 6 further steps of its task finish a read, and at most 21 a swap.
   pub every-call-ends : (actions : List Action) (task : ℕ) (call : Call) → callsOf (history pool (start old words tasks cells blocks values) actions) .pending task ≡ some call

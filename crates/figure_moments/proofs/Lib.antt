@@ -9,6 +9,7 @@ pub mod Withdrawn
 pub mod Leaving
 pub mod Simulation
 pub mod Reachable
+pub mod Undropped
 pub mod Late
 pub mod WithdrawnRule
 pub mod RunExamples

@@ -457,7 +457,7 @@ module _ (tasks cells : ℕ) (values : List ℕ) (some-values : (cell : ℕ) →
       settled-is-not : (m : ℕ) → Sim.settled ≡ Sim.late (tasks + m) → ⊥
       settled-is-not m z = let y : _≡_ {A = ℕ} 0 1 = cc in omega arith
 
-  pub simulation : Sim.Simulation figure (watch tasks) (watchNames tasks) (opening tasks cells values) (noNotes, (opening tasks cells values, noNotes)) ready tasks cells (λ k. getD values k 0)
+  unfoldable pub simulation : Sim.Simulation figure (watch tasks) (watchNames tasks) (opening tasks cells values) (noNotes, (opening tasks cells values, noNotes)) ready tasks cells (λ k. getD values k 0)
   simulation = record {
     doing = doing;
     clock = clockOf;
