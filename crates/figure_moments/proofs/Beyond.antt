@@ -76,7 +76,7 @@ sightBy r q c = let h = holdsBlock r in let word = wordOf (c (r .cell)) (r .held
 abbrev notesOf : Notes → ℕ → Notes
 notesOf o u = record { now = o .now; loaded = λ v. o .loaded u; stored = λ v. o .stored u; storedActive = λ v. o .storedActive u; inactive = λ v. o .inactive u; decided = λ v. o .decided u; replaced = λ v. o .replaced u; waiting = λ k. none }
 
--- where number u's swap took effect is told by its record, its notes, and its block
+-- where number u's swap took effect is known by its record, its notes, and its block
 pub stands-alike : (w v : World) (o p : Notes) (u t : ℕ) → w .records u ≡ v .records t → w .cell ≡ v .cell → o .stored u ≡ p .stored t → o .storedActive u ≡ p .storedActive t → o .inactive u ≡ p .inactive t → stands o u (sees w u) ≡ stands p t (sees v t)
 stands-alike w v o p u t r c e f h = λ i.
     stands (record { now = 0; loaded = λ j. 0; stored = λ j. e i; storedActive = λ j. f i; inactive = λ j. h i; decided = λ j. 0; replaced = λ j. 0; waiting = λ k. none }) u (sightBy (r i) (r i) (c i))

@@ -158,7 +158,7 @@ must {values} {l = l} r (f ∷ fs) h k (inl e) =
     rw e (subst (λ (s : CallId). T (said (code (s .at) (f .report .answer)) (replies values l))) (a .1) (in-said (replies values l) (a .0, f .report .answer) (a .4)))
 must r (f ∷ fs) h k (inr i) = must r fs (λ g j. h g (inr j)) k i
 
--- the calls cs can be drawn in no order that has the wanted answers: `told` are those of the calls so far
+-- the calls cs can be drawn in no order that has the wanted answers: `given` are those of the calls so far
 module _ (cs : List Call) (answers : List ℕ) where
   -- c is one of the calls so far, or ended before one of them began
   abbrev barred : List Call → Call → Bool
@@ -166,8 +166,8 @@ module _ (cs : List Call) (answers : List ℕ) where
   barred (u ∷ used) c = (eqb (c .start .at) (u .start .at) || leb (c .last) (u .start .at)) || barred used c
 
   abbrev hopeless : ℕ → (ℕ → ℕ) → List Call → (ℕ → Bool) → Bool
-  hopeless zero cells used told = false
-  hopeless (suc n) cells used told = not (every told answers) && every (λ c. barred used c || hopeless n (apply cells (c .start .op)) (c ∷ used) (λ k. eqb k (says cells (c .start)) || told k)) cs
+  hopeless zero cells used given = false
+  hopeless (suc n) cells used given = not (every given answers) && every (λ c. barred used c || hopeless n (apply cells (c .start .op)) (c ∷ used) (λ k. eqb k (says cells (c .start)) || given k)) cs
 
   unbarred : (used : List Call) (c : Call) → ((u : Call) → u ∈ used → (c .start .at ≢ u .start .at) × (u .start .at < c .last)) → T (barred used c) → ⊥
   unbarred [] c h z = z
@@ -181,22 +181,22 @@ module _ (cs : List Call) (answers : List ℕ) where
       go r (inl e) = first (or-either (eqb (c .start .at) (u .start .at)) (leb (c .last) (u .start .at)) e)
       go r (inr e) = r e
 
-  sound : (n : ℕ) (cells : ℕ → ℕ) (used : List Call) (told : ℕ → Bool) (l : List Point) → Drawn cs l → Sorted l → Once (ats l) →
+  sound : (n : ℕ) (cells : ℕ → ℕ) (used : List Call) (given : ℕ → Bool) (l : List Point) → Drawn cs l → Sorted l → Once (ats l) →
       ((u : Call) → u ∈ used → (x : Point) → x ∈ l → (x .call .at ≢ u .start .at) × (u .start .at < x .moment)) →
-      ((k : ℕ) → k ∈ answers → T (said k (replies cells l) || told k)) → T (hopeless n cells used told) → ⊥
-  sound zero cells used told l d s o b w h = h
-  sound (suc n) cells used told [] d s o b w h = T-not (every told answers) (both (not (every told answers)) _ h .0) (in-every told answers w)
-  sound (suc n) cells used told (x ∷ l) d s o b w h =
+      ((k : ℕ) → k ∈ answers → T (said k (replies cells l) || given k)) → T (hopeless n cells used given) → ⊥
+  sound zero cells used given l d s o b w h = h
+  sound (suc n) cells used given [] d s o b w h = T-not (every given answers) (both (not (every given answers)) _ h .0) (in-every given answers w)
+  sound (suc n) cells used given (x ∷ l) d s o b w h =
       let c = d x (inl refl) in
       sound n (apply cells (c .0 .start .op)) (c .0 ∷ used) _ l (λ y i. d y (inr i)) (s .1) (o .1) (behind (c .0) (c .2)) (left (c .0) (c .2))
-      (free (c .0) (c .2) _ (every-in _ cs (both (not (every told answers)) _ h .1) (c .0) (c .1)))
+      (free (c .0) (c .2) _ (every-in _ cs (both (not (every given answers)) _ h .1) (c .0) (c .1)))
     where
       behind : (c : Call) → Is c x → (u : Call) → u ∈ (c ∷ used) → (y : Point) → y ∈ l → (y .call .at ≢ u .start .at) × (u .start .at < y .moment)
       behind c i u (inl e) y j = rw e ((λ q. o .0 (subst (λ n. n ∈ ats l) (q ∙ ap (λ (s : CallId). s .at) (sym (i .0))) (to-ats l y j))), omega (arith, s .0 y j, i .1))
       behind c i u (inr k) y j = b u k y (inr j)
 
-      left : (c : Call) → Is c x → (k : ℕ) → k ∈ answers → T (said k (replies (apply cells (c .start .op)) l) || (eqb k (says cells (c .start)) || told k))
-      left c i k m = subst (λ (s : CallId). T (said k (replies (apply cells (s .op)) l) || (eqb k (says cells s) || told k))) (i .0) (turned (eqb k (says cells (x .call))) _ (told k) (w k m))
+      left : (c : Call) → Is c x → (k : ℕ) → k ∈ answers → T (said k (replies (apply cells (c .start .op)) l) || (eqb k (says cells (c .start)) || given k))
+      left c i k m = subst (λ (s : CallId). T (said k (replies (apply cells (s .op)) l) || (eqb k (says cells s) || given k))) (i .0) (turned (eqb k (says cells (x .call))) _ (given k) (w k m))
 
       free : (c : Call) → Is c x → (t : Bool) → T (barred used c || t) → T t
       free c i t h = go (or-either (barred used c) t h)

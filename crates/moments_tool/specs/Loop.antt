@@ -37,11 +37,11 @@ deedOf (drop t) Acted = Dropped
 deedOf (drop t) (Ended f) = Nothing
 
 -- what the code's enum says
-abbrev pub told : sights.Deed → Deed
-told deed.Nothing = Nothing
-told deed.Moved = Moved
-told (deed.Answered a) = Answered (answerOf a)
-told deed.Dropped = Dropped
+abbrev pub deedMeant : sights.Deed → Deed
+deedMeant deed.Nothing = Nothing
+deedMeant deed.Moved = Moved
+deedMeant (deed.Answered a) = Answered (answerOf a)
+deedMeant deed.Dropped = Dropped
 
 -- the line of a step that is done, else 0
 abbrev pub notedLine : Deed → ℕ → ℕ

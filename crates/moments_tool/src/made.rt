@@ -17,7 +17,7 @@ ghost use Rattle.figure_lines.specs.Answers.{answerOf};
 ghost use Rattle.figure_lines.specs.Record.{opOf};
 ghost use Rattle.history_spec.specs.History.{Yes};
 ghost use Rattle.moments_tool.specs.Words.{wordWith, markWord};
-ghost use Rattle.moments_tool.specs.Loop.{told, endingSpot, standingSpot, standWord, landedWord, madeWord, decidedWaiter, droppedWaiter, nextWaiter};
+ghost use Rattle.moments_tool.specs.Loop.{deedMeant, endingSpot, standingSpot, standWord, landedWord, madeWord, decidedWaiter, droppedWaiter, nextWaiter};
 
 // The word of task t's call, which ends with that answer.
 fn ended_word(a: Answer, r: Record, x: Sight, o: Own, i: u16, t: u32) -> u32
@@ -67,7 +67,7 @@ fn landed_word(r: Record, x: Sight, w: Waiter) -> u32
 // The word that the action makes, or 0.
 pub fn made_word(d: Deed, r: Record, x: Sight, o: Own, w: Waiter, i: u16, t: u32) -> u32
     requires { ⌜ (t < 32) × (r .cell < 16) ⌝ }
-    ensures { λ n. ⌜ n ≡ madeWord (told d) i t r x o w ⌝ }
+    ensures { λ n. ⌜ n ≡ madeWord (deedMeant d) i t r x o w ⌝ }
 {
     match d {
         Deed::Nothing => 0,
@@ -102,7 +102,7 @@ fn dropped_waiter(r: Record, x: Sight, o: Own, w: Waiter, t: u32) -> Waiter
 // Who waits in the record's cell after the action.
 pub fn next_waiter(d: Deed, r: Record, x: Sight, o: Own, w: Waiter, t: u32) -> Waiter
     requires { ⌜ (t < 32) × (r .cell < 16) ⌝ }
-    ensures { λ v. ⌜ v ≡ nextWaiter (told d) t r x o w ⌝ }
+    ensures { λ v. ⌜ v ≡ nextWaiter (deedMeant d) t r x o w ⌝ }
 {
     match d {
         Deed::Nothing => w,

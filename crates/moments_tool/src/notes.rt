@@ -17,7 +17,7 @@ ghost use Rattle.figure_lines.specs.Record.{idle, recordAt};
 ghost use Rattle.cells_spec.specs.Answers.{said, actOf};
 ghost use Rattle.figure_moments.specs.Moments.{noted};
 ghost use Rattle.cells_spec.specs.Words.{recordsOf};
-ghost use Rattle.moments_tool.specs.Loop.{told, deedOf, notedLine, decides as «decidesOf», spreads as «spreadsOf»};
+ghost use Rattle.moments_tool.specs.Loop.{deedMeant, deedOf, notedLine, decides as «decidesOf», spreads as «spreadsOf»};
 ghost use Rattle.moments_tool.specs.Notes.{slot as «slotOf», sightIn, holdsWith, sightOf, nobodyWaits, withWaiting, notesOf, ownOf, Sized};
 
 // A word of the pool, 0 beyond it.
@@ -170,7 +170,7 @@ pub fn own_notes(
 }
 
 pub fn deed_of(a: Action, outcome: Outcome) -> Deed
-    ensures { λ d. ⌜ told d ≡ deedOf (actOf a) (said outcome) ⌝ }
+    ensures { λ d. ⌜ deedMeant d ≡ deedOf (actOf a) (said outcome) ⌝ }
 {
     match a {
         Action::Read(_, _) => Deed::Nothing,
@@ -193,7 +193,7 @@ pub fn deed_of(a: Action, outcome: Outcome) -> Deed
 
 // The line of a step that is done, else 0.
 pub fn noted_line(d: Deed, line: u32) -> u32
-    ensures { λ n. ⌜ n ≡ notedLine (told d) line ⌝ }
+    ensures { λ n. ⌜ n ≡ notedLine (deedMeant d) line ⌝ }
 {
     match d {
         Deed::Nothing => 0,

@@ -28,7 +28,7 @@ struct Tool {
     takes: usize,
 }
 
-// Folders are told apart by their first letter, those with s by their second and sixth.
+// Folders differ by their first letter, those with s by their second and sixth.
 fn tool_of(name: [u8; 4096]) -> Tool {
     let mut number = NONE;
     let mut takes = 0;

@@ -21,7 +21,7 @@ use Rattle.session_engine.proofs.Turning.{reached-small, reached-then}
 use Rattle.session_engine.proofs.Listed.{action-then, no-action}
 use Rattle.moments_tool.specs.Words.{Listed}
 use Rattle.moments_tool.specs.Notes.{slot, notesOf, Sized, nobody}
-use Rattle.moments_tool.specs.Loop.{told, allMarks}
+use Rattle.moments_tool.specs.Loop.{deedMeant, allMarks}
 use Rattle.moments_tool.proofs.Marking.{Marking, marks-start, coded, marks-on, marks-end}
 use Rattle.moments_tool.proofs.Starting.{reached-cell, reached-sizes, task-below, task-small}
 use Rattle.moments_tool.proofs.play.list_marks.Statement.{statement}
@@ -173,7 +173,7 @@ loop-again c =
     let m = subst (Marking a.tasks (whole a.tasks a.first a.pool.now a.forms.now a.kept.now) (s, l.pool) o l.waiting (take l.n l.list)) first (l .inv .0) in (
       marks-on s l.pool (records-length 32 l.records) few l.i l.loaded l.stored l.active l.inactive l.decided l.replaced l.waiting x t m d
           (u ∙ ap (λ (n : ℕ). slot n (s .tasks)) (y .before .before .before .task-of .ensures)) (deed .ensures) refl
-          (coded s l.pool (records-length 32 l.records) few l.i l.loaded l.stored l.active l.inactive l.decided l.replaced l.waiting t (told (deed .result)) (take l.n l.list) _ _ _
+          (coded s l.pool (records-length 32 l.records) few l.i l.loaded l.stored l.active l.inactive l.decided l.replaced l.waiting t (deedMeant (deed .result)) (take l.n l.list) _ _ _
           (w .holders .result) (y .record-at .ensures) (w .before .before .before .see-cell .ensures) own (c .before .before .noted-line .ensures) (w .before .spreads .ensures) (w .holders .ensures .0)
           (w .holders .ensures .1 .0) (task-small z (y .before .before .before .task-of .result) u refl .1) (f .1 .0) made (e .1 .0) (e .0 .2) (c .before .before .before .before .before .before .before .before .before .next-waiter .ensures) refl),
       f .0,
