@@ -1,5 +1,5 @@
 -- What the statement says of events, bounds and contention, at histories written out: what it accepts, and what it rules out.
-use mathlib.Core.Path.{_≡_, refl, ap, subst}
+use mathlib.Core.Path.{_≡_, refl, sym, ap, subst}
 use mathlib.Core.Logic.{_≢_, _⊎_, inl, inr}
 use mathlib.Core.Option.{none}
 use mathlib.Core.List.{List, [], _∷_, _++_}
@@ -8,9 +8,9 @@ use native.Mathlib.Omega.{arith}
 use lib.ListN.{replicate}
 use borrow.Author.Tests.{ne-eqb}
 use Rattle.history_spec.specs.Basics.{upd, _∈_}
-use Rattle.history_spec.specs.History.{Op, aRead, aSwap, kindOf, read, swap, Action, begin, step, drop, untried, success, failure, Event, refused, accepted, Response, Value, Yes, Call, attempts, FinishedCall, WithdrawnCall, Calls, noCalls, callsOf}
+use Rattle.history_spec.specs.History.{Op, aRead, aSwap, kindOf, read, swap, cellOf, Action, begin, step, drop, untried, success, failure, Event, refused, accepted, Response, Value, Yes, Call, attempts, FinishedCall, WithdrawnCall, Calls, noCalls, callsOf}
 use Rattle.history_spec.specs.History.{finished, pending, withdrawn, WellFormed}
-use Rattle.history_spec.specs.Demand3.{most, mostHard, Reports, Bounds, Unequal, Alone, NoHardware, Reads, NoHardwareReads}
+use Rattle.history_spec.specs.Demand3.{most, mostHard, Reports, Bounds, Unequal, Alone, NoHardware, Reads, NoHardwareReads, NoneWithdrawn, NoHardwareUndropped}
 use Rattle.history_spec.proofs.Basics.{either, clash}
 use Rattle.history_spec.proofs.Examples.{answers, the-calls, ended}
 
@@ -172,16 +172,47 @@ after-a-drop = (begin 0 (swap 0 5 7), accepted untried) ∷ (drop 0, accepted un
 abbrev after : FinishedCall
 after = ended 2 1 (swap 0 5 9) (begin 0 (swap 0 5 7) ∷ drop 0 ∷ []) 3 1 1 0 Yes
 
+none-pending : (t : ℕ) → (t ≡ 0) ⊎ (t ≢ 0) → (t ≡ 1) ⊎ (t ≢ 1) → callsOf after-a-drop .pending t ≡ none
+unfolding upd
+none-pending t (inl e) k = rw e
+none-pending t (inr e) (inl k) = rw k
+none-pending t (inr e) (inr k) = rw (ne-eqb t 0 e, ne-eqb t 1 k)
+
 pub no-hardware-CAS-after-a-drop : NoHardware (λ l k. Unit {0}) (callsOf after-a-drop) → ⊥
 unfolding upd
 no-hardware-CAS-after-a-drop h = omega (arith, h (after .call) 3 (finished after (inl refl)) tt alone)
   where
-    idle : (t : ℕ) → (t ≡ 0) ⊎ (t ≢ 0) → (t ≡ 1) ⊎ (t ≢ 1) → callsOf after-a-drop .pending t ≡ none
-    idle t (inl e) k = rw e
-    idle t (inr e) (inl k) = rw k
-    idle t (inr e) (inr k) = rw (ne-eqb t 0 e, ne-eqb t 1 k)
-
     alone : Alone (callsOf after-a-drop) (after .call) 3
     alone d n (finished f (inl e)) u q ne = absurd (ne (ap (λ (f : FinishedCall). f .call .start .at) e))
-    alone d n (pending t c h) u q ne = absurd (clash (idle t (either t 0) (either t 1)) h)
+    alone d n (pending t c h) u q ne = absurd (clash (none-pending t (either t 0) (either t 1)) h)
     alone d n (withdrawn w (inl e)) u q ne = inl (omega (arith, ap (λ (w : WithdrawnCall). w .end) e))
+
+-- where the block is active and Y may be true, that swap is right: one was withdrawn before its begin
+pub hardware-CAS-after-a-drop : NoHardwareUndropped (λ l k. Unit {0}) (callsOf after-a-drop)
+unfolding upd
+hardware-CAS-after-a-drop c n (finished f (inl e)) unwithdrawn active alone = absurd (omega (arith, ap (λ (f : FinishedCall). f .call .start .at) e, unwithdrawn _ (inl refl) (λ z. omega arith) (ap (λ (f : FinishedCall). cellOf (f .call .start .op)) (sym e))))
+hardware-CAS-after-a-drop c n (pending t d h) unwithdrawn active alone = absurd (clash (none-pending t (either t 0) (either t 1)) h)
+hardware-CAS-after-a-drop c n (withdrawn w (inl e)) unwithdrawn active alone = ap (λ (w : WithdrawnCall). attempts (w .call)) e
+
+-- WRONG: a swap does so alone, where the block is active and none was withdrawn before; that it is withdrawn later is no excuse
+abbrev then-dropped : List (Action × Event)
+then-dropped = (begin 0 (swap 0 5 7), accepted untried) ∷ (step 0, accepted success) ∷ (drop 0, accepted untried) ∷ []
+
+pub no-hardware-CAS-before-its-own-drop : NoHardwareUndropped (λ l k. Unit {0}) (callsOf then-dropped) → ⊥
+unfolding upd
+no-hardware-CAS-before-its-own-drop h = omega (arith, h (gone .call) 2 (withdrawn gone (inl refl)) none-before tt alone)
+  where
+    gone : WithdrawnCall
+    gone = record { call = record { start = record { at = 0; task = 0; op = swap 0 5 7; before = [] }; last = 1; steps = 1; won = 1; lost = 0 }; end = 2 }
+
+    none-before : NoneWithdrawn (callsOf then-dropped) (gone .call)
+    none-before w i u q = omega arith
+
+    alone : Alone (callsOf then-dropped) (gone .call) 2
+    alone d n (finished f i) u q ne = absurd i
+    alone d n (pending t c h) u q ne = absurd (clash (idle t (either t 0)) h)
+      where
+        idle : (t : ℕ) → (t ≡ 0) ⊎ (t ≢ 0) → callsOf then-dropped .pending t ≡ none
+        idle t (inl e) = rw e
+        idle t (inr e) = rw (ne-eqb t 0 e)
+    alone d n (withdrawn w (inl e)) u q ne = absurd (ne (ap (λ (w : WithdrawnCall). w .call .start .at) e))
