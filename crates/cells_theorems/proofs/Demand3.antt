@@ -63,7 +63,7 @@ module _ (old : State) (words : List ℕ) (tasks cells blocks : ℕ) (values : L
   cells-read-quietly actions = subst (λ (h : List (Action × Event)). NoHardwareReads (clearAfter figure (opening tasks cells values) active) (callsOf h)) (sym (same-history old words tasks cells blocks values allowed actions))
       (figure-reads-quietly tasks cells values starting-values actions)
 
-  -- So does every call, if no swap of unequal values was withdrawn on its cell before that.
+  -- So does every call, if no swap of unequal values was withdrawn on its cell before its begin.
   pub cells-undropped-quietly : (actions : List Action) → NoHardwareUndropped (clearAfter figure (opening tasks cells values) active) (callsOf (history pool (start old words tasks cells blocks values) actions))
   cells-undropped-quietly actions = subst (λ (h : List (Action × Event)). NoHardwareUndropped (clearAfter figure (opening tasks cells values) active) (callsOf h)) (sym (same-history old words tasks cells blocks values allowed actions))
       (figure-undropped-quietly tasks cells values starting-values actions)

@@ -7,11 +7,10 @@ use lib.ListN.{getD}
 use Rattle.figure_lines.specs.Record.{noValue}
 use Rattle.history_spec.specs.History.{Action, history, callsOf}
 use Rattle.history_spec.specs.Demand3.{NoHardwareUndropped, clearAfter}
-use Rattle.history_linearization.proofs.Simulation.{Ghost, Knowledge}
 use Rattle.history_linearization.proofs.Undropped.{Keeping, undropped-meet}
 use Rattle.figure.specs.Figure.{World, opening, figure, active}
 use Rattle.figure.proofs.Marks.{MarksIn, AllKnown, marks-next, marks-ready}
-use Rattle.figure_moments.proofs.Simulation.{Watched, Invariant, simulation}
+use Rattle.figure_moments.proofs.Simulation.{simulation}
 use Rattle.figure_moments.proofs.Reachable.{Reachable, reachedBy, knows, reached-task}
 
 all-known : (v : ℕ) (w : World) → Reachable v w → AllKnown w

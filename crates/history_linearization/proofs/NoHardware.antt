@@ -9,8 +9,8 @@ use Rattle.history_spec.specs.Basics.{_∈_}
 use Rattle.history_spec.specs.History.{Op, cellOf, Action, begin, step, drop, Attempt, untried, Event, accepted, answered, CallId, Call, attempts, FinishedCall, WithdrawnCall, Calls, called, advance, advanced, enter, CallOf, finished, pending, withdrawn}
 use Rattle.history_spec.specs.History.{run}
 use Rattle.history_spec.specs.Demand3.{Unequal, Alone}
-use Rattle.history_spec.proofs.Basics.{upd-same, clash, some-inj}
-use Rattle.history_linearization.proofs.Simulation.{Tally, QuietSteps, Quietly}
+use Rattle.history_spec.proofs.Basics.{upd-same, upd-off, clash, some-inj}
+use Rattle.history_linearization.proofs.Simulation.{Tally, Free, QuietSteps, Quietly}
 use Rattle.history_linearization.proofs.Tracks.{upd-some, tallied, tallyOf, call-of, Tracks, Change, refuses, starts, goes, ends, drops}
 use Rattle.history_linearization.proofs.MovesOne.{Onward, Dated, MovesOne, continues, last-one, ended-finished, last-withdrawn, dropped-withdrawn, moves-one}
 
@@ -25,6 +25,21 @@ alone-before {b' = b'} m c d n n' s le alone e k h unequal q ne =
     go : (r .1 ≤ d .start .at) ⊎ (n' ≤ r .0 .start .at) → (k ≤ c .start .at) ⊎ (n ≤ e .start .at)
     go (inl z) = inl (omega (arith, z, r .4, ap (λ (x : CallId). x .at) s))
     go (inr z) = inr (omega (arith, z, ap (λ (x : CallId). x .at) (r .3 .start)))
+
+-- two calls pending at n are not apart
+never-apart : {n k m : ℕ} → k ≤ n → m ≤ n → (suc n ≤ k) ⊎ (suc n ≤ m) → ⊥
+never-apart h i (inl z) = omega arith
+never-apart h i (inr z) = omega arith
+
+-- who begins alone finds no swap of unequal values pending on its cell
+pub alone-free : {S : Type 0} (doing : S → ℕ → Option Tally) (s : S) (b : Calls) → Tracks doing s b → Dated b → (t : ℕ) (op : Op) → b .pending t ≡ none →
+    let b' = enter b (begin t op) (accepted untried) in Alone b' (called b t op) (b' .now) → Free doing s (cellOf op)
+alone-free doing s b same dated t op idle l w n i u y =
+    let e = call-of (b .pending w) n (sym (same w) ∙ i) in
+    let z = dated .past w (e .0) (e .1) .0 in
+    let on = upd-off (b .pending) t (some (called b t op)) w (λ q. clash (ap (b .pending) q ∙ idle) (e .1)) ∙ e .1 in
+    never-apart (omega arith) (omega arith) (l (e .0) (suc (b .now)) (pending w (e .0) on)
+    (subst (λ (n : Tally). Unequal (n .op)) (sym (e .2)) u) (ap (λ (n : Tally). cellOf (n .op)) (e .2) ∙ y) (λ q. omega arith))
 
 module _ {S : Type 0} (machine : S → Action → S × Event) (start : S) (ready : S → Op → Type 0) (doing : S → ℕ → Option Tally) (Quiet : S → ℕ → Type 0) where
   -- the call began at a cell that was ready for it, and is alone until n
@@ -79,30 +94,15 @@ module _ {S : Type 0} (machine : S → Action → S × Event) (start : S) (ready
         b' : Calls
         b' = enter b (begin t op) (accepted untried)
 
-        on : (u : ℕ) (c : Call) → b .pending u ≡ some c → b' .pending u ≡ some c
-        on u c h = moves-one b dated {s = s} {s' = s'} (starts {x = untried} idle) .others u (λ q. clash idle (rw q at h)) ∙ h
-
-        -- two calls pending now are not apart
-        never : {n m : ℕ} → n ≤ b .now → m ≤ b .now → (suc (b .now) ≤ n) ⊎ (suc (b .now) ≤ m) → ⊥
-        never h i (inl z) = omega arith
-        never h i (inr z) = omega arith
-
         quiet : (u : ℕ) (d : Call) → Calm b' d (b' .now) → ((u ≡ t) × (some c0 ≡ some d)) ⊎ ((u ≢ t) × (b .pending u ≡ some d)) → Quiet s' u × (attempts d ≡ 0)
         quiet u d l (inl (q, h)) = rw q (subst (λ (d : Call). Calm b' d (b' .now) → Quiet s' t × (attempts d ≡ 0)) (some-inj {o = some c0} refl h) first l)
           where
             first : Calm b' c0 (b' .now) → Quiet s' t × (attempts c0 ≡ 0)
-            first (r, l) = (
-              p .new (rw reached r) (λ w n i x y.
-                  let e = call-of (b .pending w) n (sym (same w) ∙ i) in
-                  let z = dated .past w (e .0) (e .1) .0 in
-                  never (omega arith) (omega arith) (l (e .0) (b' .now) (pending w (e .0) (on w (e .0) (e .1)))
-                  (subst (λ (n : Tally). Unequal (n .op)) (sym (e .2)) x) (ap (λ (n : Tally). cellOf (n .op)) (e .2) ∙ y) (λ q. omega arith))),
-              refl,
-            )
+            first (r, l) = (p .new (rw reached r) (alone-free doing s b same dated t op idle l), refl)
         quiet u d (r, l) (inr (q, h)) =
             let w = was-quiet (starts {x = x} idle) u d d (suc (b .now)) h refl (omega arith) (r, l) in
             let z = dated .past u d h .0 in (
-              p .others u (tallied d) (same u ∙ ap tallyOf h) (λ x y. never (omega arith) (omega arith)
+              p .others u (tallied d) (same u ∙ ap tallyOf h) (λ x y. never-apart (omega arith) (omega arith)
                   (l c0 (b' .now) (pending t c0 (upd-same (b .pending) t (some c0))) x y (λ q. omega arith))) (w .0),
               w .1,
             )

@@ -5,16 +5,16 @@ use mathlib.Core.Option.{Option, none, some}
 use mathlib.Core.List.{List, [], _∷_}
 use Prim.Native.Nat.{ℕ, suc, _≤_}
 use native.Mathlib.Omega.{arith}
-use Rattle.history_spec.specs.Basics.{_∈_}
-use Rattle.history_spec.specs.History.{Op, cellOf, Action, begin, step, drop, untried, Event, refused, accepted, answered, history, run, CallId, Call, attempts, FinishedCall, WithdrawnCall, Calls, noCalls, called, advance, advanced, enter, enterAll, callsOf, CallOf, finished, pending, withdrawn}
+use Rattle.history_spec.specs.Basics.{upd, _∈_}
+use Rattle.history_spec.specs.History.{Op, cellOf, Action, begin, step, drop, untried, Event, refused, accepted, answered, history, run, CallId, Call, WithdrawnCall, Calls, noCalls, called, advance, advanced, enter, enterAll, callsOf, CallOf, finished, pending, withdrawn}
 use Rattle.history_spec.specs.Demand3.{Unequal, Alone, NoneWithdrawn, NoHardwareUndropped, NoDrops, clearAfter}
-use Rattle.history_spec.specs.Moments.{Mark, Names, beside, marked}
-use Rattle.history_spec.proofs.Basics.{upd-off, clash, some-inj}
+use Rattle.history_spec.specs.Moments.{Mark, Names, beside}
+use Rattle.history_spec.proofs.Basics.{upd-cases, clash, some-inj}
 use Rattle.history_linearization.proofs.Simulation.{Tally, Ghost, Knowledge, Free, Simulation}
-use Rattle.history_linearization.proofs.Tracks.{upd-some, tallied, tallyOf, call-of, Tracks, Change, refuses, starts, goes, ends, drops}
-use Rattle.history_linearization.proofs.MovesOne.{Dated, last-one, ended-finished, last-withdrawn, dropped-withdrawn, moves-one}
-use Rattle.history_linearization.proofs.Parked.{Ordered, is-there}
-use Rattle.history_linearization.proofs.NoHardware.{alone-before, no-hardware}
+use Rattle.history_linearization.proofs.Tracks.{upd-some, tallied, tallyOf, Change, refuses, starts, goes, ends, drops}
+use Rattle.history_linearization.proofs.MovesOne.{last-one, ended-finished, last-withdrawn, dropped-withdrawn, moves-one}
+use Rattle.history_linearization.proofs.Parked.{is-there}
+use Rattle.history_linearization.proofs.NoHardware.{alone-before, alone-free, no-hardware}
 use Rattle.history_linearization.proofs.EveryAction.{Good, good-start, good-next, tracked-next, at-end}
 
 -- a list without drops withdraws nothing
@@ -67,6 +67,16 @@ module _ {S N : Type 0} {machine : S → Action → S × Event} {note : N → S 
       was k c d n m i q le nv l = let o = moves-one b (G .dated) k in
           subst Finds q (h .began c n i (λ w j u z. rw q (nv w (o .kept-withdrawn w j) u (z ∙ ap (λ (i : CallId). cellOf (i .op)) q))) (alone-before o c d n m q le l))
 
+      -- one that did not move, and one of another task than the action's
+      same : {a : Action} {e : Event} → Change s (machine s a .0) b a e → (d : Call) (m : ℕ) → CallOf b d m → NoneWithdrawn (enter b a e) d → Alone (enter b a e) d m → Finds (d .start)
+      same k d m i = was k d d m m i refl (omega arith)
+
+      waits : {a : Action} {e : Event} → Change s (machine s a .0) b a e → (u : ℕ) (d : Call) → b .pending u ≡ some d → NoneWithdrawn (enter b a e) d → Alone (enter b a e) d (suc (b .now)) → Finds (d .start)
+      waits k u d i = was k d d (b .now) (suc (b .now)) (pending u d i) refl (omega arith)
+
+      another : (t u : ℕ) (d : Call) → upd (b .pending) t none u ≡ some d → b .pending u ≡ some d
+      another t u d = upd-cases (λ o. o ≡ some d → b .pending u ≡ some d) (b .pending) t none u (λ e z. absurd (clash refl z)) (λ e z. z)
+
       kept-next : {a : Action} {e : Event} → Change s (machine s a .0) b a e → (k : ℕ) → Never (enter b a e) k → Kept (machine s a .0) k
       kept-next (refuses q) k nv = subst (λ s. Kept s k) (sym q) (h .kept k nv)
       kept-next (starts {t} {op} idle) k nv = K .keeps x _ _ (G .simulated .inv) (begin t op) k tt (h .kept k nv)
@@ -83,59 +93,38 @@ module _ {S N : Type 0} {machine : S → Action → S × Event} {note : N → S 
 
       -- a call that begins
       finds-first : (t : ℕ) (op : Op) → b .pending t ≡ none → let b' = enter b (begin t op) (accepted untried) in let c = called b t op in NoneWithdrawn b' c → Alone b' c (b' .now) → Finds (c .start)
-      finds-first t op idle nv l = rw (sym (G .reached)) (K .found x _ _ (G .simulated .inv) op free (h .kept (cellOf op) never))
+      finds-first t op idle nv l = rw (sym (G .reached)) (K .found x _ _ (G .simulated .inv) op (alone-free (M .doing) s b (G .tracks) (G .dated) t op idle l) (h .kept (cellOf op) never))
         where
-          b' : Calls
-          b' = enter b (begin t op) (accepted untried)
-
           never : Never b (cellOf op)
           never w i u z = omega (arith, nv w i u z, is-there (b .withdrawn) (b .now) (G .ordered) w i .0)
 
-          apart : {n m : ℕ} → n ≤ b .now → m ≤ b .now → (suc (b .now) ≤ n) ⊎ (suc (b .now) ≤ m) → ⊥
-          apart p q (inl z) = omega arith
-          apart p q (inr z) = omega arith
-
-          free : Free (M .doing) s (cellOf op)
-          free w n i u y =
-              let e = call-of (b .pending w) n (sym (G .tracks w) ∙ i) in
-              let z = G .dated .past w (e .0) (e .1) .0 in
-              let other : w ≢ t = λ q. clash (ap (b .pending) q ∙ idle) (e .1) in
-              apart (omega arith) (omega arith) (l (e .0) (b' .now) (pending w (e .0) (upd-off (b .pending) t (some (called b t op)) w other ∙ e .1))
-              (subst (λ (n : Tally). Unequal (n .op)) (sym (e .2)) u) (ap (λ (n : Tally). cellOf (n .op)) (e .2) ∙ y) (λ q. omega arith))
-
+      -- every call went on, or begins
       began-next : {a : Action} {e : Event} → Change s (machine s a .0) b a e → (d : Call) (m : ℕ) → CallOf (enter b a e) d m → NoneWithdrawn (enter b a e) d → Alone (enter b a e) d m → Finds (d .start)
-      began-next (refuses {a} {r} z) d m (finished f i) = was (refuses {a = a} {r = r} z) d d m m (finished f i) refl (omega arith)
-      began-next (refuses {a} {r} z) d m (withdrawn w i) = was (refuses {a = a} {r = r} z) d d m m (withdrawn w i) refl (omega arith)
-      began-next (refuses {a} {r} z) d m (pending u c i) = was (refuses {a = a} {r = r} z) d d (b .now) m (pending u c i) refl (omega arith)
-      began-next (starts {t} {op} {x = y} idle) d m (finished f i) = was (starts {x = y} idle) d d m m (finished f i) refl (omega arith)
-      began-next (starts {t} {op} {x = y} idle) d m (withdrawn w i) = was (starts {x = y} idle) d d m m (withdrawn w i) refl (omega arith)
+      began-next (refuses {a} {r} z) d m (finished f i) = same (refuses {a = a} {r = r} z) d m (finished f i)
+      began-next (refuses {a} {r} z) d m (withdrawn w i) = same (refuses {a = a} {r = r} z) d m (withdrawn w i)
+      began-next (refuses {a} {r} z) d m (pending u c i) = waits (refuses {a = a} {r = r} z) u d i
+      began-next (starts {x = y} idle) d m (finished f i) = same (starts {x = y} idle) d m (finished f i)
+      began-next (starts {x = y} idle) d m (withdrawn w i) = same (starts {x = y} idle) d m (withdrawn w i)
       began-next (starts {t} {op} {x = y} idle) d m (pending u c i) = go (upd-some (b .pending) t (some (called b t op)) u d i)
         where
           b' : Calls
           b' = enter b (begin t op) (accepted untried)
 
-          go : ((u ≡ t) × (some (called b t op) ≡ some d)) ⊎ ((u ≢ t) × (b .pending u ≡ some d)) → NoneWithdrawn b' d → Alone b' d (b' .now) → Finds (d .start)
-          go (inl (q, j)) = subst (λ (d : Call). NoneWithdrawn b' d → Alone b' d (b' .now) → Finds (d .start)) (some-inj {o = some (called b t op)} refl j) (finds-first t op idle)
-          go (inr (q, j)) = was (starts {x = y} idle) d d (b .now) (b' .now) (pending u d j) refl (omega arith)
-      began-next (goes {t} {x = y} c busy) d m (finished f i) = was (goes {x = y} c busy) d d m m (finished f i) refl (omega arith)
-      began-next (goes {t} {x = y} c busy) d m (withdrawn w i) = was (goes {x = y} c busy) d d m m (withdrawn w i) refl (omega arith)
+          go : ((u ≡ t) × (some (called b t op) ≡ some d)) ⊎ ((u ≢ t) × (b .pending u ≡ some d)) → NoneWithdrawn b' d → Alone b' d (suc (b .now)) → Finds (d .start)
+          go (inl (q, j)) = subst (λ (d : Call). NoneWithdrawn b' d → Alone b' d (suc (b .now)) → Finds (d .start)) (some-inj {o = some (called b t op)} refl j) (finds-first t op idle)
+          go (inr (q, j)) = waits (starts {x = y} idle) u d j
+      began-next (goes {x = y} c busy) d m (finished f i) = same (goes {x = y} c busy) d m (finished f i)
+      began-next (goes {x = y} c busy) d m (withdrawn w i) = same (goes {x = y} c busy) d m (withdrawn w i)
       began-next (goes {t} {x = y} c busy) d m (pending u e i) = go (upd-some (b .pending) t (advanced b y (b .pending t)) u d i)
         where
           b' : Calls
           b' = enter b (step t) (accepted y)
 
-          go : ((u ≡ t) × (advanced b y (b .pending t) ≡ some d)) ⊎ ((u ≢ t) × (b .pending u ≡ some d)) → NoneWithdrawn b' d → Alone b' d (b' .now) → Finds (d .start)
-          go (inl (q, j)) = was (goes {x = y} c busy) c d (b .now) (b' .now) (pending t c busy) (ap (λ (c : Call). c .start) (some-inj (ap (advanced b y) busy) j)) (omega arith)
-          go (inr (q, j)) = was (goes {x = y} c busy) d d (b .now) (b' .now) (pending u d j) refl (omega arith)
-      began-next (ends {t} {x = y} {r} c busy p q) d m (withdrawn w i) = was (ends {x = y} {r = r} c busy p q) d d m m (withdrawn w i) refl (omega arith)
-      began-next (ends {t} {x = y} {r} c busy p q) d m (pending u e i) = go (upd-some (b .pending) t none u d i)
-        where
-          b' : Calls
-          b' = enter b (step t) (answered y r)
-
-          go : ((u ≡ t) × (none ≡ some d)) ⊎ ((u ≢ t) × (b .pending u ≡ some d)) → NoneWithdrawn b' d → Alone b' d (b' .now) → Finds (d .start)
-          go (inl (z, j)) = absurd (clash refl j)
-          go (inr (z, j)) = was (ends {x = y} {r = r} c busy p q) d d (b .now) (b' .now) (pending u d j) refl (omega arith)
+          go : ((u ≡ t) × (advanced b y (b .pending t) ≡ some d)) ⊎ ((u ≢ t) × (b .pending u ≡ some d)) → NoneWithdrawn b' d → Alone b' d (suc (b .now)) → Finds (d .start)
+          go (inl (q, j)) = was (goes {x = y} c busy) c d (b .now) (suc (b .now)) (pending t c busy) (ap (λ (c : Call). c .start) (some-inj (ap (advanced b y) busy) j)) (omega arith)
+          go (inr (q, j)) = waits (goes {x = y} c busy) u d j
+      began-next (ends {x = y} {r} c busy p q) d m (withdrawn w i) = same (ends {x = y} {r = r} c busy p q) d m (withdrawn w i)
+      began-next (ends {t} {x = y} {r} c busy p q) d m (pending u e i) = waits (ends {x = y} {r = r} c busy p q) u d (another t u d i)
       began-next (ends {t} {x = y} {r} c busy p q) d m (finished f i) = go (rw (ended-finished b (G .dated) t y c busy r) at i)
         where
           b' : Calls
@@ -143,16 +132,9 @@ module _ {S N : Type 0} {machine : S → Action → S × Event} {note : N → S 
 
           go : f ∈ (last-one b (G .dated) t y c busy r ∷ b .finished) → NoneWithdrawn b' (f .call) → Alone b' (f .call) (f .call .last) → Finds (f .call .start)
           go (inl z) = rw z (was (ends {x = y} {r = r} c busy p q) c (advance b y c) (b .now) (b .now) (pending t c busy) refl (omega arith))
-          go (inr j) = was (ends {x = y} {r = r} c busy p q) (f .call) (f .call) (f .call .last) (f .call .last) (finished f j) refl (omega arith)
-      began-next (drops {t} {x = y} c busy) d m (finished f i) = was (drops {x = y} c busy) d d m m (finished f i) refl (omega arith)
-      began-next (drops {t} {x = y} c busy) d m (pending u e i) = go (upd-some (b .pending) t none u d i)
-        where
-          b' : Calls
-          b' = enter b (drop t) (accepted y)
-
-          go : ((u ≡ t) × (none ≡ some d)) ⊎ ((u ≢ t) × (b .pending u ≡ some d)) → NoneWithdrawn b' d → Alone b' d (b' .now) → Finds (d .start)
-          go (inl (z, j)) = absurd (clash refl j)
-          go (inr (z, j)) = was (drops {x = y} c busy) d d (b .now) (b' .now) (pending u d j) refl (omega arith)
+          go (inr j) = same (ends {x = y} {r = r} c busy p q) d m (finished f j)
+      began-next (drops {x = y} c busy) d m (finished f i) = same (drops {x = y} c busy) d m (finished f i)
+      began-next (drops {t} {x = y} c busy) d m (pending u e i) = waits (drops {x = y} c busy) u d (another t u d i)
       began-next (drops {t} {x = y} c busy) d m (withdrawn w i) = go (rw (dropped-withdrawn b (G .dated) t y c busy) at i)
         where
           b' : Calls
@@ -160,7 +142,7 @@ module _ {S N : Type 0} {machine : S → Action → S × Event} {note : N → S 
 
           go : w ∈ (last-withdrawn b (G .dated) t y c busy ∷ b .withdrawn) → NoneWithdrawn b' (w .call) → Alone b' (w .call) (w .end) → Finds (w .call .start)
           go (inl z) = rw z (was (drops {x = y} c busy) c c (b .now) (b .now) (pending t c busy) refl (omega arith))
-          go (inr j) = was (drops {x = y} c busy) (w .call) (w .call) (w .end) (w .end) (withdrawn w j) refl (omega arith)
+          go (inr j) = same (drops {x = y} c busy) d m (withdrawn w j)
 
     -- after all actions
     all : (l : List Action) (x : S × N) (b : Calls) (ms es : List Mark) → Good M x b ms es → Holds (x .0) b → Holds (run machine (x .0) l) (enterAll b (history machine (x .0) l))
