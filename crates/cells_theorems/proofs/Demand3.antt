@@ -68,7 +68,7 @@ module _ (old : State) (words : List ℕ) (tasks cells blocks : ℕ) (values : L
   cells-undropped-quietly actions = subst (λ (h : List (Action × Event)). NoHardwareUndropped (clearAfter figure (opening tasks cells values) active) (callsOf h)) (sym (same-history old words tasks cells blocks values allowed actions))
       (figure-undropped-quietly tasks cells values starting-values actions)
 
-  -- Demand 3's own sentence, of lists of begins and steps: a call attempts none if its cell's block was active at its begin and it is alone.
+  -- Demand 3's own sentence, of lists of begins and steps. A call attempts none if its cell's block was active at its begin and it is alone.
   pub cells-quietly-without-drops : (actions : List Action) → NoDrops actions → NoHardware (clearAfter figure (opening tasks cells values) active) (callsOf (history pool (start old words tasks cells blocks values) actions))
   cells-quietly-without-drops actions no-drops c n i = cells-undropped-quietly actions c n i (λ w j. absurd (rw (none-withdrawn pool (start old words tasks cells blocks values) noCalls actions no-drops) at j))
 

@@ -25,7 +25,7 @@ module _ (tasks cells : ℕ) (values : List ℕ) (some-values : (cell : ℕ) →
     found = λ x g κ i. marks-ready (x .0) (i .on-path);
   }
 
-  -- A call attempts no hardware CAS if it meets no contention, the block was active at its begin, and no swap of unequal values was withdrawn
-  -- on the cell before that.
+  -- A call attempts no hardware CAS if it meets no contention and the block was active at its begin. No swap of unequal values may have been
+  -- withdrawn on the cell before.
   pub figure-undropped-quietly : (actions : List Action) → NoHardwareUndropped (clearAfter figure (opening tasks cells values) active) (callsOf (history figure (opening tasks cells values) actions))
   figure-undropped-quietly = undropped-meet (simulation tasks cells values some-values) active MarksIn keeping
