@@ -8,6 +8,7 @@ pub mod Uses
 pub mod Counted
 pub mod Numbers
 pub mod Accesses
+pub mod Further
 pub mod Parts
 pub mod Twelve
 pub mod LineRuns

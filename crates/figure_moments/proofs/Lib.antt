@@ -13,3 +13,4 @@ pub mod Undropped
 pub mod Late
 pub mod WithdrawnRule
 pub mod RunExamples
+pub mod Rests

@@ -520,7 +520,7 @@ module _ (tasks cells : ℕ) (values : List ℕ) (some-values : (cell : ℕ) →
   figure-reads-quietly = reads-meet simulation active reads-ready
 
   -- notes of the other figure change no mark
-  same-moments : (actions : List Action) → Placing.placing simulation actions ≡ moments tasks cells values actions
+  pub same-moments : (actions : List Action) → Placing.placing simulation actions ≡ moments tasks cells values actions
   same-moments actions = same-linearized figure (note figure sees) (names figure sees) (beyond tasks) tasks (opening tasks cells values) noNotes (opening tasks cells values, noNotes) actions
 
   -- The source's linearization points, in their order, are a linearization: of every finished call, and of the listed pending and withdrawn swaps.

@@ -3,17 +3,17 @@ use mathlib.Core.Path.{_≡_, refl, sym, ap, subst, _∙_}
 use mathlib.Core.Logic.{_≢_, _⊎_, inl, inr}
 use mathlib.Core.Option.{Option, none, some}
 use mathlib.Core.List.{List, _∷_, _++_}
-use Prim.Native.Nat.{ℕ}
+use Prim.Native.Nat.{ℕ, _+_}
 use native.Mathlib.Omega.{arith}
 use Rattle.history_spec.specs.Basics.{_∈_, Once}
-use Rattle.history_spec.specs.History.{Op, Action, begin, step, drop, Event, refused, accepted, answered, Yes, Call, WithdrawnCall, Calls, enter}
+use Rattle.history_spec.specs.History.{Op, Action, begin, step, drop, Event, refused, accepted, answered, Yes, Call, WithdrawnCall, Calls, enter, Response}
 use Rattle.history_spec.specs.Moments.{Spot, Mark, Names, withdrawnAt, beside, markOf, markOfPending, markOfLanded, marked}
 use Rattle.history_spec.proofs.Basics.{either, clash, some-inj}
 use Rattle.history_linearization.proofs.Simulation.{Lands, Leaves, Simulation}
 use Rattle.history_linearization.proofs.Tracks.{Change, refuses, starts, goes, ends, drops}
 use Rattle.history_linearization.proofs.MovesOne.{Dated, last-withdrawn, dropped-withdrawn}
 use Rattle.history_linearization.proofs.Distinct.{callBegins, dropBegins, Distinct}
-use Rattle.history_linearization.proofs.Order.{begins, from-begins, to-begins}
+use Rattle.history_linearization.proofs.Order.{begins, from-begins, to-begins, total}
 use Rattle.history_linearization.proofs.Parked.{Ordered, is-there, was-there}
 use Rattle.history_linearization.proofs.Linearize.{endMarks}
 
@@ -31,12 +31,20 @@ only-one (x ∷ l) o v w (inr i) (inr j) q = only-one l (o .1) v w i j q
 abbrev pub markAt : Call → Spot → Mark
 markAt c p = record { spot = p; call = c .start; answer = Yes }
 
+abbrev pub weight : (Op → Response → ℕ) → List Mark → ℕ
+weight w l = total (λ (m : Mark). w (m .call .op) (m .answer)) l
+
+abbrev pub Weightless : (Op → Response → ℕ) → List WithdrawnCall → Type 0
+Weightless w l = (v : WithdrawnCall) → v ∈ l → w (v .call .start .op) Yes ≡ 0
+
 -- f says where the withdrawn calls stand
 pub record Emits (f : ℕ → Option Spot) (b : Calls) (ms es : List Mark) : Type 0 where
   pub from : (m : Mark) → m ∈ es → (m ∈ ms) ⊎ ((w : WithdrawnCall) × (w ∈ b .withdrawn) × (p : Spot) × (f (w .end) ≡ some p) × (m ≡ markAt (w .call) p))
   pub ended : (m : Mark) → m ∈ ms → m ∈ es
   pub left : (w : WithdrawnCall) → w ∈ b .withdrawn → (p : Spot) → f (w .end) ≡ some p → markAt (w .call) p ∈ es
   pub once : Once (begins es)
+  -- where withdrawn calls weigh nothing, the finished ones alone weigh
+  pub weighs : (w : Op → Response → ℕ) → Weightless w (b .withdrawn) → weight w es ≡ weight w ms
 
 module _ (b : Calls) (dated : Dated b) (distinct : Distinct b) (ordered : Ordered (b .withdrawn) (b .now)) (ms es : List Mark) (same : begins ms ≡ callBegins (b .finished)) (f : ℕ → Option Spot) (e : Emits f b ms es) where
   -- no mark is of a call that is pending, nor of a withdrawn one that stood nowhere
@@ -57,6 +65,7 @@ module _ (b : Calls) (dated : Dated b) (distinct : Distinct b) (ordered : Ordere
     ended = e .ended;
     left = λ v i p z. e .left v (rw w at i) p (sym (l (v .end)) ∙ z);
     once = e .once;
+    weighs = λ g z. e .weighs g (λ v i. z v (rw w i));
   }
     where
       go : (m : Mark) → (m ∈ ms) ⊎ ((w : WithdrawnCall) × (w ∈ b .withdrawn) × (p : Spot) × (f (w .end) ≡ some p) × (m ≡ markAt (w .call) p)) → (m ∈ ms) ⊎ ((w : WithdrawnCall) × (w ∈ b' .withdrawn) × (p : Spot) × (h (w .end) ≡ some p) × (m ≡ markAt (w .call) p))
@@ -70,6 +79,7 @@ module _ (b : Calls) (dated : Dated b) (distinct : Distinct b) (ordered : Ordere
     ended = ended;
     left = λ v i p z. inr (s .left v i p z);
     once = (n, e .once);
+    weighs = λ g z. ap (λ n. g (x .call .op) (x .answer) + n) (s .weighs g z);
   }
     where
       old : (m : Mark) → (m ∈ ms) ⊎ ((w : WithdrawnCall) × (w ∈ b' .withdrawn) × (p : Spot) × (h (w .end) ≡ some p) × (m ≡ markAt (w .call) p)) → (m ∈ (x ∷ ms)) ⊎ ((w : WithdrawnCall) × (w ∈ b' .withdrawn) × (p : Spot) × (h (w .end) ≡ some p) × (m ≡ markAt (w .call) p))
@@ -89,8 +99,11 @@ module _ (b : Calls) (dated : Dated b) (distinct : Distinct b) (ordered : Ordere
       (now : (w : WithdrawnCall) × (w ∈ b' .withdrawn) × (w .end ≡ n) × (w .call ≡ c)) (was : (w : WithdrawnCall) → w ∈ b' .withdrawn → w .end ≢ n → w ∈ b .withdrawn) (will : (w : WithdrawnCall) → w ∈ b .withdrawn → w ∈ b' .withdrawn)
       (not-yet : (w : WithdrawnCall) → w ∈ b .withdrawn → w .end ≡ n → (q : Spot) → f (w .end) ≡ some q → ⊥) where
     lands-there : (c .start .at ∈ begins es → ⊥) → Emits h b' ms (markAt c p ∷ es)
-    lands-there u = record { from = from; ended = λ m i. inr (e .ended m i); left = λ w i q z. left w i q z (either (w .end) n); once = (u, e .once) }
+    lands-there u = record { from = from; ended = λ m i. inr (e .ended m i); left = λ w i q z. left w i q z (either (w .end) n); once = (u, e .once); weighs = weighs }
       where
+        weighs : (g : Op → Response → ℕ) → Weightless g (b' .withdrawn) → weight g (markAt c p ∷ es) ≡ weight g ms
+        weighs g z = omega (arith, sym (ap (λ (c : Call). g (c .start .op) Yes) (now .3)) ∙ z (now .0) (now .1), e .weighs g (λ w i. z w (will w i)))
+
         old : (m : Mark) → (m ∈ ms) ⊎ ((w : WithdrawnCall) × (w ∈ b .withdrawn) × (p : Spot) × (f (w .end) ≡ some p) × (m ≡ markAt (w .call) p)) → (m ∈ ms) ⊎ ((w : WithdrawnCall) × (w ∈ b' .withdrawn) × (p : Spot) × (h (w .end) ≡ some p) × (m ≡ markAt (w .call) p))
         old m (inl i) = inl i
         old m (inr (w, i, q, z, r)) = inr (w, will w i, q, others (w .end) (λ k. not-yet w i k q z) ∙ z, r)
@@ -128,6 +141,7 @@ module _ {S N : Type 0} {machine : S → Action → S × Event} {note : N → S 
             ended = e .ended;
             left = λ w i q k. e .left w i q (sym (l .2 (w .end) (other w i)) ∙ k);
             once = e .once;
+            weighs = e .weighs;
           }
             where
               other : (w : WithdrawnCall) → w ∈ b .withdrawn → w .end ≢ n
@@ -181,6 +195,7 @@ module _ {S N : Type 0} {machine : S → Action → S × Event} {note : N → S 
         ended = e .ended;
         left = λ w i q k. left w i q k (either (w .end) (b .now));
         once = e .once;
+        weighs = λ g z. e .weighs g (λ w i. z w (rw gone (inr i)));
       }
         where
           from : (m : Mark) → (m ∈ ms) ⊎ ((w : WithdrawnCall) × (w ∈ b .withdrawn) × (p : Spot) × (f (w .end) ≡ some p) × (m ≡ markAt (w .call) p)) → (m ∈ ms) ⊎ ((w : WithdrawnCall) × (w ∈ b' .withdrawn) × (p : Spot) × (h (w .end) ≡ some p) × (m ≡ markAt (w .call) p))

@@ -64,7 +64,7 @@ module _ {S N : Type 0} {machine : S → Action → S × Event} {note : N → S 
     all-dated = record { past = λ t c h. absurd (clash (nobody t) h); distinct = λ t u c d h i q. absurd (clash (nobody t) h) };
     acts = λ u n h. absurd (clash (M .none-acting u) h);
     simulated = start-with;
-    emits = record { from = λ m i. absurd i; ended = λ m i. i; left = λ w i p z. i; once = tt };
+    emits = record { from = λ m i. absurd i; ended = λ m i. i; left = λ w i p z. i; once = tt; weighs = λ w z. refl };
     quiet = record { quiet = λ t c h l. absurd (clash refl h); past = λ f i l. absurd i; gone = λ w i l. absurd i };
   }
     where

@@ -1,5 +1,5 @@
 -- The marks of any machine with a simulation, in their order, are a linearization: of all finished calls and of the listed pending swaps.
-use mathlib.Core.Path.{_≡_, refl, sym, ap, _∙_, subst}
+use mathlib.Core.Path.{_≡_, refl, sym, ap, ap₂, _∙_, subst}
 use mathlib.Core.Logic.{_≢_, _⊎_, inl, inr}
 use mathlib.Core.Bool.{Bool, true, false}
 use mathlib.Core.Option.{Option, none, some}
@@ -8,19 +8,19 @@ use Prim.Native.Nat.{ℕ, zero, suc, _+_, _<_}
 use native.Mathlib.Omega.{arith}
 use lib.Dec.{T}
 use Rattle.history_spec.specs.Basics.{_∈_, Once}
-use Rattle.history_spec.specs.History.{Op, Action, Event, history, run, Response, Yes, Call, FinishedCall, WithdrawnCall, Calls, noCalls, callsOf, CallOf, pending, finished, withdrawn}
+use Rattle.history_spec.specs.History.{Op, Action, Event, history, run, Response, Yes, Call, FinishedCall, WithdrawnCall, Calls, noCalls, callsOf, CallOf, pending, finished, withdrawn, cellOf, CallId, Complete}
 use Rattle.history_spec.specs.Linearization.{Point, replies, Placed, Linearizes}
 use Rattle.history_spec.specs.Moments.{before, itself, Spot, Mark, pointOf, replyOf, Names, beside, markOfPending, pendingMarks, sort, linearized, ListedExactly}
 use Rattle.history_spec.proofs.Basics.{either, clash, some-inj, mem-append, mem-left, mem-right, mem-map, point}
-use Rattle.history_linearization.proofs.Simulation.{Knowledge, Sided, Named, Simulation}
+use Rattle.history_linearization.proofs.Simulation.{Knowledge, Sided, Named, Simulation, late, Ghost}
 use Rattle.history_linearization.proofs.Tracks.{tallied, tallyOf}
 use Rattle.history_linearization.proofs.MovesOne.{Dated}
 use Rattle.history_linearization.proofs.Distinct.{callBegins, dropBegins}
-use Rattle.history_linearization.proofs.Parked.{is-there, was-there, everyone, withParked, task-is, parked-is, task-or-parked}
-use Rattle.history_linearization.proofs.Order.{sort-in, in-sort, begins, from-begins, to-begins, sort-once}
-use Rattle.history_linearization.proofs.Timeline.{Marks, points-in, sorted-answers, sorted-points}
+use Rattle.history_linearization.proofs.Parked.{is-there, was-there, everyone, withParked, task-is, parked-is, task-or-parked, nobody-there}
+use Rattle.history_linearization.proofs.Order.{sort-in, in-sort, begins, from-begins, to-begins, sort-once, total, sort-total}
+use Rattle.history_linearization.proofs.Timeline.{leftBy, cell, Marks, points-in, sorted-answers, sorted-left, sorted-points}
 use Rattle.history_linearization.proofs.Kept.{Entry, of-finished, of-pending, MarkOf, Marked, same-begins}
-use Rattle.history_linearization.proofs.Emitted.{in-drops, only-one, markAt}
+use Rattle.history_linearization.proofs.Emitted.{in-drops, only-one, markAt, weight}
 use Rattle.history_linearization.proofs.Moves.{firm, knows}
 use Rattle.history_linearization.proofs.Linearize.{Simulated}
 use Rattle.history_linearization.proofs.EveryAction.{Good, AtEnd, at-end}
@@ -315,3 +315,42 @@ module _ {S N : Type 0} {machine : S → Action → S × Event} {note : N → S 
       there : (w ∈ waiting) ⊎ (w ∈ r .emitted) → M .left x (v .end) ≡ some p
       there (inl k) = let y = waits w k in absurd (G .distinct .apart (y .0) (y .2 .call) (y .2 .busy) (inr (subst (λ n. n ∈ dropBegins (b .withdrawn)) (ap (λ (m : Mark). m .call .at) (y .2 .is)) mine)))
       there (inr k) = made (G .emits .from w k)
+
+  -- the machine's invariant, with sequential cells as the marks leave them; no late store is awaited on a cell where every call is finished
+  pub record Rests : Type 1 where
+    pub ghost : Ghost
+    pub known : Knowledge
+    pub inv : M .Inv x ghost known
+    pub left : (k : ℕ) → ghost .cells k ≡ leftBy values (map pointOf placing) k
+    pub nothing-late : (k : ℕ) → Complete b k → (u : ℕ) → ghost .phase k ≢ late u
+
+  pub rests : Rests
+  rests = record {
+    ghost = m .ghost;
+    known = κ;
+    inv = m .inv;
+    left = λ k. sym (m .kept .ends k (b .now) (m .kept .bound k)) ∙ sym (sorted-left (m .kept .line) all-marks k (b .now) (λ e a i. omega (arith, m .kept .firmed e a i, m .kept .bound (cell e))))
+        ∙ ap (λ (ms : List Mark). leftBy values (map pointOf ms) k) (sym are-sorted);
+    nothing-late = λ k all u h. let l = m .kept .lates k u h in nobody-there tasks b k all u (l .call) (l .busy) (l .on);
+  }
+
+  -- A sum over the marks, in which only calls on a cell weigh, is the sum over the finished calls, where every call on that cell is finished.
+  pub marks-total : (k : ℕ) → Complete b k → (w : Op → Response → ℕ) → ((op : Op) (a : Response) → cellOf op ≢ k → w op a ≡ 0) →
+      total (λ (m : Mark). w (m .call .op) (m .answer)) placing ≡ total (λ (f : FinishedCall). w (f .call .start .op) (f .report .answer)) (b .finished)
+  marks-total k all w off =
+      ap (weight w) are-sorted ∙ sort-total (λ (m : Mark). w (m .call .op) (m .answer)) every-mark ∙ nobody-waits tasks
+      ∙ G .emits .weighs w (λ v i. off (v .call .start .op) Yes (all .none-withdrawn v i)) ∙ aligned (b .finished) (r .finished) (m .kept .marked)
+    where
+      nobody-waits : (n : ℕ) → weight w (pendingMarks (beside machine note) names x b n ++ r .emitted) ≡ weight w (r .emitted)
+      nobody-waits zero = refl
+      nobody-waits (suc t) = go (names .standing x t) (b .pending t) (all .none-pending t) ∙ nobody-waits t
+        where
+          go : (p : Option Spot) (o : Option Call) → ((c : Call) → o ≡ some c → cellOf (c .start .op) ≢ k) →
+              weight w ((markOfPending (beside machine note) names p o ++ pendingMarks (beside machine note) names x b t) ++ r .emitted) ≡ weight w (pendingMarks (beside machine note) names x b t ++ r .emitted)
+          go none o h = refl
+          go (some p) none h = refl
+          go (some p) (some c) h = omega (arith, off (c .start .op) Yes (h c refl))
+
+      aligned : (k : List FinishedCall) (l : List Mark) → Marked k l → weight w l ≡ total (λ (f : FinishedCall). w (f .call .start .op) (f .report .answer)) k
+      aligned [] [] M = refl
+      aligned (f ∷ k) (m ∷ l) M = omega (arith, ap₂ (λ (c : CallId) (a : Response). w (c .op) a) (M .0 .call) (M .0 .answer), aligned k l (M .1))

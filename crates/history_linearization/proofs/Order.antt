@@ -3,7 +3,7 @@ use mathlib.Core.Path.{_≡_, refl, sym, ap, _∙_}
 use mathlib.Core.Logic.{_⊎_, inl, inr}
 use mathlib.Core.Bool.{Bool, true, false, cond}
 use mathlib.Core.List.{List, [], _∷_, map}
-use Prim.Native.Nat.{ℕ, _≤_, _<_}
+use Prim.Native.Nat.{ℕ, _+_, _≤_, _<_}
 use native.Mathlib.Omega.{arith}
 use lib.Dec.{eqb, leb, T, leb→le, nleb→lt}
 use borrow.Author.Tests.{eqb-true, eqb-false}
@@ -167,3 +167,22 @@ before-change x y sx sy h e c = go h
     go (inr (p, inl q)) = absurd (omega (arith, number (x .spot .side) (sx .never-before), side))
     go (inr (p, inr (q, inl r))) = absurd (omega (arith, rank (changing y) c))
     go (inr (p, inr (q, inr (r, z)))) = unrank (changing x) (omega (arith, rank (changing y) c))
+
+-- SUMS OVER LISTS
+
+abbrev pub total : {A : Type 0} → (A → ℕ) → List A → ℕ
+total w [] = 0
+total w (x ∷ l) = w x + total w l
+
+insert-total : (w : Mark → ℕ) (x : Mark) (l : List Mark) → total w (insert x l) ≡ w x + total w l
+insert-total w x [] = refl
+insert-total w x (y ∷ l) = go (notAfter (key x) (key y)) (insert-total w x l)
+  where
+    go : (b : Bool) → total w (insert x l) ≡ w x + total w l → total w (cond b (x ∷ y ∷ l) (y ∷ insert x l)) ≡ w x + (w y + total w l)
+    go true h = refl
+    go false h = omega (arith, h)
+
+-- sorting changes no sum
+pub sort-total : (w : Mark → ℕ) (l : List Mark) → total w (sort l) ≡ total w l
+sort-total w [] = refl
+sort-total w (x ∷ l) = omega (arith, insert-total w x (sort l), sort-total w l)

@@ -10,7 +10,7 @@ use native.Mathlib.Omega.{arith}
 use lib.Dec.{eqb, ltb}
 use borrow.Author.Tests.{eqb-true, eq-eqb, ne-eqb, lt-ltb, le-ltb}
 use Rattle.history_spec.specs.Basics.{upd, _∈_}
-use Rattle.history_spec.specs.History.{Op, begin, step, drop, Attempt, accepted, answered, Report, Call, WithdrawnCall, Calls, called, advanced, closed, alsoWithdrawn, enter}
+use Rattle.history_spec.specs.History.{Op, cellOf, begin, step, drop, Attempt, accepted, answered, Report, Call, WithdrawnCall, Calls, called, advanced, closed, alsoWithdrawn, enter, Complete}
 use Rattle.history_spec.specs.Moments.{withdrawnAt}
 use Rattle.history_spec.proofs.Basics.{either, upd-at, upd-same, upd-off, clash, some-inj}
 use Rattle.history_linearization.proofs.Timeline.{le-or-lt}
@@ -63,6 +63,16 @@ module _ (tasks : ℕ) where
       go : (tasks ≤ u) ⊎ (u < tasks) → (u < tasks) ⊎ ((n : ℕ) × (u ≡ tasks + n))
       go (inl h) = inr (u - tasks, omega arith)
       go (inr h) = inl h
+
+  -- where every call on a cell is finished, nobody is there
+  pub nobody-there : (b : Calls) (k : ℕ) → Complete b k → (u : ℕ) (c : Call) → everyone b u ≡ some c → cellOf (c .start .op) ≢ k
+  nobody-there b k all u c e = go (task-or-parked u)
+    where
+      go : (u < tasks) ⊎ ((n : ℕ) × (u ≡ tasks + n)) → cellOf (c .start .op) ≢ k
+      go (inl h) = all .none-pending u c (sym (task-is b u h) ∙ e)
+      go (inr (n, h)) =
+          let w = was-there (b .withdrawn) n c (sym (parked-is b n) ∙ sym (ap (everyone b) h) ∙ e) in
+          subst (λ (c : Call). cellOf (c .start .op) ≢ k) (w .3) (all .none-withdrawn (w .0) (w .1))
 
   module _ (b : Calls) (t : ℕ) (low : t < tasks) where
     -- a task's call changes

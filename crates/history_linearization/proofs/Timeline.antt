@@ -49,6 +49,11 @@ after-calm v (swap k e n) h = go (eqb v e) refl h
     go true p h = rw (eq-eqb e n (sym (eqb-true v e p) ∙ sym h))
     go false p h = refl
 
+-- the cells after the calls, one after another
+abbrev pub leftBy : (ℕ → ℕ) → List Point → ℕ → ℕ
+leftBy cells [] = cells
+leftBy cells (e ∷ l) = leftBy (apply cells (e .call .op)) l
+
 -- CALLS THAT FIT A TIMELINE
 
 abbrev pub cell : Point → ℕ
@@ -125,12 +130,25 @@ module _ (past : ℕ → ℕ → ℕ) where
   not-first x l k n h (inr (m, inl i, z, q, o)) = absurd (h (subst (λ (m : Mark). T (changing m)) i z) (ap cellM (sym i) ∙ q) (ap (λ (m : Mark). m .spot .moment) (sym i) ∙ o))
   not-first x l k n h (inr (m, inr i, z, q, o)) = inr (m, i, z, q, o)
 
-  -- fed the calls one after another, the cells c, which cell by cell stand at the times p, give their answers
+  -- fed the calls one after another, the cells c, which cell by cell stand at the times p, give their answers, and stand in the end as at any
+  -- later time
+  record InOrder (c p : ℕ → ℕ) (l : List Mark) : Type 0 where
+    answers : replies c (map pointOf l) ≡ map replyOf l
+    left : (k n : ℕ) → p k ≤ n → ((m : Mark) → m ∈ l → m .spot .moment < n) → leftBy c (map pointOf l) k ≡ past k n
+
   in-order : (l : List Mark) (c p : ℕ → ℕ) → ((k : ℕ) → c k ≡ past k (p k)) → Chained l → ((m : Mark) → m ∈ l → (p (cellM m) ≤ foundM m) × Right past (pointOf m) (m .answer)) →
-      ((k n : ℕ) → p k ≤ n → Caused l k n) → replies c (map pointOf l) ≡ map replyOf l
-  in-order [] c p at chain right caused = refl
-  in-order (x ∷ l) c p at chain right caused = ap (λ (a : Response). (pointOf x, a) ∷ replies c⁺ (map pointOf l)) says
-      ∙ ap (λ (r : List (Point × Response)). replyOf x ∷ r) (in-order l c⁺ p⁺ at⁺ (chain .1) (λ m i. (low m i (either (cellM m) k), right m (inr i) .1)) (λ j n h. caused⁺ j n h (either j k)))
+      ((k n : ℕ) → p k ≤ n → Caused l k n) → InOrder c p l
+  in-order [] c p at chain right caused = record { answers = refl; left = λ k n h all. at k ∙ sym (steady (past k) (p k) n h (λ j i b. still (caused k j i))) }
+    where
+      still : {k j : ℕ} → Caused [] k j → past k (suc j) ≡ past k j
+      still (inl e) = e
+      still (inr (m, i, z, q, o)) = absurd i
+  in-order (x ∷ l) c p at chain right caused =
+      let r = in-order l c⁺ p⁺ at⁺ (chain .1) (λ m i. (low m i (either (cellM m) k), right m (inr i) .1)) (λ j n h. caused⁺ j n h (either j k)) in
+      record {
+        answers = ap (λ (a : Response). (pointOf x, a) ∷ replies c⁺ (map pointOf l)) says ∙ ap (λ (r : List (Point × Response)). replyOf x ∷ r) (r .answers);
+        left = λ j n h all. r .left j n (later j n h (all x (inl refl)) (either j k)) (λ m i. all m (inr i));
+      }
     where
       k : ℕ
       k = cellM x
@@ -165,6 +183,10 @@ module _ (past : ℕ → ℕ → ℕ) where
           go (inl e) = apply-at c (x .call .op) j e ∙ ap (λ j. valueLeft (c j) (x .call .op)) e ∙ ap (λ v. valueLeft v (x .call .op)) now ∙ right x (inl refl) .1 .leaves
               ∙ ap (λ j. past j n⁺) (sym e) ∙ ap (past j) (sym (upd-at p k n⁺ j e))
           go (inr e) = apply-off c (x .call .op) j e ∙ at j ∙ ap (past j) (sym (upd-off p k n⁺ j e))
+
+      later : (j n : ℕ) → p j ≤ n → x .spot .moment < n → (j ≡ k) ⊎ (j ≢ k) → p⁺ j ≤ n
+      later j n h b (inl e) = omega (arith, upd-at p k n⁺ j e)
+      later j n h b (inr e) = omega (arith, upd-off p k n⁺ j e)
 
       low : (m : Mark) → m ∈ l → (cellM m ≡ k) ⊎ (cellM m ≢ k) → p⁺ (cellM m) ≤ foundM m
       low m i (inl e) = omega (arith, upd-at p k n⁺ (cellM m) e, chain .0 m i e)
@@ -205,9 +227,8 @@ module _ {values : ℕ → ℕ} {past : ℕ → ℕ → ℕ} {E : Point → Resp
               let w = before-change x y (M .sided x (h x (inl refl))) (M .sided y (h y (inr i))) (k .0 y i) same z in
               o .0 (rw (L .single (pointOf x) (pointOf y) (x .answer) (y .answer) (M .theirs x (h x (inl refl))) (M .theirs y (h y (inr i))) w z (sym q) same) (to-begins l y i))
 
-  -- fed the marks in their order, the sequential cells give each call its answer
-  pub sorted-answers : replies values (map pointOf (sort ms)) ≡ map replyOf (sort ms)
-  sorted-answers = in-order past (sort ms) values (λ k. 0) (λ k. sym (L .first k)) (chained (sort ms) (sort-keyed ms) (sort-once ms (M .once)) (sort-in ms))
+  sorted-in-order : InOrder past values (λ k. 0) (sort ms)
+  sorted-in-order = in-order past (sort ms) values (λ k. 0) (λ k. sym (L .first k)) (chained (sort ms) (sort-keyed ms) (sort-once ms (M .once)) (sort-in ms))
       (λ m i. (omega arith, L .right (pointOf m) (m .answer) (M .theirs m (sort-in ms m i)))) (λ k n h. go k n (L .caused k n))
     where
       go : (k n : ℕ) → (past k (suc n) ≡ past k n) ⊎ Cause E k n → Caused past (sort ms) k n
@@ -222,6 +243,14 @@ module _ {values : ℕ → ℕ} {past : ℕ → ℕ → ℕ} {E : Point → Resp
             ap (λ (e : Point). e .moment) (sym (m .2)) ∙ c .at,
           )
           )
+
+  -- fed the marks in their order, the sequential cells give each call its answer
+  pub sorted-answers : replies values (map pointOf (sort ms)) ≡ map replyOf (sort ms)
+  sorted-answers = sorted-in-order .answers
+
+  -- and stand in the end as at any time after all calls
+  pub sorted-left : (k n : ℕ) → ((e : Point) (a : Response) → E e a → e .moment < n) → leftBy values (map pointOf (sort ms)) k ≡ past k n
+  sorted-left k n late = sorted-in-order .left k n (omega arith) (λ m i. late (pointOf m) (m .answer) (M .theirs m (sort-in ms m i)))
 
   pub sorted-points : Sorted (map pointOf (sort ms))
   sorted-points = go (sort ms) (sort-keyed ms)

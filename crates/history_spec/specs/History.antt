@@ -1,5 +1,6 @@
 -- Actions, the events that they give, and the calls that a history consists of.
 use mathlib.Core.Path.{_≡_}
+use mathlib.Core.Logic.{_≢_}
 use mathlib.Core.Option.{Option, none, some}
 use mathlib.Core.List.{List, [], _∷_, _++_}
 use Prim.Native.Nat.{ℕ, suc, _+_, _<_}
@@ -168,6 +169,11 @@ pub data CallOf (b : Calls) : Call → ℕ → Type 0 where
   finished : (f : FinishedCall) → f ∈ b .finished → CallOf b (f .call) (f .call .last)
   pending : (t : ℕ) (c : Call) → b .pending t ≡ some c → CallOf b c (b .now)
   withdrawn : (w : WithdrawnCall) → w ∈ b .withdrawn → CallOf b (w .call) (w .end)
+
+-- every call on a cell is finished: none is pending there, none was withdrawn
+pub record Complete (b : Calls) (cell : ℕ) : Type 0 where
+  pub none-pending : (t : ℕ) (c : Call) → b .pending t ≡ some c → cellOf (c .start .op) ≢ cell
+  pub none-withdrawn : (w : WithdrawnCall) → w ∈ b .withdrawn → cellOf (w .call .start .op) ≢ cell
 
 -- WELL-FORMED HISTORIES
 

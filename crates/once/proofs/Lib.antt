@@ -1,4 +1,3 @@
-pub mod Further
 pub mod Fits
 pub mod Known
 pub mod Words

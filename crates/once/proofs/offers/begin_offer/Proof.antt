@@ -13,7 +13,7 @@ use Rattle.cells_spec.proofs.Refusals.{is-refused, is-allowed}
 use Rattle.once_spec.specs.declared.OnceState.{OnceState}
 use Rattle.once_spec.specs.Questions.{offerAt, onceAt, isIdleOffer, hasOffered}
 use Rattle.once_spec.specs.Entries.{offerBegun}
-use Rattle.once.proofs.Further.{refused-first, asked-further}
+use Rattle.cells_spec.proofs.Further.{refused-first, asked-further}
 use Rattle.once.proofs.Known.{ofPlace, known-place}
 use Rattle.once.proofs.Words.{zeroCell, cell-is}
 use Rattle.once.proofs.offers.begin_offer.Statement.{statement}

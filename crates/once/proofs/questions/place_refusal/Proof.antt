@@ -8,7 +8,7 @@ use borrow.Author.Needs.{needs}
 use borrow.Author.Tests.{lt-ltb, le-ltb}
 use Rattle.cells_spec.specs.Questions.{Question}
 use Rattle.cells_spec.proofs.Refusals.{is-refused, is-allowed}
-use Rattle.once.proofs.Further.{refused-first, asked-further}
+use Rattle.cells_spec.proofs.Further.{refused-first, asked-further}
 use Rattle.once.proofs.questions.place_refusal.Statement.{statement}
 use Rattle.once.proofs.questions.place_refusal.Tie as tie
 

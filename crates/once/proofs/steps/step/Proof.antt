@@ -13,7 +13,7 @@ use Rattle.once_spec.specs.declared.OnceState.{OnceState}
 use Rattle.once_spec.specs.Questions.{offerAt, isIdleOffer}
 use Rattle.once_spec.specs.Figure.{leaves}
 use Rattle.once_spec.specs.Entries.{storedBack, onceStepped}
-use Rattle.once.proofs.Further.{refused-first, asked-further}
+use Rattle.cells_spec.proofs.Further.{refused-first, asked-further}
 use Rattle.once.proofs.Fits.{busy}
 use Rattle.once.proofs.Known.{ofTask, KnownTask, known-task}
 use Rattle.once.proofs.Words.{zeroCell, cell-is}
