@@ -1,0 +1,5 @@
+pub mod Requests
+pub mod Demand3
+pub mod Adds
+pub mod Sums
+pub mod Adding

@@ -1,0 +1,1 @@
+// Adds on the cells: no code, the theorems stand in proofs/.
