@@ -16,7 +16,7 @@ use Rattle.history_linearization.proofs.Order.{total}
 use Rattle.adds_spec.specs.Requests.{Request, act, add, AddAnswer, AmountAdded, Over, Spent, plain, Gave, freshAdd, withPart, addReportOf, part, end, sumBelow, tryLeft, ahead, triesOk, Handled, handled, onwards, stepsOn, addBegins, forgets, handles, withAdds, noAdds}
 use Rattle.adds_spec.specs.declared.Add.{Add}
 use Rattle.adds_spec.specs.Demand3.{didsOf}
-use Rattle.adds_spec.specs.Adds.{addsOf, AddCall, FinishedAdd, AddCalls, noAddCalls, noOf, addStep, addSteps, addEnds, alsoWithdrawnAdd, enterAdd, enterAdds, RightAdd, RightSoFar, RightAdds}
+use Rattle.adds_spec.specs.Adds.{addsOf, AddCall, FinishedAdd, AddCalls, noAddCalls, addStep, addSteps, addEnds, alsoWithdrawnAdd, enterAdd, enterAdds, sumOf, noOf, noes, lastAnswer, GoesOnAfter, AllGoOn, NextPart, RightAnswer, RightAdd, RightSoFar, RightAdds}
 use Rattle.adds_spec.proofs.Clock.{joined}
 use Rattle.adds_spec.proofs.Reached.{enter-append, Suits, Below, Reached, Continues, reached-start, reached-next, allowed, bounds, suits}
 
@@ -28,27 +28,57 @@ pub data Part (a : Add) (cell amount : ℕ) : Op → Type 0 where
   reading : a .steps ≤ 27 * a .failed → a .won + a .lost ≤ 4 * a .failed → Part a cell amount (read cell)
   swapping : (v : ℕ) → a .steps ≤ 27 * a .failed + 6 → a .won + a .lost ≤ 4 * a .failed + 1 → Part a cell amount (swap cell v (v + amount))
 
-pub record Runs (a : Add) (C : AddCall) (c : Call) : Type 0 where
-  pub tries : C .tries ≡ a .tries
-  pub amount : C .amount ≡ a .amount
-  pub failed : C .failed ≡ a .failed
+-- task's add a, as a call C, with its part c under way
+pub record Runs (top : ℕ) (a : Add) (C : AddCall) (c : Call) : Type 0 where
+  pub tries : C .start .tries ≡ a .tries
+  pub amount : C .start .amount ≡ a .amount
+  pub failed : noes (C .parts) ≡ a .failed
   pub some-tries : 1 ≤ a .tries
   pub few-tries : a .tries ≤ 8
   pub fewer : a .failed < a .tries
   pub steps : C .steps ≡ a .steps + c .steps
   pub won : C .won ≡ a .won + c .won
   pub lost : C .lost ≡ a .lost + c .lost
-  pub its : Part a (C .cell) (C .amount) (c .start .op)
+  pub its : Part a (C .start .cell) (C .start .amount) (c .start .op)
+  pub comes : NextPart top (C .start .cell) (C .start .amount) (lastAnswer (C .parts)) (c .start .op)
+  pub went-on : AllGoOn top (C .start .amount) (C .parts)
+  pub part-steps : a .steps ≡ sumOf (λ (r : Report). r .steps) (C .parts)
+  pub part-won : a .won ≡ sumOf (λ (r : Report). r .won) (C .parts)
+  pub part-lost : a .lost ≡ sumOf (λ (r : Report). r .lost) (C .parts)
 
 part-bounds : (a : Add) (cell amount : ℕ) (op : Op) → Part a cell amount op → (most op + a .steps ≤ 27 * suc (a .failed)) × (mostHard op + (a .won + a .lost) ≤ 4 * suc (a .failed))
 part-bounds a cell amount op (reading h i) = (omega arith, omega arith)
 part-bounds a cell amount op (swapping v h i) = (omega arith, omega arith)
 
-so-far : (a : Add) (C : AddCall) (c : Call) → Runs a C c → (c .steps < most (c .start .op)) × (attempts c ≤ mostHard (c .start .op)) → RightSoFar C
-so-far a C c h w = let p = part-bounds a (C .cell) (C .amount) (c .start .op) (h .its) in record {
+so-far : (top : ℕ) (a : Add) (C : AddCall) (c : Call) → Runs top a C c → (c .steps < most (c .start .op)) × (attempts c ≤ mostHard (c .start .op)) → RightSoFar top C
+so-far top a C c h w = let p = part-bounds a (C .start .cell) (C .start .amount) (c .start .op) (h .its) in record {
   few-steps = omega (arith, p .0, w .0, h .steps, h .tries, h .fewer);
   few-attempts = omega (arith, p .1, w .1, h .won, h .lost, h .tries, h .fewer);
-  fewer-failed = omega (arith, h .failed, h .tries, h .fewer);
+  fewer-noes = omega (arith, h .failed, h .tries, h .fewer);
+  went-on = h .went-on;
+}
+
+-- what an add answers, by its last part
+
+only-added : (top d tries : ℕ) (l : List Report) → lastAnswer l ≡ some Yes → noes l < tries → RightAnswer top d tries l AmountAdded
+only-added top d tries l e f = record {
+  added = (λ z. e, λ z. refl);
+  over = (λ z. absurd (let g : _≡_ {A = ℕ} 0 1 = cc in omega arith), λ (v, z, i). absurd (let g : _≡_ {A = ℕ} 0 1 = cc in omega arith));
+  spent = (λ z. absurd (let g : _≡_ {A = ℕ} 0 1 = cc in omega arith), λ z. absurd (omega (arith, f, z)));
+}
+
+only-over : (top d tries v : ℕ) (l : List Report) → lastAnswer l ≡ some (Value v) → top ≤ v + d → noes l < tries → RightAnswer top d tries l Over
+only-over top d tries v l e m f = record {
+  added = (λ z. absurd (let g : _≡_ {A = ℕ} 0 1 = cc in omega arith), λ z. absurd (let g : _≡_ {A = ℕ} 0 1 = cc in omega arith));
+  over = (λ z. (v, e, m), λ z. refl);
+  spent = (λ z. absurd (let g : _≡_ {A = ℕ} 0 1 = cc in omega arith), λ z. absurd (omega (arith, f, z)));
+}
+
+only-spent : (top d tries : ℕ) (l : List Report) → lastAnswer l ≡ some No → noes l ≡ tries → RightAnswer top d tries l Spent
+only-spent top d tries l e f = record {
+  added = (λ z. absurd (let g : _≡_ {A = ℕ} 0 1 = cc in omega arith), λ z. absurd (let g : _≡_ {A = ℕ} 0 1 = cc in omega arith));
+  over = (λ z. absurd (let g : _≡_ {A = ℕ} 0 1 = cc in omega arith), λ (v, z, i). absurd (let g : _≡_ {A = ℕ} 0 1 = cc in omega arith));
+  spent = (λ z. f, λ z. refl);
 }
 
 -- of plain calls, of which P holds, and of parts: what they put and take, and what an add brings
@@ -57,16 +87,17 @@ module _ (P : Op → Type 0) (up down : Op → Response → ℕ) (gain : Finishe
     pub plain-even : (op : Op) (a : Response) → P op → up op a ≡ down op a
     pub read-even : (k v : ℕ) → up (read k) (Value v) ≡ down (read k) (Value v)
     pub no-even : (k e n : ℕ) → up (swap k e n) No ≡ down (swap k e n) No
-    pub yes-gain : (v : ℕ) (F : FinishedAdd) → F .report .answer ≡ AmountAdded → up (swap (F .call .cell) v (v + F .call .amount)) Yes ≡ down (swap (F .call .cell) v (v + F .call .amount)) Yes + gain F
+    pub yes-gain : (v : ℕ) (F : FinishedAdd) → F .report .answer ≡ AmountAdded → up (swap (F .call .start .cell) v (v + F .call .start .amount)) Yes ≡ down (swap (F .call .start .cell) v (v + F .call .start .amount)) Yes + gain F
     pub no-gain : (F : FinishedAdd) → F .report .answer ≢ AmountAdded → gain F ≡ 0
 
+module _ (top : ℕ) (P : Op → Type 0) (up down : Op → Response → ℕ) (gain : FinishedAdd → ℕ) where
   -- a task: its add, the add as a call, its pending call
   abbrev At : Option Add → Option AddCall → Option Call → Type 0
   At none none o = (c : Call) → o ≡ some c → P (c .start .op)
   At none (some C) o = ⊥
   At (some a) none o = ⊥
   At (some a) (some C) none = ⊥
-  At (some a) (some C) (some c) = Runs a C c
+  At (some a) (some C) (some c) = Runs top a C c
 
   abbrev Tasks : (ℕ → Option Add) → (ℕ → Option AddCall) → (ℕ → Option Call) → Type 0
   Tasks f A p = (t : ℕ) → At (f t) (A t) (p t)
@@ -85,15 +116,15 @@ module _ (P : Op → Type 0) (up down : Op → Response → ℕ) (gain : Finishe
   abbrev downOf : FinishedCall → ℕ
   downOf f = down (f .call .start .op) (f .report .answer)
 
-  module _ {S : Type 0} (top : ℕ) (machine : S → Action → S × Event) (start : S) where
+  module _ {S : Type 0} (machine : S → Action → S × Event) (start : S) where
     pub record Inv (s : S) (f : ℕ → Option Add) (b : Calls) (A : AddCalls) : Type 0 where
       pub reached : Reached machine start s b
       pub tasks : Tasks f (A .pending) (b .pending)
-      pub ended : (F : FinishedAdd) → F ∈ A .finished → RightAdd F
-      pub left : (C : AddCall) → C ∈ A .withdrawn → RightSoFar C
+      pub ended : (F : FinishedAdd) → F ∈ A .finished → RightAdd top F
+      pub left : (C : AddCall) → C ∈ A .withdrawn → RightSoFar top C
       pub sum : total upOf (b .finished) ≡ total downOf (b .finished) + total gain (A .finished)
 
-    module _ (W : Weights) {Clear : List Action → ℕ → Type 0} {size : ℕ} {values : ℕ → ℕ} (meets : Meets machine start Clear size values) (continues : Continues machine start top) (s : S) (f : ℕ → Option Add) (b : Calls) (A : AddCalls) (I : Inv s f b A) where
+    module _ (W : Weights P up down gain) {Clear : List Action → ℕ → Type 0} {size : ℕ} {values : ℕ → ℕ} (meets : Meets machine start Clear size values) (continues : Continues machine start top) (s : S) (f : ℕ → Option Add) (b : Calls) (A : AddCalls) (I : Inv s f b A) where
       -- what a request leaves
       abbrev After : Request → Handled S → Type 0
       After q x = Inv (x .state) (x .adds) (enterAll b (x .gave .did)) (enterAdd A q (x .gave .did) (x .gave .event))
@@ -129,7 +160,7 @@ module _ (P : Op → Type 0) (up down : Op → Response → ℕ) (gain : Finishe
         add-begin (accepted x) r al = test (triesOk n) refl
           where
             C : AddCall
-            C = record { at = A .now; task = t; cell = k; amount = d; tries = n; steps = 0; won = 0; lost = 0; failed = 0 }
+            C = record { start = record { at = A .now; task = t; cell = k; amount = d; tries = n }; steps = 0; won = 0; lost = 0; parts = [] }
 
             test : (c : Bool) → triesOk n ≡ c → After (add t k d n) (cond c (handled top machine s' (upd f t (some (freshAdd d n))) ((begin t (read k), accepted x) ∷ []) (plain (accepted x))) (handled top machine s f [] (plain (refused 23))))
             test false z = record { reached = I .reached; tasks = I .tasks; ended = I .ended; left = I .left; sum = I .sum }
@@ -148,6 +179,11 @@ module _ (P : Op → Type 0) (up down : Op → Response → ℕ) (gain : Finishe
                     won = refl;
                     lost = refl;
                     its = reading (omega arith) (omega arith);
+                    comes = refl;
+                    went-on = λ r i. absurd i;
+                    part-steps = refl;
+                    part-won = refl;
+                    part-lost = refl;
                   }));
               ended = I .ended;
               left = I .left;
@@ -165,9 +201,9 @@ module _ (P : Op → Type 0) (up down : Op → Response → ℕ) (gain : Finishe
           plain-step (refused n) r al = record { reached = r; tasks = I .tasks; ended = I .ended; left = I .left; sum = I .sum }
           plain-step (accepted x) r al = record {
             reached = r;
-            tasks = at-all f f (A .pending) (upd (A .pending) t (addSteps x 0 (A .pending t))) (b .pending) (upd (b .pending) t (advanced b x (b .pending t))) t
-                (λ u i. (refl, upd-off (A .pending) t (addSteps x 0 (A .pending t)) u i, upd-off (b .pending) t (advanced b x (b .pending t)) u i)) (I .tasks)
-                (rw (no-add, upd-same (A .pending) t (addSteps x 0 (A .pending t)), no-call, upd-same (b .pending) t (advanced b x (b .pending t))) (on (b .pending t) well));
+            tasks = at-all f f (A .pending) (upd (A .pending) t (addSteps x [] (A .pending t))) (b .pending) (upd (b .pending) t (advanced b x (b .pending t))) t
+                (λ u i. (refl, upd-off (A .pending) t (addSteps x [] (A .pending t)) u i, upd-off (b .pending) t (advanced b x (b .pending t)) u i)) (I .tasks)
+                (rw (no-add, upd-same (A .pending) t (addSteps x [] (A .pending t)), no-call, upd-same (b .pending) t (advanced b x (b .pending t))) (on (b .pending t) well));
             ended = I .ended;
             left = I .left;
             sum = I .sum;
@@ -190,13 +226,13 @@ module _ (P : Op → Type 0) (up down : Op → Response → ℕ) (gain : Finishe
               on (some c) h = omega (arith, I .sum, W .plain-even (c .start .op) (o .answer) (h c refl))
 
         -- of a part c of the add a
-        module _ (a : Add) (C : AddCall) (c : Call) (its-add : f t ≡ some a) (its-call : A .pending t ≡ some C) (busy : b .pending t ≡ some c) (R : Runs a C c) where
+        module _ (a : Add) (C : AddCall) (c : Call) (its-add : f t ≡ some a) (its-call : A .pending t ≡ some C) (busy : b .pending t ≡ some c) (R : Runs top a C c) where
           part-step : (x : Attempt) → Reached machine start s' (enter b (step t) (accepted x)) → After (act (step t)) (handled top machine s' f ((step t, accepted x) ∷ []) (plain (accepted x)))
           part-step x r = record {
             reached = r;
-            tasks = at-all f f (A .pending) (upd (A .pending) t (addSteps x 0 (A .pending t))) (b .pending) (upd (b .pending) t (advanced b x (b .pending t))) t
-                (λ u i. (refl, upd-off (A .pending) t (addSteps x 0 (A .pending t)) u i, upd-off (b .pending) t (advanced b x (b .pending t)) u i)) (I .tasks)
-                (rw (its-add, upd-same (A .pending) t (addSteps x 0 (A .pending t)), its-call, upd-same (b .pending) t (advanced b x (b .pending t)), busy) (record {
+            tasks = at-all f f (A .pending) (upd (A .pending) t (addSteps x [] (A .pending t))) (b .pending) (upd (b .pending) t (advanced b x (b .pending t))) t
+                (λ u i. (refl, upd-off (A .pending) t (addSteps x [] (A .pending t)) u i, upd-off (b .pending) t (advanced b x (b .pending t)) u i)) (I .tasks)
+                (rw (its-add, upd-same (A .pending) t (addSteps x [] (A .pending t)), its-call, upd-same (b .pending) t (advanced b x (b .pending t)), busy) (record {
                   tries = R .tries;
                   amount = R .amount;
                   failed = omega (arith, R .failed);
@@ -207,6 +243,11 @@ module _ (P : Op → Type 0) (up down : Op → Response → ℕ) (gain : Finishe
                   won = omega (arith, R .won);
                   lost = omega (arith, R .lost);
                   its = R .its;
+                  comes = R .comes;
+                  went-on = R .went-on;
+                  part-steps = R .part-steps;
+                  part-won = R .part-won;
+                  part-lost = R .part-lost;
                 }));
             ended = I .ended;
             left = I .left;
@@ -222,7 +263,7 @@ module _ (P : Op → Type 0) (up down : Op → Response → ℕ) (gain : Finishe
             F₁ = record { call = advance b x c; report = r }
 
             abbrev C₁ : AddCall
-            C₁ = addStep x (noOf (r .answer) + 0) C
+            C₁ = addStep x (r ∷ []) C
 
             closes : b₁ .finished ≡ F₁ ∷ b .finished
             closes = ap (λ (p : Option Call). closed (advanced b x p) r (b .finished)) busy
@@ -231,12 +272,12 @@ module _ (P : Op → Type 0) (up down : Op → Response → ℕ) (gain : Finishe
             there = rw closes (inl refl)
 
             -- another part begins
-            goes-on : (op' : Op) (a' : Add) → machine s' (begin t op') .1 ≡ accepted untried → Runs a' C₁ (called b₁ t op') → upOf F₁ ≡ downOf F₁ → After (act (step t)) (onwards top machine s' f t a x r (part op' a'))
+            goes-on : (op' : Op) (a' : Add) → machine s' (begin t op') .1 ≡ accepted untried → Runs top a' C₁ (called b₁ t op') → upOf F₁ ≡ downOf F₁ → After (act (step t)) (onwards top machine s' f t a x r (part op' a'))
             goes-on op' a' z runs even = subst (λ (e : Event). After (act (step t)) (handled top machine (machine s' (begin t op') .0) (upd f t (some a')) ((step t, answered x r) ∷ (begin t op', e) ∷ []) (plain (accepted x)))) (sym z) (record {
               reached = subst (λ (e : Event). Reached machine start (machine s' (begin t op') .0) (enter b₁ (begin t op') e)) z (reached-next machine start reached₁ (begin t op'));
-              tasks = at-all f (upd f t (some a')) (A .pending) (upd (A .pending) t (addSteps x (noOf (r .answer) + 0) (A .pending t))) (b .pending) (upd (upd (b .pending) t none) t (some (called b₁ t op'))) t
-                  (λ u i. (upd-off f t (some a') u i, upd-off (A .pending) t (addSteps x (noOf (r .answer) + 0) (A .pending t)) u i, upd-off (upd (b .pending) t none) t (some (called b₁ t op')) u i ∙ upd-off (b .pending) t none u i)) (I .tasks)
-                  (rw (upd-same f t (some a'), upd-same (A .pending) t (addSteps x (noOf (r .answer) + 0) (A .pending t)), its-call, upd-same (upd (b .pending) t none) t (some (called b₁ t op'))) runs);
+              tasks = at-all f (upd f t (some a')) (A .pending) (upd (A .pending) t (addSteps x (r ∷ []) (A .pending t))) (b .pending) (upd (upd (b .pending) t none) t (some (called b₁ t op'))) t
+                  (λ u i. (upd-off f t (some a') u i, upd-off (A .pending) t (addSteps x (r ∷ []) (A .pending t)) u i, upd-off (upd (b .pending) t none) t (some (called b₁ t op')) u i ∙ upd-off (b .pending) t none u i)) (I .tasks)
+                  (rw (upd-same f t (some a'), upd-same (A .pending) t (addSteps x (r ∷ []) (A .pending t)), its-call, upd-same (upd (b .pending) t none) t (some (called b₁ t op'))) runs);
               ended = I .ended;
               left = I .left;
               sum = rw closes (omega (arith, I .sum, even));
@@ -246,7 +287,7 @@ module _ (P : Op → Type 0) (up down : Op → Response → ℕ) (gain : Finishe
             abbrev Fz : AddAnswer → FinishedAdd
             Fz z = record { call = C₁; report = addReportOf a r z }
 
-            finishes : (z : AddAnswer) → RightAdd (Fz z) → upOf F₁ ≡ downOf F₁ + gain (Fz z) → After (act (step t)) (onwards top machine s' f t a x r (end z))
+            finishes : (z : AddAnswer) → RightAdd top (Fz z) → upOf F₁ ≡ downOf F₁ + gain (Fz z) → After (act (step t)) (onwards top machine s' f t a x r (end z))
             finishes z right even = record {
               reached = reached₁;
               tasks = at-all f (upd f t none) (A .pending) (upd (A .pending) t none) (b .pending) (upd (b .pending) t none) t (λ u i. (upd-off f t none u i, upd-off (A .pending) t none u i, upd-off (b .pending) t none u i)) (I .tasks)
@@ -256,10 +297,10 @@ module _ (P : Op → Type 0) (up down : Op → Response → ℕ) (gain : Finishe
               sum = rw (closes, list) (omega (arith, I .sum, even));
             }
               where
-                list : addEnds (addSteps x (noOf (r .answer) + 0) (A .pending t)) (addReportOf a r z) (A .finished) ≡ Fz z ∷ A .finished
-                list = ap (λ (p : Option AddCall). addEnds (addSteps x (noOf (r .answer) + 0) p) (addReportOf a r z) (A .finished)) its-call
+                list : addEnds (addSteps x (r ∷ []) (A .pending t)) (addReportOf a r z) (A .finished) ≡ Fz z ∷ A .finished
+                list = ap (λ (p : Option AddCall). addEnds (addSteps x (r ∷ []) p) (addReportOf a r z) (A .finished)) its-call
 
-                among : (F : FinishedAdd) → (F ≡ Fz z) ⊎ (F ∈ A .finished) → RightAdd F
+                among : (F : FinishedAdd) → (F ≡ Fz z) ⊎ (F ∈ A .finished) → RightAdd top F
                 among F (inl e) = rw e right
                 among F (inr i) = I .ended F i
 
@@ -289,8 +330,8 @@ module _ (P : Op → Type 0) (up down : Op → Response → ℕ) (gain : Finishe
                 noes-are = ap noOf e
 
                 -- the next part op', n more swaps having answered no
-                next : (n : ℕ) → noOf y ≡ n → a .failed + n < a .tries → (op' : Op) → Part (withPart a r n) (C .cell) (C .amount) op' → Runs (withPart a r n) C₁ (called b₁ t op')
-                next n z l op' p = record {
+                next : (n : ℕ) → noOf y ≡ n → a .failed + n < a .tries → (op' : Op) → Part (withPart a r n) (C .start .cell) (C .start .amount) op' → NextPart top (C .start .cell) (C .start .amount) (some y) op' → GoesOnAfter top (C .start .amount) y → Runs top (withPart a r n) C₁ (called b₁ t op')
+                next n z l op' p comes on = record {
                   tries = R .tries;
                   amount = R .amount;
                   failed = omega (arith, R .failed, noes-are, z);
@@ -301,20 +342,39 @@ module _ (P : Op → Type 0) (up down : Op → Response → ℕ) (gain : Finishe
                   won = omega (arith, R .won, reports .won);
                   lost = omega (arith, R .lost, reports .lost);
                   its = p;
+                  comes = subst (λ (y : Response). NextPart top (C .start .cell) (C .start .amount) (some y) op') (sym e) comes;
+                  went-on = went-on;
+                  part-steps = omega (arith, R .part-steps);
+                  part-won = omega (arith, R .part-won);
+                  part-lost = omega (arith, R .part-lost);
+                }
+                  where
+                    went-on : AllGoOn top (C .start .amount) (r ∷ C .parts)
+                    went-on o (inl w) = subst (GoesOnAfter top (C .start .amount)) (sym (ap (λ (r : Report). r .answer) w ∙ e)) on
+                    went-on o (inr i) = R .went-on o i
+
+                last : (z : AddAnswer) → cellOf op ≡ C .start .cell → a .steps + r .steps ≤ 27 * a .tries → (a .won + r .won) + (a .lost + r .lost) ≤ 4 * a .tries → a .failed + noOf y ≤ a .tries →
+                    RightAnswer top (C .start .amount) (C .start .tries) (r ∷ C .parts) z → RightAdd top (Fz z)
+                last z k few hard noes answer = record {
+                  counted = record {
+                    cell = at-cell ∙ k;
+                    steps = omega (arith, R .steps, reports .steps);
+                    won = omega (arith, R .won, reports .won);
+                    lost = omega (arith, R .lost, reports .lost);
+                    tries = (omega (arith, R .tries, R .some-tries), omega (arith, R .tries, R .few-tries));
+                    few-steps = omega (arith, R .tries, R .steps, reports .steps);
+                    few-attempts = omega (arith, R .tries, R .won, R .lost, reports .won, reports .lost);
+                  };
+                  steps = omega (arith, R .part-steps);
+                  won = omega (arith, R .part-won);
+                  lost = omega (arith, R .part-lost);
+                  went-on = R .went-on;
+                  few-noes = omega (arith, noes, R .failed, R .tries, noes-are);
+                  answer = answer;
                 }
 
-                last : (z : AddAnswer) → cellOf op ≡ C .cell → a .steps + r .steps ≤ 27 * a .tries → (a .won + r .won) + (a .lost + r .lost) ≤ 4 * a .tries → (z ≡ Spent → a .failed + noOf y ≡ a .tries) → (z ≢ Spent → a .failed + noOf y < a .tries) → RightAdd (Fz z)
-                last z k few hard all fewer = record {
-                  cell = at-cell ∙ k;
-                  steps = omega (arith, R .steps, reports .steps);
-                  won = omega (arith, R .won, reports .won);
-                  lost = omega (arith, R .lost, reports .lost);
-                  tries = (omega (arith, R .tries, R .some-tries), omega (arith, R .tries, R .few-tries));
-                  few-steps = omega (arith, R .tries, R .steps, reports .steps);
-                  few-attempts = omega (arith, R .tries, R .won, R .lost, reports .won, reports .lost);
-                  spent-failed = λ w. omega (arith, all w, R .failed, R .tries, noes-are);
-                  else-fewer = λ w. omega (arith, fewer w, R .failed, R .tries, noes-are);
-                }
+                noes-now : noes (r ∷ C .parts) ≡ a .failed + noOf y
+                noes-now = omega (arith, R .failed, noes-are)
 
                 up-is : upOf F₁ ≡ up op y
                 up-is = rw (q, e)
@@ -322,48 +382,53 @@ module _ (P : Op → Type 0) (up down : Op → Response → ℕ) (gain : Finishe
                 down-is : downOf F₁ ≡ down op y
                 down-is = rw (q, e)
 
-              turns : (op : Op) → c .start .op ≡ op → Part a (C .cell) (C .amount) op → (y : Response) → r .answer ≡ y → Suits op y → After (act (step t)) (onwards top machine s' f t a x r (ahead top a r y))
+              turns : (op : Op) → c .start .op ≡ op → Part a (C .start .cell) (C .start .amount) op → (y : Response) → r .answer ≡ y → Suits op y → After (act (step t)) (onwards top machine s' f t a x r (ahead top a r y))
               turns op q (reading h i) (Value v) e u = test (sumBelow top a v) refl
                 where
-                  k : r .cell ≡ C .cell
-                  k = at-cell (read (C .cell)) q (Value v) e
+                  k : r .cell ≡ C .start .cell
+                  k = at-cell (read (C .start .cell)) q (Value v) e
 
                   even : upOf F₁ ≡ downOf F₁
-                  even = up-is (read (C .cell)) q (Value v) e ∙ W .read-even (C .cell) v ∙ sym (down-is (read (C .cell)) q (Value v) e)
+                  even = up-is (read (C .start .cell)) q (Value v) e ∙ W .read-even (C .start .cell) v ∙ sym (down-is (read (C .start .cell)) q (Value v) e)
 
                   m : r .steps ≤ 6
-                  m = few-steps (read (C .cell)) q (Value v) e
+                  m = few-steps (read (C .start .cell)) q (Value v) e
 
                   n : r .won + r .lost ≤ 1
-                  n = few-attempts (read (C .cell)) q (Value v) e
+                  n = few-attempts (read (C .start .cell)) q (Value v) e
 
                   test : (z : Bool) → sumBelow top a v ≡ z → After (act (step t)) (onwards top machine s' f t a x r (cond z (part (swap (r .cell) v (v + a .amount)) (withPart a r 0)) (end Over)))
                   test true z =
                       let l = ltb-true _ _ z in
                       goes-on (swap (r .cell) v (v + a .amount)) (withPart a r 0) (more (swap (r .cell) v (v + a .amount)) refl (omega arith, l))
-                      (next (read (C .cell)) q (Value v) e 0 refl (omega (arith, R .fewer)) (swap (r .cell) v (v + a .amount))
-                      (subst (λ (o : Op). Part (withPart a r 0) (C .cell) (C .amount) o) (λ j. swap (sym k j) v (v + R .amount j)) (swapping v (omega (arith, h, m)) (omega (arith, i, n))))) even
-                  test false z = finishes Over (last (read (C .cell)) q (Value v) e Over refl (omega (arith, h, m, R .fewer)) (omega (arith, i, n, R .fewer)) (λ w. absurd (let g : _≡_ {A = ℕ} 0 1 = cc in omega arith)) (λ w. omega (arith, R .fewer)))
+                      (next (read (C .start .cell)) q (Value v) e 0 refl (omega (arith, R .fewer)) (swap (r .cell) v (v + a .amount))
+                      (subst (λ (o : Op). Part (withPart a r 0) (C .start .cell) (C .start .amount) o) (λ j. swap (sym k j) v (v + R .amount j)) (swapping v (omega (arith, h, m)) (omega (arith, i, n))))
+                      ((λ j. swap (k j) v (v + sym (R .amount) j)), omega (arith, l, R .amount)) (omega (arith, l, R .amount))) even
+                  test false z =
+                      let l : top ≤ v + a .amount = ltb-false _ _ z in
+                      finishes Over (last (read (C .start .cell)) q (Value v) e Over refl (omega (arith, h, m, R .fewer)) (omega (arith, i, n, R .fewer)) (omega (arith, R .fewer))
+                      (only-over top (C .start .amount) (C .start .tries) v (r ∷ C .parts) (ap some e) (omega (arith, l, R .amount)) (omega (arith, noes-now (read (C .start .cell)) q (Value v) e, R .fewer, R .tries))))
                       (even ∙ omega (arith, W .no-gain (Fz Over) (λ w. let g : _≡_ {A = ℕ} 0 1 = cc in omega arith)))
               turns op q (reading h i) Yes e u = absurd u
               turns op q (reading h i) No e u = absurd u
               turns op q (swapping v h i) (Value w) e u = absurd u
               turns op q (swapping v h i) Yes e u =
-                  let o = swap (C .cell) v (v + C .amount) in
+                  let o = swap (C .start .cell) v (v + C .start .amount) in
                   let m = few-steps o q Yes e in
                   let n = few-attempts o q Yes e in
-                  finishes AmountAdded (last o q Yes e AmountAdded refl (omega (arith, h, m, R .fewer)) (omega (arith, i, n, R .fewer)) (λ w. absurd (let g : _≡_ {A = ℕ} 0 1 = cc in omega arith)) (λ w. omega (arith, R .fewer)))
+                  finishes AmountAdded (last o q Yes e AmountAdded refl (omega (arith, h, m, R .fewer)) (omega (arith, i, n, R .fewer)) (omega (arith, R .fewer))
+                  (only-added top (C .start .amount) (C .start .tries) (r ∷ C .parts) (ap some e) (omega (arith, noes-now o q Yes e, R .fewer, R .tries))))
                   (up-is o q Yes e ∙ W .yes-gain v (Fz AmountAdded) refl ∙ ap (λ (n : ℕ). n + gain (Fz AmountAdded)) (sym (down-is o q Yes e)))
               turns op q (swapping v h i) No e u = test (tryLeft a) refl
                 where
                   o : Op
-                  o = swap (C .cell) v (v + C .amount)
+                  o = swap (C .start .cell) v (v + C .start .amount)
 
-                  k : r .cell ≡ C .cell
+                  k : r .cell ≡ C .start .cell
                   k = at-cell o q No e
 
                   even : upOf F₁ ≡ downOf F₁
-                  even = up-is o q No e ∙ W .no-even (C .cell) v (v + C .amount) ∙ sym (down-is o q No e)
+                  even = up-is o q No e ∙ W .no-even (C .start .cell) v (v + C .start .amount) ∙ sym (down-is o q No e)
 
                   m : r .steps ≤ 21
                   m = few-steps o q No e
@@ -376,10 +441,11 @@ module _ (P : Op → Type 0) (up down : Op → Response → ℕ) (gain : Finishe
                       let l : suc (a .failed) < a .tries = ltb-true _ _ z in
                       goes-on (read (r .cell)) (withPart a r 1) (more (read (r .cell)) refl tt)
                       (next o q No e 1 refl (omega (arith, l)) (read (r .cell))
-                      (subst (λ (o : Op). Part (withPart a r 1) (C .cell) (C .amount) o) (ap read (sym k)) (reading (omega (arith, h, m)) (omega (arith, i, n))))) even
+                      (subst (λ (o : Op). Part (withPart a r 1) (C .start .cell) (C .start .amount) o) (ap read (sym k)) (reading (omega (arith, h, m)) (omega (arith, i, n)))) (ap read k) tt) even
                   test false z =
                       let l : a .tries ≤ suc (a .failed) = ltb-false _ _ z in
-                      finishes Spent (last o q No e Spent refl (omega (arith, h, m, R .fewer)) (omega (arith, i, n, R .fewer)) (λ w. omega (arith, l, R .fewer)) (λ w. absurd (w refl)))
+                      finishes Spent (last o q No e Spent refl (omega (arith, h, m, R .fewer)) (omega (arith, i, n, R .fewer)) (omega (arith, R .fewer))
+                      (only-spent top (C .start .amount) (C .start .tries) (r ∷ C .parts) (ap some e) (omega (arith, noes-now o q No e, l, R .fewer, R .tries))))
                       (even ∙ omega (arith, W .no-gain (Fz Spent) (λ w. let g : _≡_ {A = ℕ} 0 1 = cc in omega arith)))
 
         -- any step
@@ -407,11 +473,11 @@ module _ (P : Op → Type 0) (up down : Op → Response → ℕ) (gain : Finishe
           sum = I .sum;
         }
           where
-            with-its : (o : Option Add) (B : Option AddCall) (p : Option Call) → b .pending t ≡ p → At o B p → (C : AddCall) → C ∈ alsoWithdrawnAdd B (A .withdrawn) → RightSoFar C
+            with-its : (o : Option Add) (B : Option AddCall) (p : Option Call) → b .pending t ≡ p → At o B p → (C : AddCall) → C ∈ alsoWithdrawnAdd B (A .withdrawn) → RightSoFar top C
             with-its o none p z h C i = I .left C i
             with-its none (some D) p z h C i = absurd h
             with-its (some a) (some D) none z h C i = absurd h
-            with-its (some a) (some D) (some c) z h C (inl e) = rw e (so-far a D c h (bounds machine start meets (I .reached) .unended t c z))
+            with-its (some a) (some D) (some c) z h C (inl e) = rw e (so-far top a D c h (bounds machine start meets (I .reached) .unended t c z))
             with-its (some a) (some D) (some c) z h C (inr i) = I .left C i
 
       -- ANY REQUEST
@@ -431,7 +497,7 @@ module _ (P : Op → Type 0) (up down : Op → Response → ℕ) (gain : Finishe
     abbrev pub PlainWell : List (Request × Gave) → Type 0
     PlainWell h = (t : ℕ) (op : Op) (g : Gave) (x : Attempt) → (act (begin t op), g) ∈ h → g .event ≡ plain (accepted x) → P op
 
-    module _ (W : Weights) {Clear : List Action → ℕ → Type 0} {size : ℕ} {values : ℕ → ℕ} (meets : Meets machine start Clear size values) (continues : Continues machine start top) where
+    module _ (W : Weights P up down gain) {Clear : List Action → ℕ → Type 0} {size : ℕ} {values : ℕ → ℕ} (meets : Meets machine start Clear size values) (continues : Continues machine start top) where
       all : (l : List Request) (s : S) (f : ℕ → Option Add) (b : Calls) (A : AddCalls) → Inv s f b A → PlainWell (history (withAdds top machine) (s, f) l) →
           let h = history (withAdds top machine) (s, f) l in
           let x = run (withAdds top machine) (s, f) l in
@@ -459,24 +525,23 @@ module _ {S : Type 0} (top : ℕ) (machine : S → Action → S × Event) (start
   abbrev none-weighs : Weights (λ op. Unit {0}) (λ op a. 0) (λ op a. 0) (λ F. 0)
   none-weighs = record { plain-even = λ op a p. refl; read-even = λ k v. refl; no-even = λ k e n. refl; yes-gain = λ v F e. refl; no-gain = λ F e. refl }
 
-  invariant : let x = run (withAdds top machine) (start, noAdds) l in Inv (λ op. Unit {0}) (λ op a. 0) (λ op a. 0) (λ F. 0) top machine start (x .0) (x .1) (enterAll noCalls (joined (didsOf h))) (addsOf h)
-  invariant = all-requests (λ op. Unit {0}) (λ op a. 0) (λ op a. 0) (λ F. 0) top machine start none-weighs meets continues l (λ t op g x i e. tt)
+  invariant : let x = run (withAdds top machine) (start, noAdds) l in Inv top (λ op. Unit {0}) (λ op a. 0) (λ op a. 0) (λ F. 0) machine start (x .0) (x .1) (enterAll noCalls (joined (didsOf h))) (addsOf h)
+  invariant = all-requests top (λ op. Unit {0}) (λ op a. 0) (λ op a. 0) (λ F. 0) machine start none-weighs meets continues l (λ t op g x i e. tt)
 
-  -- Each add that is finished reports what it did, within 27 steps and 4 hardware CAS attempts for each of its 1 to 8 tries, and says spent
-  -- exactly where every try's swap answered no; each that is pending or withdrawn has fewer steps than that, and fewer swaps that answered no
-  -- than tries.
-  pub adds-right : RightAdds (addsOf (history (withAdds top machine) (start, noAdds) l))
+  -- Each add that is finished reports what it did, the sums over its parts, and answers by the last of them; each that is pending or withdrawn
+  -- has fewer steps than 27 for each try, and fewer swaps that answered no than tries.
+  pub adds-right : RightAdds top (addsOf (history (withAdds top machine) (start, noAdds) l))
   adds-right = record {
     ended = invariant .ended;
     unended = λ t C e. unended t (run (withAdds top machine) (start, noAdds) l .1 t) (addsOf h .pending t) (enterAll noCalls (joined (didsOf h)) .pending t) refl (invariant .tasks t) C e;
     withdrawn = invariant .left;
   }
     where
-      unended : (t : ℕ) (o : Option Add) (B : Option AddCall) (p : Option Call) → enterAll noCalls (joined (didsOf h)) .pending t ≡ p → At (λ op. Unit {0}) (λ op a. 0) (λ op a. 0) (λ F. 0) o B p → (C : AddCall) → B ≡ some C → RightSoFar C
+      unended : (t : ℕ) (o : Option Add) (B : Option AddCall) (p : Option Call) → enterAll noCalls (joined (didsOf h)) .pending t ≡ p → At top (λ op. Unit {0}) (λ op a. 0) (λ op a. 0) (λ F. 0) o B p → (C : AddCall) → B ≡ some C → RightSoFar top C
       unended t o none p z x C e = absurd (clash refl e)
       unended t none (some D) p z x C e = absurd x
       unended t (some a) (some D) none z x C e = absurd x
-      unended t (some a) (some D) (some c) z x C e = subst RightSoFar (some-inj {o = some D} refl e) (so-far a D c x (bounds machine start meets (invariant .reached) .unended t c z))
+      unended t (some a) (some D) (some c) z x C e = subst (RightSoFar top) (some-inj {o = some D} refl e) (so-far top a D c x (bounds machine start meets (invariant .reached) .unended t c z))
 
   -- what an add under way did before its part that is under way: 27 steps and 4 hardware CAS attempts at most for each swap that answered no,
   -- with 6 and 1 more where a swap is under way; its task has that part as its pending call
@@ -492,9 +557,9 @@ module _ {S : Type 0} (top : ℕ) (machine : S → Action → S × Event) (start
   pub adds-limits : (t : ℕ) (a : Add) → run (withAdds top machine) (start, noAdds) l .1 t ≡ some a → Limits t a
   adds-limits t a e = go (run (withAdds top machine) (start, noAdds) l .1 t) (addsOf h .pending t) (enterAll noCalls (joined (didsOf h)) .pending t) refl (invariant .tasks t) e
     where
-      go : (o : Option Add) (B : Option AddCall) (p : Option Call) → enterAll noCalls (joined (didsOf h)) .pending t ≡ p → At (λ op. Unit {0}) (λ op a. 0) (λ op a. 0) (λ F. 0) o B p → o ≡ some a → Limits t a
+      go : (o : Option Add) (B : Option AddCall) (p : Option Call) → enterAll noCalls (joined (didsOf h)) .pending t ≡ p → At top (λ op. Unit {0}) (λ op a. 0) (λ op a. 0) (λ F. 0) o B p → o ≡ some a → Limits t a
       go none none p q x e = absurd (clash refl e)
       go none (some D) p q x e = absurd x
       go (some d) none p q x e = absurd x
       go (some d) (some D) none q x e = absurd x
-      go (some d) (some D) (some c) q x e = subst (Limits t) (some-inj {o = some d} refl e) (record { call = c; busy = q; tries = (x .some-tries, x .few-tries); fewer = x .fewer; cell = D .cell; amount = D .amount; its = x .its })
+      go (some d) (some D) (some c) q x e = subst (Limits t) (some-inj {o = some d} refl e) (record { call = c; busy = q; tries = (x .some-tries, x .few-tries); fewer = x .fewer; cell = D .start .cell; amount = D .start .amount; its = x .its })

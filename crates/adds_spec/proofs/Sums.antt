@@ -86,7 +86,7 @@ Off k (read j) = Unit {0}
 Off k (swap j e n) = k ≢ j
 
 weights : (k : ℕ) → Weights (Off k) (put k) (taken k) (broughtBy k)
-weights k = record { plain-even = even; read-even = λ j v. refl; no-even = λ j e n. refl; yes-gain = gains; no-gain = λ F h. nothing (F .report .answer) h (eqb k (F .call .cell)) (F .call .amount) }
+weights k = record { plain-even = even; read-even = λ j v. refl; no-even = λ j e n. refl; yes-gain = gains; no-gain = λ F h. nothing (F .report .answer) h (eqb k (F .call .start .cell)) (F .call .start .amount) }
   where
     even : (op : Op) (a : Response) → Off k op → put k op a ≡ taken k op a
     even (read j) a h = refl
@@ -94,8 +94,8 @@ weights k = record { plain-even = even; read-even = λ j v. refl; no-even = λ j
     even (swap j e n) Yes h = rw (ne-eqb k j h)
     even (swap j e n) No h = refl
 
-    gains : (v : ℕ) (F : FinishedAdd) → F .report .answer ≡ AmountAdded → put k (swap (F .call .cell) v (v + F .call .amount)) Yes ≡ taken k (swap (F .call .cell) v (v + F .call .amount)) Yes + broughtBy k F
-    gains v F e = rw e (go (eqb k (F .call .cell)) (F .call .amount))
+    gains : (v : ℕ) (F : FinishedAdd) → F .report .answer ≡ AmountAdded → put k (swap (F .call .start .cell) v (v + F .call .start .amount)) Yes ≡ taken k (swap (F .call .start .cell) v (v + F .call .start .amount)) Yes + broughtBy k F
+    gains v F e = rw e (go (eqb k (F .call .start .cell)) (F .call .start .amount))
       where
         go : (b : Bool) (d : ℕ) → cond b (v + d) 0 ≡ cond b v 0 + cond b d 0
         go true d = refl
@@ -118,7 +118,7 @@ module _ {S : Type 0} (top : ℕ) (machine : S → Action → S × Event) (start
     (totals : (w : Op → Response → ℕ) → ((op : Op) (a : Response) → cellOf op ≢ k → w op a ≡ 0) → total (λ (m : Mark). w (m .call .op) (m .answer)) ms ≡ total (λ (f : FinishedCall). w (f .call .start .op) (f .report .answer)) (enterAll noCalls (joined (didsOf (history (withAdds top machine) (start, noAdds) l))) .finished)) where
   pub sum-left : OnlyAdds k (history (withAdds top machine) (start, noAdds) l) → leftBy values (map pointOf ms) k ≡ values k + broughtTo k (addsOf (history (withAdds top machine) (start, noAdds) l) .finished)
   sum-left only =
-      let I = all-requests (Off k) (put k) (taken k) (broughtBy k) top machine start (weights k) meets continues l plainly in
+      let I = all-requests top (Off k) (put k) (taken k) (broughtBy k) machine start (weights k) meets continues l plainly in
       let B = subst (λ (r : List (Point × Response)). leftBy values (map pointOf ms) k + total (λ (p : Point × Response). taken k (p .0 .call .op) (p .1)) r ≡ values k + total (λ (p : Point × Response). put k (p .0 .call .op) (p .1)) r) answers (balance k values (map pointOf ms)) in
       omega (arith, B, by-marks (taken k) ms, by-marks (put k) ms, totals (taken k) (taken-off k), totals (put k) (put-off k), I .sum, all-brought k (addsOf (history (withAdds top machine) (start, noAdds) l) .finished))
     where

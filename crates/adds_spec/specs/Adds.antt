@@ -1,24 +1,28 @@
 -- Adds as calls: each add of a list of requests, its counts over all its parts, and what it answered.
 use mathlib.Core.Path.{_≡_}
-use mathlib.Core.Logic.{_≢_}
+use mathlib.Core.Logic.{_↔_}
 use mathlib.Core.Option.{Option, none, some}
-use mathlib.Core.List.{List, [], _∷_}
+use mathlib.Core.List.{List, [], _∷_, _++_}
 use Prim.Native.Nat.{ℕ, suc, _+_, _*_, _≤_, _<_}
 use Rattle.history_spec.specs.Basics.{upd, _∈_}
-use Rattle.history_spec.specs.History.{Action, begin, step, drop, taskOf, Response, Value, Yes, No, Attempt, Event, refused, accepted, answered, wins, losses}
-use Rattle.adds_spec.specs.Requests.{Request, act, add, Spent, AddReport, RequestEvent, plain, summed, Gave}
+use Rattle.history_spec.specs.History.{Op, read, swap, Action, begin, step, drop, taskOf, Response, Value, Yes, No, Report, Attempt, Event, refused, accepted, answered, wins, losses}
+use Rattle.adds_spec.specs.Requests.{Request, act, add, AddAnswer, AmountAdded, Over, Spent, AddReport, RequestEvent, plain, summed, Gave}
 
--- what never changes of an add, and what it did so far: its steps, their hardware CAS attempts won and lost, its swaps that answered no
-pub record AddCall : Type 0 where
+-- what never changes of an add: the moment of its begin, its task and cell, its amount and tries
+pub record AddId : Type 0 where
   pub at : ℕ
   pub task : ℕ
   pub cell : ℕ
   pub amount : ℕ
   pub tries : ℕ
+
+-- an add so far: its steps, their hardware CAS attempts won and lost; the reports of its reads and swaps that ended, the last one first
+pub record AddCall : Type 0 where
+  pub start : AddId
   pub steps : ℕ
   pub won : ℕ
   pub lost : ℕ
-  pub failed : ℕ
+  pub parts : List Report
 
 pub record FinishedAdd : Type 0 where
   pub call : AddCall
@@ -34,24 +38,19 @@ pub record AddCalls : Type 0 where
 abbrev pub noAddCalls : AddCalls
 noAddCalls = record { now = 0; pending = λ t. none; finished = []; withdrawn = [] }
 
-abbrev pub noOf : Response → ℕ
-noOf (Value v) = 0
-noOf Yes = 0
-noOf No = 1
+-- the reports among what a request did
+abbrev pub reportsIn : List (Action × Event) → List Report
+reportsIn [] = []
+reportsIn ((a, refused n) ∷ d) = reportsIn d
+reportsIn ((a, accepted x) ∷ d) = reportsIn d
+reportsIn ((a, answered x r) ∷ d) = r ∷ reportsIn d
 
--- the swaps that answered no among what a request did
-abbrev pub noes : List (Action × Event) → ℕ
-noes [] = 0
-noes ((a, refused n) ∷ d) = noes d
-noes ((a, accepted x) ∷ d) = noes d
-noes ((a, answered x r) ∷ d) = noOf (r .answer) + noes d
+abbrev pub addStep : Attempt → List Report → AddCall → AddCall
+addStep x l c = record { start = c .start; steps = suc (c .steps); won = c .won + wins x; lost = c .lost + losses x; parts = l ++ c .parts }
 
-abbrev pub addStep : Attempt → ℕ → AddCall → AddCall
-addStep x n c = record { at = c .at; task = c .task; cell = c .cell; amount = c .amount; tries = c .tries; steps = suc (c .steps); won = c .won + wins x; lost = c .lost + losses x; failed = c .failed + n }
-
-abbrev pub addSteps : Attempt → ℕ → Option AddCall → Option AddCall
-addSteps x n none = none
-addSteps x n (some c) = some (addStep x n c)
+abbrev pub addSteps : Attempt → List Report → Option AddCall → Option AddCall
+addSteps x l none = none
+addSteps x l (some c) = some (addStep x l c)
 
 abbrev pub addEnds : Option AddCall → AddReport → List FinishedAdd → List FinishedAdd
 addEnds none r l = l
@@ -65,7 +64,7 @@ abbrev pub addsPassed : AddCalls → AddCalls
 addsPassed b = addsMoved b (b .pending) (b .finished)
 
 abbrev pub addCalled : AddCalls → (task cell amount tries : ℕ) → AddCall
-addCalled b t k d r = record { at = b .now; task = t; cell = k; amount = d; tries = r; steps = 0; won = 0; lost = 0; failed = 0 }
+addCalled b t k d r = record { start = record { at = b .now; task = t; cell = k; amount = d; tries = r }; steps = 0; won = 0; lost = 0; parts = [] }
 
 abbrev pub alsoWithdrawnAdd : Option AddCall → List AddCall → List AddCall
 alsoWithdrawnAdd none l = l
@@ -82,11 +81,11 @@ requester (add t k d r) = t
 abbrev pub enterAdd : AddCalls → Request → List (Action × Event) → RequestEvent → AddCalls
 enterAdd b q l (plain (refused n)) = addsPassed b
 enterAdd b (act (begin t op)) l (plain (accepted x)) = addsPassed b
-enterAdd b (act (step t)) l (plain (accepted x)) = addsMoved b (upd (b .pending) t (addSteps x (noes l) (b .pending t))) (b .finished)
+enterAdd b (act (step t)) l (plain (accepted x)) = addsMoved b (upd (b .pending) t (addSteps x (reportsIn l) (b .pending t))) (b .finished)
 enterAdd b (act (drop t)) l (plain (accepted x)) = addWithdrawn b t
 enterAdd b (add t k d r) l (plain (accepted x)) = addsMoved b (upd (b .pending) t (some (addCalled b t k d r))) (b .finished)
 enterAdd b q l (plain (answered x r)) = addsPassed b
-enterAdd b q l (summed x r) = let t = requester q in addsMoved b (upd (b .pending) t none) (addEnds (addSteps x (noes l) (b .pending t)) r (b .finished))
+enterAdd b q l (summed x r) = let t = requester q in addsMoved b (upd (b .pending) t none) (addEnds (addSteps x (reportsIn l) (b .pending t)) r (b .finished))
 
 abbrev pub enterAdds : AddCalls → List (Request × Gave) → AddCalls
 enterAdds b [] = b
@@ -97,26 +96,80 @@ addsOf h = enterAdds noAddCalls h
 
 -- WHAT HOLDS OF THEM
 
--- a finished add: what it reports is what it did; at most 27 steps and 4 hardware CAS attempts for each try; spent exactly where every try's
--- swap answered no
-pub record RightAdd (f : FinishedAdd) : Type 0 where
-  pub cell : f .report .cell ≡ f .call .cell
+-- added up over some parts
+abbrev pub sumOf : (Report → ℕ) → List Report → ℕ
+sumOf f [] = 0
+sumOf f (r ∷ l) = f r + sumOf f l
+
+abbrev pub noOf : Response → ℕ
+noOf (Value v) = 0
+noOf Yes = 0
+noOf No = 1
+
+-- the swaps that answered no
+abbrev pub noes : List Report → ℕ
+noes l = sumOf (λ (r : Report). noOf (r .answer)) l
+
+abbrev pub lastAnswer : List Report → Option Response
+lastAnswer [] = none
+lastAnswer (r ∷ l) = some (r .answer)
+
+abbrev pub butLast : List Report → List Report
+butLast [] = []
+butLast (r ∷ l) = l
+
+-- `top` is none. An add goes on after a read whose value plus the amount is below it, and after a swap that answered no.
+abbrev pub GoesOnAfter : (top amount : ℕ) → Response → Type 0
+GoesOnAfter top d (Value v) = v + d < top
+GoesOnAfter top d Yes = ⊥
+GoesOnAfter top d No = Unit {0}
+
+abbrev pub AllGoOn : (top amount : ℕ) → List Report → Type 0
+AllGoOn top d l = (r : Report) → r ∈ l → GoesOnAfter top d (r .answer)
+
+-- the part under way, by the answer of the part before it: a read at first, and after a swap that answered no; after a read, the swap of its
+-- value to that plus the amount
+abbrev pub NextPart : (top cell amount : ℕ) → Option Response → Op → Type 0
+NextPart top k d none op = op ≡ read k
+NextPart top k d (some (Value v)) op = (op ≡ swap k v (v + d)) × (v + d < top)
+NextPart top k d (some Yes) op = ⊥
+NextPart top k d (some No) op = op ≡ read k
+
+-- added exactly where its last swap answered yes; over exactly where the value just read plus the amount is none or more; spent exactly where
+-- as many swaps as it has tries answered no
+pub record RightAnswer (top amount tries : ℕ) (parts : List Report) (z : AddAnswer) : Type 0 where
+  pub added : (z ≡ AmountAdded) ↔ (lastAnswer parts ≡ some Yes)
+  pub over : (z ≡ Over) ↔ ((v : ℕ) × (lastAnswer parts ≡ some (Value v)) × (top ≤ v + amount))
+  pub spent : (z ≡ Spent) ↔ (noes parts ≡ tries)
+
+-- what a finished add reports is what it did, within 27 steps and 4 hardware CAS attempts for each of its 1 to 8 tries
+pub record Counted (f : FinishedAdd) : Type 0 where
+  pub cell : f .report .cell ≡ f .call .start .cell
   pub steps : f .report .steps ≡ f .call .steps
   pub won : f .report .won ≡ f .call .won
   pub lost : f .report .lost ≡ f .call .lost
-  pub tries : (1 ≤ f .call .tries) × (f .call .tries ≤ 8)
-  pub few-steps : f .call .steps ≤ 27 * f .call .tries
-  pub few-attempts : f .call .won + f .call .lost ≤ 4 * f .call .tries
-  pub spent-failed : f .report .answer ≡ Spent → f .call .failed ≡ f .call .tries
-  pub else-fewer : f .report .answer ≢ Spent → f .call .failed < f .call .tries
+  pub tries : (1 ≤ f .call .start .tries) × (f .call .start .tries ≤ 8)
+  pub few-steps : f .call .steps ≤ 27 * f .call .start .tries
+  pub few-attempts : f .call .won + f .call .lost ≤ 4 * f .call .start .tries
+
+-- its counts are those of its parts, added up; it went on after each part but the last, and answers by that one
+pub record RightAdd (top : ℕ) (f : FinishedAdd) : Type 0 where
+  pub counted : Counted f
+  pub steps : f .report .steps ≡ sumOf (λ (r : Report). r .steps) (f .call .parts)
+  pub won : f .report .won ≡ sumOf (λ (r : Report). r .won) (f .call .parts)
+  pub lost : f .report .lost ≡ sumOf (λ (r : Report). r .lost) (f .call .parts)
+  pub went-on : AllGoOn top (f .call .start .amount) (butLast (f .call .parts))
+  pub few-noes : noes (f .call .parts) ≤ f .call .start .tries
+  pub answer : RightAnswer top (f .call .start .amount) (f .call .start .tries) (f .call .parts) (f .report .answer)
 
 -- a pending one: it has fewer steps than the most, so it ends; a withdrawn one had fewer before its drop
-pub record RightSoFar (c : AddCall) : Type 0 where
-  pub few-steps : c .steps < 27 * c .tries
-  pub few-attempts : c .won + c .lost ≤ 4 * c .tries
-  pub fewer-failed : c .failed < c .tries
+pub record RightSoFar (top : ℕ) (c : AddCall) : Type 0 where
+  pub few-steps : c .steps < 27 * c .start .tries
+  pub few-attempts : c .won + c .lost ≤ 4 * c .start .tries
+  pub fewer-noes : noes (c .parts) < c .start .tries
+  pub went-on : AllGoOn top (c .start .amount) (c .parts)
 
-pub record RightAdds (b : AddCalls) : Type 0 where
-  pub ended : (f : FinishedAdd) → f ∈ b .finished → RightAdd f
-  pub unended : (t : ℕ) (c : AddCall) → b .pending t ≡ some c → RightSoFar c
-  pub withdrawn : (c : AddCall) → c ∈ b .withdrawn → RightSoFar c
+pub record RightAdds (top : ℕ) (b : AddCalls) : Type 0 where
+  pub ended : (f : FinishedAdd) → f ∈ b .finished → RightAdd top f
+  pub unended : (t : ℕ) (c : AddCall) → b .pending t ≡ some c → RightSoFar top c
+  pub withdrawn : (c : AddCall) → c ∈ b .withdrawn → RightSoFar top c

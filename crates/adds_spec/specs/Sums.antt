@@ -15,7 +15,7 @@ amountIf Over d = 0
 amountIf Spent d = 0
 
 abbrev pub broughtBy : ℕ → FinishedAdd → ℕ
-broughtBy k f = cond (eqb k (f .call .cell)) (amountIf (f .report .answer) (f .call .amount)) 0
+broughtBy k f = cond (eqb k (f .call .start .cell)) (amountIf (f .report .answer) (f .call .start .amount)) 0
 
 -- the amounts of all adds on cell k that answered added
 abbrev pub broughtTo : ℕ → List FinishedAdd → ℕ

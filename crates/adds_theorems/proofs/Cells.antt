@@ -44,9 +44,10 @@ module _ (old : State) (words : List ℕ) (tasks cells blocks : ℕ) (values : L
   pub adds-meet-demand-3 : MeetsAdds noValue pool (start old words tasks cells blocks values) (clearAfter figure (opening tasks cells values) clear) cells (λ k. getD values k 0)
   adds-meet-demand-3 = meets-adds noValue pool x₀ (clearAfter figure (opening tasks cells values) clear) cells (λ k. getD values k 0) (cells-meet-demand-3 old words tasks cells blocks values allowed)
 
-  -- An add takes at most 27 steps and 4 hardware CAS attempts for each of its tries, reports what it did, and is spent exactly where every
-  -- try's swap answered no; one that is pending or withdrawn has fewer steps.
-  pub adds-within-bounds : RightAdds (addsOf (history (withAdds noValue pool) (start old words tasks cells blocks values, noAdds) requests))
+  -- An add takes at most 27 steps and 4 hardware CAS attempts for each of its tries, and reports what it did: the sums over its parts. It is
+  -- added exactly where its last swap answered yes, over exactly where the value just read plus the amount is none or more, and spent exactly
+  -- where every try's swap answered no. One that is pending or withdrawn has fewer steps, and fewer swaps that answered no than tries.
+  pub adds-within-bounds : RightAdds noValue (addsOf (history (withAdds noValue pool) (start old words tasks cells blocks values, noAdds) requests))
   adds-within-bounds = adds-right noValue pool x₀ (cells-meet-demand-3 old words tasks cells blocks values allowed) (pool-continues old words tasks cells blocks values allowed) requests
 
   -- What question 6 asks of an add under way.
