@@ -92,14 +92,14 @@ module _ (P : Op → Type 0) (up down : Op → Response → ℕ) (gain : Finishe
 
 module _ (top : ℕ) (P : Op → Type 0) (up down : Op → Response → ℕ) (gain : FinishedAdd → ℕ) where
   -- a task: its add, the add as a call, its pending call
-  abbrev At : Option Add → Option AddCall → Option Call → Type 0
+  abbrev pub At : Option Add → Option AddCall → Option Call → Type 0
   At none none o = (c : Call) → o ≡ some c → P (c .start .op)
   At none (some C) o = ⊥
   At (some a) none o = ⊥
   At (some a) (some C) none = ⊥
   At (some a) (some C) (some c) = Runs top a C c
 
-  abbrev Tasks : (ℕ → Option Add) → (ℕ → Option AddCall) → (ℕ → Option Call) → Type 0
+  abbrev pub Tasks : (ℕ → Option Add) → (ℕ → Option AddCall) → (ℕ → Option Call) → Type 0
   Tasks f A p = (t : ℕ) → At (f t) (A t) (p t)
 
   -- only task t changed
@@ -519,13 +519,13 @@ module _ (top : ℕ) (P : Op → Type 0) (up down : Op → Response → ℕ) (ga
 -- THE BOUNDS OF ADDS, of any machine that meets demand 3 and lets a task whose call has ended begin another
 
 module _ {S : Type 0} (top : ℕ) (machine : S → Action → S × Event) (start : S) {Clear : List Action → ℕ → Type 0} {size : ℕ} {values : ℕ → ℕ} (meets : Meets machine start Clear size values) (continues : Continues machine start top) (l : List Request) where
-  abbrev h : List (Request × Gave)
+  abbrev pub h : List (Request × Gave)
   h = history (withAdds top machine) (start, noAdds) l
 
   abbrev none-weighs : Weights (λ op. Unit {0}) (λ op a. 0) (λ op a. 0) (λ F. 0)
   none-weighs = record { plain-even = λ op a p. refl; read-even = λ k v. refl; no-even = λ k e n. refl; yes-gain = λ v F e. refl; no-gain = λ F e. refl }
 
-  invariant : let x = run (withAdds top machine) (start, noAdds) l in Inv top (λ op. Unit {0}) (λ op a. 0) (λ op a. 0) (λ F. 0) machine start (x .0) (x .1) (enterAll noCalls (joined (didsOf h))) (addsOf h)
+  pub invariant : let x = run (withAdds top machine) (start, noAdds) l in Inv top (λ op. Unit {0}) (λ op a. 0) (λ op a. 0) (λ F. 0) machine start (x .0) (x .1) (enterAll noCalls (joined (didsOf h))) (addsOf h)
   invariant = all-requests top (λ op. Unit {0}) (λ op a. 0) (λ op a. 0) (λ F. 0) machine start none-weighs meets continues l (λ t op g x i e. tt)
 
   -- Each add that is finished reports what it did, the sums over its parts, and answers by the last of them; each that is pending or withdrawn

@@ -5,3 +5,4 @@ pub mod Meets
 pub mod Reached
 pub mod Adds
 pub mod Sums
+pub mod AddEnds

@@ -4,9 +4,10 @@ use mathlib.Core.Logic.{_↔_}
 use mathlib.Core.Option.{Option, none, some}
 use mathlib.Core.List.{List, [], _∷_, _++_}
 use Prim.Native.Nat.{ℕ, suc, _+_, _*_, _≤_, _<_}
+use lib.ListN.{replicate}
 use Rattle.history_spec.specs.Basics.{upd, _∈_}
-use Rattle.history_spec.specs.History.{Op, read, swap, Action, begin, step, drop, taskOf, Response, Value, Yes, No, Report, Attempt, Event, refused, accepted, answered, wins, losses}
-use Rattle.adds_spec.specs.Requests.{Request, act, add, AddAnswer, AmountAdded, Over, Spent, AddReport, RequestEvent, plain, summed, Gave}
+use Rattle.history_spec.specs.History.{Op, read, swap, Action, begin, step, drop, taskOf, Response, Value, Yes, No, Report, Attempt, Event, refused, accepted, answered, wins, losses, history}
+use Rattle.adds_spec.specs.Requests.{Request, act, add, AddAnswer, AmountAdded, Over, Spent, AddReport, RequestEvent, plain, summed, Gave, withAdds, noAdds}
 
 -- what never changes of an add: the moment of its begin, its task and cell, its amount and tries
 pub record AddId : Type 0 where
@@ -173,3 +174,11 @@ pub record RightAdds (top : ℕ) (b : AddCalls) : Type 0 where
   pub ended : (f : FinishedAdd) → f ∈ b .finished → RightAdd top f
   pub unended : (t : ℕ) (c : AddCall) → b .pending t ≡ some c → RightSoFar top c
   pub withdrawn : (c : AddCall) → c ∈ b .withdrawn → RightSoFar top c
+
+-- after the requests l, so many more steps of task t, at most `few`, finish its add c
+pub record AddFinishes {S : Type 0} (top : ℕ) (machine : S → Action → S × Event) (start : S) (l : List Request) (t : ℕ) (c : AddCall) (few : ℕ) : Type 0 where
+  pub steps : ℕ
+  pub at-most : steps ≤ few
+  pub end : FinishedAdd
+  pub done : end ∈ addsOf (history (withAdds top machine) (start, noAdds) (l ++ replicate steps (act (step t)))) .finished
+  pub is : end .call .start ≡ c .start

@@ -3,7 +3,7 @@ use mathlib.Core.Path.{_≡_, sym, ap, _∙_, subst}
 use mathlib.Core.Logic.{_≢_}
 use mathlib.Core.Option.{none, some}
 use mathlib.Core.List.{List}
-use Prim.Native.Nat.{ℕ, _+_, _<_}
+use Prim.Native.Nat.{ℕ, _+_, _*_, _<_}
 use native.Mathlib.Omega.{arith}
 use lib.ListN.{getD, length}
 use Rattle.figure_lines.specs.Record.{noValue}
@@ -26,7 +26,7 @@ use Rattle.cells_theorems.proofs.Demand3.{starting-values, cells-meet-demand-3}
 use Rattle.adds_spec.specs.Requests.{Request, Gave, noAdds, withAdds}
 use Rattle.adds_spec.specs.declared.Add.{Add}
 use Rattle.adds_spec.specs.Demand3.{didsOf, enterDids, MeetsAdds}
-use Rattle.adds_spec.specs.Adds.{addsOf, RightAdds}
+use Rattle.adds_spec.specs.Adds.{AddCall, addsOf, RightAdds, AddFinishes}
 use Rattle.adds_spec.specs.Sums.{broughtTo, OnlyAdds}
 use Rattle.adds_spec.proofs.Images.{complete-before}
 use Rattle.adds_spec.proofs.Clock.{joined, clockOf}
@@ -34,6 +34,7 @@ use Rattle.adds_spec.proofs.Plays.{requested, flat, flat-history, flat-run}
 use Rattle.adds_spec.proofs.Meets.{meets-adds, retelling}
 use Rattle.adds_spec.proofs.Adds.{adds-right, Limits, adds-limits}
 use Rattle.adds_spec.proofs.Sums.{sum-left}
+use Rattle.adds_spec.proofs.AddEnds.{adds-end}
 use Rattle.adds_theorems.proofs.Continuing.{pool-continues}
 
 module _ (old : State) (words : List ℕ) (tasks cells blocks : ℕ) (values : List ℕ) (allowed : refusal (openQuestions (length words) tasks cells blocks values) ≡ none) (requests : List Request) where
@@ -49,6 +50,11 @@ module _ (old : State) (words : List ℕ) (tasks cells blocks : ℕ) (values : L
   -- where every try's swap answered no. One that is pending or withdrawn has fewer steps, and fewer swaps that answered no than tries.
   pub adds-within-bounds : RightAdds noValue (addsOf (history (withAdds noValue pool) (start old words tasks cells blocks values, noAdds) requests))
   adds-within-bounds = adds-right noValue pool x₀ (cells-meet-demand-3 old words tasks cells blocks values allowed) (pool-continues old words tasks cells blocks values allowed) requests
+
+  -- From anywhere in any list of requests, at most 27 further steps of its task for each try finish a pending add.
+  pub every-add-ends : (task : ℕ) (call : AddCall) → addsOf (history (withAdds noValue pool) (start old words tasks cells blocks values, noAdds) requests) .pending task ≡ some call →
+      AddFinishes noValue pool (start old words tasks cells blocks values) requests task call (27 * call .start .tries)
+  every-add-ends = adds-end noValue pool x₀ (cells-meet-demand-3 old words tasks cells blocks values allowed) (pool-continues old words tasks cells blocks values allowed) requests
 
   -- What question 6 asks of an add under way.
   pub adds-stay-fit : (task : ℕ) (add : Add) → run (withAdds noValue pool) (start old words tasks cells blocks values, noAdds) requests .1 task ≡ some add →
