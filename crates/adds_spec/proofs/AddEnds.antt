@@ -9,9 +9,9 @@ use lib.ListN.{replicate}
 use Rattle.history_spec.specs.Basics.{upd, _∈_}
 use Rattle.history_spec.specs.History.{Action, step, Attempt, Report, Event, refused, accepted, answered, history, run, Call, Calls, noCalls, enterAll, Allowed}
 use Rattle.history_spec.specs.Demand3.{Meets}
-use Rattle.history_spec.proofs.Basics.{clash, some-inj, upd-same, history-append}
+use Rattle.history_spec.proofs.Basics.{clash, upd-same, history-append}
 use Rattle.adds_spec.specs.declared.Add.{Add}
-use Rattle.adds_spec.specs.Requests.{Request, act, AddReport, Gave, addReportOf, Ahead, part, end, ahead, Handled, onwards, stepsOn, handles, withAdds, noAdds}
+use Rattle.adds_spec.specs.Requests.{Request, act, AddReport, Gave, addReportOf, Ahead, part, end, ahead, onwards, stepsOn, handles, withAdds, noAdds}
 use Rattle.adds_spec.specs.Demand3.{didsOf}
 use Rattle.adds_spec.specs.Adds.{AddCall, FinishedAdd, AddCalls, noAddCalls, reportsIn, addStep, addSteps, addEnds, enterAdd, enterAdds, addsOf, AddFinishes}
 use Rattle.adds_spec.proofs.Clock.{joined}
@@ -63,15 +63,15 @@ module _ {S : Type 0} (top : ℕ) (machine : S → Action → S × Event) (start
       stepped top machine size (addsOf (hist l)) b t C e (machine (x .0) (step t) .0) (x .1) (x .1 t) (addsOf (hist l) .pending t) (b .pending t) refl refl (I .tasks t) (machine (x .0) (step t) .1) (allowed machine start meets (I .reached) (step t))
 
   -- the bound leaves room for no more than k further steps that do not end the add
-  within : (k : ℕ) (l : List Request) (t : ℕ) (C : AddCall) → addsOf (hist l) .pending t ≡ some C → 27 * C .start .tries ≤ C .steps + k → AddFinishes top machine start l t C k
-  within zero l t C e m = absurd (omega (arith, m, adds-right top machine start meets continues l .unended t C e .few-steps))
+  within : (k : ℕ) (l : List Request) (t : ℕ) (C : AddCall) → addsOf (hist l) .pending t ≡ some C → 27 * C .start .tries ≤ C .steps + k → AddFinishes (λ l. addsOf (history (withAdds top machine) (start, noAdds) l)) l t C k
+  within zero l t C e m = absurd (omega (arith, m, adds-right top machine start meets continues l .unended t C e .few .few-steps))
   within (suc k) l t C e m = go (moved l t C e) (ap (enterAdds noAddCalls) (history-append (withAdds top machine) (start, noAdds) l (act (step t) ∷ [])) ∙ adds-append noAddCalls (hist l) ((act (step t), gives l t) ∷ [])) (within k (l ++ (act (step t) ∷ [])) t)
     where
       A' : AddCalls
       A' = addsOf (hist (l ++ (act (step t) ∷ [])))
 
       go : Moved top machine (addsOf (hist l)) t C (gives l t) → A' ≡ enterAdd (addsOf (hist l)) (act (step t)) (gives l t .did) (gives l t .event) →
-          ((D : AddCall) → A' .pending t ≡ some D → 27 * D .start .tries ≤ D .steps + k → AddFinishes top machine start (l ++ (act (step t) ∷ [])) t D k) → AddFinishes top machine start l t C (suc k)
+          ((D : AddCall) → A' .pending t ≡ some D → 27 * D .start .tries ≤ D .steps + k → AddFinishes (λ l. addsOf (history (withAdds top machine) (start, noAdds) l)) (l ++ (act (step t) ∷ [])) t D k) → AddFinishes (λ l. addsOf (history (withAdds top machine) (start, noAdds) l)) l t C (suc k)
       go (x, inl z) q rec =
           let r = rec (addStep x (reportsIn (gives l t .did)) C) (ap (λ (A : AddCalls). A .pending t) q ∙ z) (omega (arith, m)) in
           record {
@@ -86,5 +86,5 @@ module _ {S : Type 0} (top : ℕ) (machine : S → Action → S × Event) (start
           record { steps = 1; at-most = omega arith; end = F; is = refl; done = subst (λ (A : AddCalls). F ∈ A .finished) (sym q) z }
 
   -- From anywhere in any list of requests, at most 27 further steps of its task for each try finish a pending add.
-  pub adds-end : (l : List Request) (t : ℕ) (C : AddCall) → addsOf (history (withAdds top machine) (start, noAdds) l) .pending t ≡ some C → AddFinishes top machine start l t C (27 * C .start .tries)
+  pub adds-end : (l : List Request) (t : ℕ) (C : AddCall) → addsOf (history (withAdds top machine) (start, noAdds) l) .pending t ≡ some C → AddFinishes (λ l. addsOf (history (withAdds top machine) (start, noAdds) l)) l t C (27 * C .start .tries)
   adds-end l t C e = within (27 * C .start .tries) l t C e (omega arith)

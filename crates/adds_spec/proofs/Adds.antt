@@ -46,14 +46,21 @@ pub record Runs (top : ℕ) (a : Add) (C : AddCall) (c : Call) : Type 0 where
   pub part-won : a .won ≡ sumOf (λ (r : Report). r .won) (C .parts)
   pub part-lost : a .lost ≡ sumOf (λ (r : Report). r .lost) (C .parts)
 
+-- it is on the add's cell
+pub part-cell : (a : Add) (cell amount : ℕ) (op : Op) → Part a cell amount op → cellOf op ≡ cell
+part-cell a cell amount op (reading h i) = refl
+part-cell a cell amount op (swapping v h i) = refl
+
 part-bounds : (a : Add) (cell amount : ℕ) (op : Op) → Part a cell amount op → (most op + a .steps ≤ 27 * suc (a .failed)) × (mostHard op + (a .won + a .lost) ≤ 4 * suc (a .failed))
 part-bounds a cell amount op (reading h i) = (omega arith, omega arith)
 part-bounds a cell amount op (swapping v h i) = (omega arith, omega arith)
 
 so-far : (top : ℕ) (a : Add) (C : AddCall) (c : Call) → Runs top a C c → (c .steps < most (c .start .op)) × (attempts c ≤ mostHard (c .start .op)) → RightSoFar top C
 so-far top a C c h w = let p = part-bounds a (C .start .cell) (C .start .amount) (c .start .op) (h .its) in record {
-  few-steps = omega (arith, p .0, w .0, h .steps, h .tries, h .fewer);
-  few-attempts = omega (arith, p .1, w .1, h .won, h .lost, h .tries, h .fewer);
+  few = record {
+    few-steps = omega (arith, p .0, w .0, h .steps, h .tries, h .fewer);
+    few-attempts = omega (arith, p .1, w .1, h .won, h .lost, h .tries, h .fewer);
+  };
   fewer-noes = omega (arith, h .failed, h .tries, h .fewer);
   went-on = h .went-on;
 }
@@ -130,7 +137,7 @@ module _ (top : ℕ) (P : Op → Type 0) (up down : Op → Response → ℕ) (ga
       After q x = Inv (x .state) (x .adds) (enterAll b (x .gave .did)) (enterAdd A q (x .gave .did) (x .gave .event))
 
       -- who is idle has no add
-      idle-plain : (o : Option Add) (C : Option AddCall) (p : Option Call) → At o C p → p ≡ none → (o ≡ none) × (C ≡ none)
+      pub idle-plain : (o : Option Add) (C : Option AddCall) (p : Option Call) → At o C p → p ≡ none → (o ≡ none) × (C ≡ none)
       idle-plain none none p h e = (refl, refl)
       idle-plain none (some C) p h e = absurd h
       idle-plain (some a) none p h e = absurd h
@@ -482,7 +489,7 @@ module _ (top : ℕ) (P : Op → Type 0) (up down : Op → Response → ℕ) (ga
 
       -- ANY REQUEST
 
-      requested-next : (q : Request) → ((t : ℕ) (op : Op) (x : Attempt) → q ≡ act (begin t op) → machine s (begin t op) .1 ≡ accepted x → P op) → After q (handles top machine s f q)
+      pub requested-next : (q : Request) → ((t : ℕ) (op : Op) (x : Attempt) → q ≡ act (begin t op) → machine s (begin t op) .1 ≡ accepted x → P op) → After q (handles top machine s f q)
       requested-next (act (begin t op)) p = plain-begin t op (machine s (begin t op) .0) (machine s (begin t op) .1) (reached-next machine start (I .reached) (begin t op)) (allowed machine start meets (I .reached) (begin t op)) (λ x e. p t op x refl e)
       requested-next (act (step t)) p =
           let r = I .reached in
@@ -516,14 +523,14 @@ module _ (top : ℕ) (P : Op → Type 0) (up down : Op → Response → ℕ) (ga
           Inv (x .0) (x .1) (enterAll noCalls (joined (didsOf h))) (enterAdds noAddCalls h)
       all-requests l p = all l start noAdds noCalls noAddCalls (record { reached = reached-start machine start; tasks = λ t c e. absurd (clash refl e); ended = λ F i. absurd i; left = λ C i. absurd i; sum = refl }) p
 
+abbrev pub none-weighs : Weights (λ op. Unit {0}) (λ op a. 0) (λ op a. 0) (λ F. 0)
+none-weighs = record { plain-even = λ op a p. refl; read-even = λ k v. refl; no-even = λ k e n. refl; yes-gain = λ v F e. refl; no-gain = λ F e. refl }
+
 -- THE BOUNDS OF ADDS, of any machine that meets demand 3 and lets a task whose call has ended begin another
 
 module _ {S : Type 0} (top : ℕ) (machine : S → Action → S × Event) (start : S) {Clear : List Action → ℕ → Type 0} {size : ℕ} {values : ℕ → ℕ} (meets : Meets machine start Clear size values) (continues : Continues machine start top) (l : List Request) where
   abbrev pub h : List (Request × Gave)
   h = history (withAdds top machine) (start, noAdds) l
-
-  abbrev none-weighs : Weights (λ op. Unit {0}) (λ op a. 0) (λ op a. 0) (λ F. 0)
-  none-weighs = record { plain-even = λ op a p. refl; read-even = λ k v. refl; no-even = λ k e n. refl; yes-gain = λ v F e. refl; no-gain = λ F e. refl }
 
   pub invariant : let x = run (withAdds top machine) (start, noAdds) l in Inv top (λ op. Unit {0}) (λ op a. 0) (λ op a. 0) (λ F. 0) machine start (x .0) (x .1) (enterAll noCalls (joined (didsOf h))) (addsOf h)
   invariant = all-requests top (λ op. Unit {0}) (λ op a. 0) (λ op a. 0) (λ F. 0) machine start none-weighs meets continues l (λ t op g x i e. tt)

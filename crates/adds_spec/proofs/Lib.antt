@@ -6,3 +6,5 @@ pub mod Reached
 pub mod Adds
 pub mod Sums
 pub mod AddEnds
+pub mod Seen
+pub mod SeenCalls

@@ -2,7 +2,7 @@
 use mathlib.Core.Path.{sym, subst}
 use mathlib.Core.List.{List, map}
 use Prim.Native.Nat.{ℕ}
-use Rattle.history_spec.specs.History.{Action, Event, history, noCalls, enterAll}
+use Rattle.history_spec.specs.History.{Action, Event, noCalls, enterAll}
 use Rattle.history_spec.specs.Demand3.{Demand3, Meets}
 use Rattle.adds_spec.specs.Requests.{Request, noAdds}
 use Rattle.adds_spec.specs.Demand3.{didsOf, enterDids, MeetsAdds}

@@ -13,9 +13,10 @@ use Rattle.history_spec.specs.History.{Op, read, swap, cellOf, Action, begin, A
 use Rattle.history_spec.specs.Linearization.{reply, apply, Point, replies}
 use Rattle.history_spec.specs.Demand3.{Meets}
 use Rattle.history_spec.specs.Moments.{Mark, pointOf, replyOf}
+use Rattle.history_spec.proofs.Basics.{mem-map}
 use Rattle.history_linearization.proofs.Order.{total}
 use Rattle.history_linearization.proofs.Timeline.{leftBy}
-use Rattle.adds_spec.specs.Requests.{Request, act, AmountAdded, AddAnswer, Over, Spent, Gave, plain, noAdds, withAdds}
+use Rattle.adds_spec.specs.Requests.{Request, act, AmountAdded, AddAnswer, Over, Spent, Gave, RequestEvent, plain, eventsOf, noAdds, withAdds}
 use Rattle.adds_spec.specs.Demand3.{didsOf}
 use Rattle.adds_spec.specs.Adds.{FinishedAdd, addsOf}
 use Rattle.adds_spec.specs.Sums.{amountIf, broughtBy, broughtTo, OnlyAdds}
@@ -116,7 +117,7 @@ all-brought k (F ∷ l) = omega (arith, all-brought k l)
 module _ {S : Type 0} (top : ℕ) (machine : S → Action → S × Event) (start : S) {Clear : List Action → ℕ → Type 0} {size : ℕ} {values : ℕ → ℕ} (meets : Meets machine start Clear size values) (continues : Continues machine start top) (l : List Request) (ms : List Mark) (k : ℕ)
     (answers : replies values (map pointOf ms) ≡ map replyOf ms)
     (totals : (w : Op → Response → ℕ) → ((op : Op) (a : Response) → cellOf op ≢ k → w op a ≡ 0) → total (λ (m : Mark). w (m .call .op) (m .answer)) ms ≡ total (λ (f : FinishedCall). w (f .call .start .op) (f .report .answer)) (enterAll noCalls (joined (didsOf (history (withAdds top machine) (start, noAdds) l))) .finished)) where
-  pub sum-left : OnlyAdds k (history (withAdds top machine) (start, noAdds) l) → leftBy values (map pointOf ms) k ≡ values k + broughtTo k (addsOf (history (withAdds top machine) (start, noAdds) l) .finished)
+  pub sum-left : OnlyAdds k (eventsOf (history (withAdds top machine) (start, noAdds) l)) → leftBy values (map pointOf ms) k ≡ values k + broughtTo k (addsOf (history (withAdds top machine) (start, noAdds) l) .finished)
   sum-left only =
       let I = all-requests top (Off k) (put k) (taken k) (broughtBy k) machine start (weights k) meets continues l plainly in
       let B = subst (λ (r : List (Point × Response)). leftBy values (map pointOf ms) k + total (λ (p : Point × Response). taken k (p .0 .call .op) (p .1)) r ≡ values k + total (λ (p : Point × Response). put k (p .0 .call .op) (p .1)) r) answers (balance k values (map pointOf ms)) in
@@ -124,4 +125,7 @@ module _ {S : Type 0} (top : ℕ) (machine : S → Action → S × Event) (start
     where
       plainly : (t : ℕ) (op : Op) (g : Gave) (x : Attempt) → (act (begin t op), g) ∈ history (withAdds top machine) (start, noAdds) l → g .event ≡ plain (accepted x) → Off k op
       plainly t (read j) g x i e = tt
-      plainly t (swap j a n) g x i e = λ z. only t a n g x (subst (λ (j : ℕ). (act (begin t (swap j a n)), g) ∈ history (withAdds top machine) (start, noAdds) l) (sym z) i) e
+      plainly t (swap j a n) g x i e = λ z.
+          let h = history (withAdds top machine) (start, noAdds) l in
+          let seen = mem-map {B = Request × RequestEvent} (λ (x : Request × Gave). (x .0, x .1 .event)) h (act (begin t (swap j a n)), g) i in
+          only t a n x (subst (λ (q : Request × RequestEvent). q ∈ eventsOf h) (λ m. (act (begin t (swap (sym z m) a n)), e m)) seen)

@@ -6,8 +6,8 @@ use mathlib.Core.List.{List, [], _∷_, _++_}
 use Prim.Native.Nat.{ℕ, suc, _+_, _*_, _≤_, _<_}
 use lib.ListN.{replicate}
 use Rattle.history_spec.specs.Basics.{upd, _∈_}
-use Rattle.history_spec.specs.History.{Op, read, swap, Action, begin, step, drop, taskOf, Response, Value, Yes, No, Report, Attempt, Event, refused, accepted, answered, wins, losses, history}
-use Rattle.adds_spec.specs.Requests.{Request, act, add, AddAnswer, AmountAdded, Over, Spent, AddReport, RequestEvent, plain, summed, Gave, withAdds, noAdds}
+use Rattle.history_spec.specs.History.{Op, read, swap, Action, begin, step, drop, taskOf, Response, Value, Yes, No, Report, Attempt, Event, refused, accepted, answered, wins, losses}
+use Rattle.adds_spec.specs.Requests.{Request, act, add, AddAnswer, AmountAdded, Over, Spent, AddReport, RequestEvent, plain, summed, Gave}
 
 -- what never changes of an add: the moment of its begin, its task and cell, its amount and tries
 pub record AddId : Type 0 where
@@ -163,10 +163,13 @@ pub record RightAdd (top : ℕ) (f : FinishedAdd) : Type 0 where
   pub few-noes : noes (f .call .parts) ≤ f .call .start .tries
   pub answer : RightAnswer top (f .call .start .amount) (f .call .start .tries) (f .call .parts) (f .report .answer)
 
--- a pending one: it has fewer steps than the most, so it ends; a withdrawn one had fewer before its drop
-pub record RightSoFar (top : ℕ) (c : AddCall) : Type 0 where
+-- a pending one has fewer steps than the most, so it ends; a withdrawn one had fewer before its drop
+pub record FewSoFar (c : AddCall) : Type 0 where
   pub few-steps : c .steps < 27 * c .start .tries
   pub few-attempts : c .won + c .lost ≤ 4 * c .start .tries
+
+pub record RightSoFar (top : ℕ) (c : AddCall) : Type 0 where
+  pub few : FewSoFar c
   pub fewer-noes : noes (c .parts) < c .start .tries
   pub went-on : AllGoOn top (c .start .amount) (c .parts)
 
@@ -175,10 +178,10 @@ pub record RightAdds (top : ℕ) (b : AddCalls) : Type 0 where
   pub unended : (t : ℕ) (c : AddCall) → b .pending t ≡ some c → RightSoFar top c
   pub withdrawn : (c : AddCall) → c ∈ b .withdrawn → RightSoFar top c
 
--- after the requests l, so many more steps of task t, at most `few`, finish its add c
-pub record AddFinishes {S : Type 0} (top : ℕ) (machine : S → Action → S × Event) (start : S) (l : List Request) (t : ℕ) (c : AddCall) (few : ℕ) : Type 0 where
+-- `adds`: those of each list of requests. After the requests l, so many more steps of task t, at most `few`, finish its add c.
+pub record AddFinishes (adds : List Request → AddCalls) (l : List Request) (t : ℕ) (c : AddCall) (few : ℕ) : Type 0 where
   pub steps : ℕ
   pub at-most : steps ≤ few
   pub end : FinishedAdd
-  pub done : end ∈ addsOf (history (withAdds top machine) (start, noAdds) (l ++ replicate steps (act (step t)))) .finished
+  pub done : end ∈ adds (l ++ replicate steps (act (step t))) .finished
   pub is : end .call .start ≡ c .start

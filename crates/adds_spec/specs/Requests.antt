@@ -3,7 +3,7 @@
 -- that ended the one before it. A drop withdraws the part under way, and the add with it.
 use mathlib.Core.Bool.{Bool, _&&_, cond}
 use mathlib.Core.Option.{Option, none, some}
-use mathlib.Core.List.{List, [], _∷_}
+use mathlib.Core.List.{List, [], _∷_, map}
 use Prim.Native.Nat.{ℕ, suc, _+_}
 use lib.Dec.{ltb, leb}
 use Rattle.adds_spec.specs.declared.Add.{Add}
@@ -39,6 +39,10 @@ pub data RequestEvent : Type 0 where
 pub record Gave : Type 0 where
   pub did : List (Action × Event)
   pub event : RequestEvent
+
+-- what is seen of a list of requests: the events alone
+abbrev pub eventsOf : List (Request × Gave) → List (Request × RequestEvent)
+eventsOf h = map (λ (x : Request × Gave). (x .0, x .1 .event)) h
 
 -- AN ADD UNDER WAY: its amount and tries as begun; the swaps that answered no; the counts of the parts that ended
 

@@ -1,12 +1,11 @@
 -- What the adds of a list of requests brought to a cell.
-use mathlib.Core.Logic.{_≢_}
 use mathlib.Core.Bool.{cond}
 use mathlib.Core.List.{List, [], _∷_}
 use Prim.Native.Nat.{ℕ, _+_}
 use lib.Dec.{eqb}
 use Rattle.history_spec.specs.Basics.{_∈_}
 use Rattle.history_spec.specs.History.{swap, begin, Attempt, accepted}
-use Rattle.adds_spec.specs.Requests.{Request, act, AddAnswer, AmountAdded, Over, Spent, plain, Gave}
+use Rattle.adds_spec.specs.Requests.{Request, act, AddAnswer, AmountAdded, Over, Spent, RequestEvent, plain}
 use Rattle.adds_spec.specs.Adds.{FinishedAdd}
 
 abbrev pub amountIf : AddAnswer → ℕ → ℕ
@@ -23,5 +22,5 @@ broughtTo k [] = 0
 broughtTo k (f ∷ l) = broughtBy k f + broughtTo k l
 
 -- cell k is touched only by adds and reads: no plain swap was begun on it
-abbrev pub OnlyAdds : ℕ → List (Request × Gave) → Type 0
-OnlyAdds k h = (t e n : ℕ) (g : Gave) (x : Attempt) → (act (begin t (swap k e n)), g) ∈ h → g .event ≢ plain (accepted x)
+abbrev pub OnlyAdds : ℕ → List (Request × RequestEvent) → Type 0
+OnlyAdds k h = (t e n : ℕ) (x : Attempt) → (act (begin t (swap k e n)), plain (accepted x)) ∈ h → ⊥

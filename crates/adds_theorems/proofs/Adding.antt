@@ -4,10 +4,10 @@ use mathlib.Core.Path.{_≡_, refl, sym, ap, _∙_, subst}
 use mathlib.Core.Logic.{_≢_, _⊎_, inl, inr}
 use mathlib.Core.Bool.{Bool, true, false, _&&_, _||_, not, cond, and-true, false≢true}
 use mathlib.Core.Option.{Option, none, some}
-use mathlib.Core.List.{List, [], _∷_, _++_, map}
+use mathlib.Core.List.{List, [], _∷_, _++_}
 use Prim.Native.Nat.{ℕ, zero, suc, _+_, _*_, _≤_, _<_}
 use native.Mathlib.Omega.{arith}
-use lib.Dec.{eqb, leb, ltb}
+use lib.Dec.{eqb, ltb}
 use lib.ListN.{getD, set, length, replicate, length-set}
 use lib.Seq.{getD-set-same, getD-set-other}
 use borrow.Author.Tests.{eq-eqb, ne-eqb, le-leb, lt-ltb, ltb-true}
@@ -35,12 +35,13 @@ use Rattle.cells_theorems.specs.Terms.{start}
 use Rattle.cells_theorems.proofs.Refines.{together}
 use Rattle.cells_theorems.proofs.Demand3.{cells-meet-demand-3}
 use Rattle.adds_spec.specs.declared.Add.{Add}
-use Rattle.adds_spec.specs.Requests.{Request, act, add, RequestEvent, plain, Gave, Over, Spent, freshAdd, withPart, Ahead, part, end, sumBelow, tryLeft, ahead, triesOk, Handled, handled, onwards, stepsOn, addBegins, forgets, handles, withAdds, noAdds}
+use Rattle.adds_spec.specs.Requests.{Request, act, add, RequestEvent, plain, eventsOf, Over, Spent, freshAdd, withPart, Ahead, part, end, sumBelow, tryLeft, ahead, triesOk, Handled, handled, onwards, stepsOn, addBegins, forgets, handles, withAdds, noAdds}
 use Rattle.adds_spec.proofs.Plays.{flat, flat-history, flat-run, run-append}
 use Rattle.adds_spec.proofs.Adds.{Part, reading, swapping, adds-limits}
 use Rattle.adds_spec.proofs.Reached.{Below}
 use Rattle.adds_spec.specs.declared.AddingState.{AddingState}
 use Rattle.adds_spec.specs.Adding.{Denies, GoesOn, FinishesCall, AddingAfter, addingAfter, unlessDenies, noAdd, addAt, hasAdd, withAdd, withCells, addTests, addFit, addsFit, withoutAdd, addingOpened, addingBegun, addingDropped, firstRecord, addQuestions, addBegun, addOnwards, stepEnds, addingStepped, addingLooked, AddingPool, requestEvent, addingPool}
+use Rattle.adds_theorems.specs.Terms.{addingStart}
 use Rattle.adds_theorems.proofs.Continuing.{pool-continues}
 use Rattle.adds_theorems.proofs.SwapKind.{pending-swap-kind}
 
@@ -332,12 +333,9 @@ module _ (old : State) (words : List ℕ) (tasks cells blocks : ℕ) (values : L
 
   -- EVERY LIST OF REQUESTS
 
-  abbrev eventOnly : Request × Gave → Request × RequestEvent
-  eventOnly x = (x .0, x .1 .event)
-
   -- what the entries give and leave, from the layer's state y with the adds L beside it
   record Ran (y : Pool × (ℕ → Option Add)) (L : List Add) (l : List Request) : Type 0 where
-    events : history addingPool (beside (y .0) L) l ≡ map eventOnly (history (withAdds noValue pool) y l)
+    events : history addingPool (beside (y .0) L) l ≡ eventsOf (history (withAdds noValue pool) y l)
     list : List Add
     left : run addingPool (beside (y .0) L) l ≡ beside (run (withAdds noValue pool) y l .0) list
     holds : Holds list (run (withAdds noValue pool) y l .1)
@@ -364,19 +362,18 @@ module _ (old : State) (words : List ℕ) (tasks cells blocks : ℕ) (values : L
 
   -- An opening that is not refused leaves the opened cells, and no add.
   pub adds-open : (adds : List Add) →
-      addingOpened (record { cells = old; adds = adds }) words tasks cells blocks values ≡ addingAfter (record { cells = start old words tasks cells blocks values .0; adds = replicate 32 noAdd }) (start old words tasks cells blocks values .1) GoesOn
+      addingOpened (record { cells = old; adds = adds }) words tasks cells blocks values ≡ let x = addingStart old words tasks cells blocks values in addingAfter (x .0) (x .1) GoesOn
   unfolding addingOpened opened
   adds-open L = rw allowed
 
   -- The entries with adds, from an opening, give the events of the cells' machine with adds over it, for every list of requests: what is proved
   -- of those lists is true of the entries.
-  pub same-requests : (requests : List Request) → history addingPool (record { cells = start old words tasks cells blocks values .0; adds = replicate 32 noAdd }, start old words tasks cells blocks values .1) requests ≡
-      map (λ (x : Request × Gave). (x .0, x .1 .event)) (history (withAdds noValue pool) (start old words tasks cells blocks values, noAdds) requests)
+  pub same-requests : (requests : List Request) → history addingPool (addingStart old words tasks cells blocks values) requests ≡ eventsOf (history (withAdds noValue pool) (start old words tasks cells blocks values, noAdds) requests)
   same-requests l = from-opening l .events
 
   -- And their look shows what look shows of the cells.
   pub same-looks : (requests : List Request) (cell : ℕ) →
-      let entries = run addingPool (record { cells = start old words tasks cells blocks values .0; adds = replicate 32 noAdd }, start old words tasks cells blocks values .1) requests in
+      let entries = run addingPool (addingStart old words tasks cells blocks values) requests in
       let now = run (withAdds noValue pool) (start old words tasks cells blocks values, noAdds) requests .0 in
       addingLooked (entries .0) (entries .1) cell ≡ looked (now .0) (now .1) cell
   unfolding addingLooked

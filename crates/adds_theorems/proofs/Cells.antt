@@ -23,7 +23,7 @@ use Rattle.figure_moments.proofs.Rests.{looked-in, shows-what-is-left, moments-
 use Rattle.cells_theorems.specs.Terms.{start}
 use Rattle.cells_theorems.proofs.Refines.{same-history, same-look}
 use Rattle.cells_theorems.proofs.Demand3.{starting-values, cells-meet-demand-3}
-use Rattle.adds_spec.specs.Requests.{Request, Gave, noAdds, withAdds}
+use Rattle.adds_spec.specs.Requests.{Request, Gave, eventsOf, noAdds, withAdds}
 use Rattle.adds_spec.specs.declared.Add.{Add}
 use Rattle.adds_spec.specs.Demand3.{didsOf, enterDids, MeetsAdds}
 use Rattle.adds_spec.specs.Adds.{AddCall, addsOf, RightAdds, AddFinishes}
@@ -53,7 +53,7 @@ module _ (old : State) (words : List ℕ) (tasks cells blocks : ℕ) (values : L
 
   -- From anywhere in any list of requests, at most 27 further steps of its task for each try finish a pending add.
   pub every-add-ends : (task : ℕ) (call : AddCall) → addsOf (history (withAdds noValue pool) (start old words tasks cells blocks values, noAdds) requests) .pending task ≡ some call →
-      AddFinishes noValue pool (start old words tasks cells blocks values) requests task call (27 * call .start .tries)
+      AddFinishes (λ l. addsOf (history (withAdds noValue pool) (start old words tasks cells blocks values, noAdds) l)) requests task call (27 * call .start .tries)
   every-add-ends = adds-end noValue pool x₀ (cells-meet-demand-3 old words tasks cells blocks values allowed) (pool-continues old words tasks cells blocks values allowed) requests
 
   -- What question 6 asks of an add under way.
@@ -61,37 +61,42 @@ module _ (old : State) (words : List ℕ) (tasks cells blocks : ℕ) (values : L
       Limits noValue pool (start old words tasks cells blocks values) (cells-meet-demand-3 old words tasks cells blocks values allowed) (pool-continues old words tasks cells blocks values allowed) requests task add
   adds-stay-fit = adds-limits noValue pool x₀ (cells-meet-demand-3 old words tasks cells blocks values allowed) (pool-continues old words tasks cells blocks values allowed) requests
 
+  abbrev did : List Action
+  did = flat noValue pool x₀ noAdds requests
+
+  abbrev h : List (Request × Gave)
+  h = requested noValue pool x₀ noAdds requests
+
+  same : joined (didsOf h) ≡ history figure (opening tasks cells values) did
+  same = flat-history noValue pool requests x₀ noAdds ∙ same-history old words tasks cells blocks values allowed did
+
+  some-values : (k : ℕ) → getD values k 0 ≢ noValue
+  some-values = starting-values old words tasks cells blocks values allowed
+
+  -- by the plain actions
+  pub sum-of : (cell : ℕ) → Complete (enterAll noCalls (joined (didsOf (history (withAdds noValue pool) (start old words tasks cells blocks values, noAdds) requests)))) cell → cell < cells →
+      OnlyAdds cell (eventsOf (history (withAdds noValue pool) (start old words tasks cells blocks values, noAdds) requests)) →
+      let now = run (withAdds noValue pool) (start old words tasks cells blocks values, noAdds) requests .0 in
+      looked (now .0) (now .1) cell ≡ Shown (getD values cell 0 + broughtTo cell (addsOf (history (withAdds noValue pool) (start old words tasks cells blocks values, noAdds) requests) .finished))
+  sum-of cell all i only =
+      let complete = subst (λ (h : List (Action × Event)). Complete (callsOf h) cell) same all in
+      ap (λ (x : Pool). looked (x .0) (x .1) cell) (flat-run noValue pool requests x₀ noAdds) ∙ same-look old words tasks cells blocks values allowed did cell
+      ∙ looked-in (run figure (opening tasks cells values) did) cell (omega (arith, i, run-sizes (opening tasks cells values) did .1))
+      ∙ ap Shown (shows-what-is-left tasks cells values some-values did cell complete
+      ∙ sum-left noValue pool x₀ (cells-meet-demand-3 old words tasks cells blocks values allowed) (pool-continues old words tasks cells blocks values allowed) requests (moments tasks cells values did) cell
+      (moments-answers tasks cells values some-values did)
+      (λ w off. moments-total tasks cells values some-values did cell complete w off ∙ ap (λ (h : List (Action × Event)). total (λ (f : FinishedCall). w (f .call .start .op) (f .report .answer)) (callsOf h .finished)) (sym same)) only)
+
   -- a cell on which every call is finished
   module _ (cell : ℕ) (all : Complete (enterDids noCalls (didsOf (history (withAdds noValue pool) (start old words tasks cells blocks values, noAdds) requests))) cell) where
-    abbrev did : List Action
-    did = flat noValue pool x₀ noAdds requests
-
-    abbrev h : List (Request × Gave)
-    h = requested noValue pool x₀ noAdds requests
-
-    same : joined (didsOf h) ≡ history figure (opening tasks cells values) did
-    same = flat-history noValue pool requests x₀ noAdds ∙ same-history old words tasks cells blocks values allowed did
-
     complete-plain : Complete (enterAll noCalls (joined (didsOf h))) cell
     complete-plain = complete-before (clockOf (didsOf h)) (retelling noValue pool x₀ (clearAfter figure (opening tasks cells values) clear) cells (λ k. getD values k 0) (cells-meet-demand-3 old words tasks cells blocks values allowed) requests .image) cell all
-
-    complete-figure : Complete (callsOf (history figure (opening tasks cells values) did)) cell
-    complete-figure = subst (λ (h : List (Action × Event)). Complete (callsOf h) cell) same complete-plain
 
     pub complete-pool : Complete (callsOf (history pool (start old words tasks cells blocks values) (flat noValue pool (start old words tasks cells blocks values) noAdds requests))) cell
     complete-pool = subst (λ (h : List (Action × Event)). Complete (callsOf h) cell) (flat-history noValue pool requests x₀ noAdds) complete-plain
 
-    some-values : (k : ℕ) → getD values k 0 ≢ noValue
-    some-values = starting-values old words tasks cells blocks values allowed
-
     -- If it is touched only by adds and reads, look gives its first value and the amounts of all adds that answered added.
-    pub sum-shown : cell < cells → OnlyAdds cell (history (withAdds noValue pool) (start old words tasks cells blocks values, noAdds) requests) →
+    pub sum-shown : cell < cells → OnlyAdds cell (eventsOf (history (withAdds noValue pool) (start old words tasks cells blocks values, noAdds) requests)) →
         let now = run (withAdds noValue pool) (start old words tasks cells blocks values, noAdds) requests .0 in
         looked (now .0) (now .1) cell ≡ Shown (getD values cell 0 + broughtTo cell (addsOf (history (withAdds noValue pool) (start old words tasks cells blocks values, noAdds) requests) .finished))
-    sum-shown i only =
-        ap (λ (x : Pool). looked (x .0) (x .1) cell) (flat-run noValue pool requests x₀ noAdds) ∙ same-look old words tasks cells blocks values allowed did cell
-        ∙ looked-in (run figure (opening tasks cells values) did) cell (omega (arith, i, run-sizes (opening tasks cells values) did .1))
-        ∙ ap Shown (shows-what-is-left tasks cells values some-values did cell complete-figure
-        ∙ sum-left noValue pool x₀ (cells-meet-demand-3 old words tasks cells blocks values allowed) (pool-continues old words tasks cells blocks values allowed) requests (moments tasks cells values did) cell
-        (moments-answers tasks cells values some-values did)
-        (λ w off. moments-total tasks cells values some-values did cell complete-figure w off ∙ ap (λ (h : List (Action × Event)). total (λ (f : FinishedCall). w (f .call .start .op) (f .report .answer)) (callsOf h .finished)) (sym same)) only)
+    sum-shown = sum-of cell complete-plain

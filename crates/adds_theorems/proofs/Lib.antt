@@ -4,4 +4,5 @@ pub mod SameNotes
 pub mod Moments
 pub mod SwapKind
 pub mod Adding
+pub mod Entries
 pub mod AddExamples
