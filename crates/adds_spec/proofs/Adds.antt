@@ -16,8 +16,10 @@ use Rattle.history_linearization.proofs.Order.{total}
 use Rattle.adds_spec.specs.Requests.{Request, act, add, AddAnswer, AmountAdded, Over, Spent, plain, Gave, freshAdd, withPart, addReportOf, part, end, sumBelow, tryLeft, ahead, triesOk, Handled, handled, onwards, stepsOn, addBegins, forgets, handles, withAdds, noAdds}
 use Rattle.adds_spec.specs.declared.Add.{Add}
 use Rattle.adds_spec.specs.Demand3.{didsOf}
-use Rattle.adds_spec.specs.Adds.{addsOf, AddCall, FinishedAdd, AddCalls, noAddCalls, addStep, addSteps, addEnds, alsoWithdrawnAdd, enterAdd, enterAdds, sumOf, noOf, noes, lastAnswer, GoesOnAfter, AllGoOn, NextPart, RightAnswer, RightAdd, RightSoFar, RightAdds}
-use Rattle.adds_spec.proofs.Clock.{joined}
+use Rattle.adds_spec.specs.Adds.{addsOf, AddCall, FinishedAdd, AddCalls, noAddCalls, addStep, addSteps, addEnds, alsoWithdrawnAdd, enterAdd, enterAdds, sumOf, noOf, noes, lastAnswer, GoesOnAfter, AllGoOn, NextPart, RightAnswer, RightAdd, RightSoFar, RightAdds, moreSteps, moreAttempts, UnderWay}
+use Rattle.adds_spec.proofs.Images.{callAt, pendingAt}
+use Rattle.adds_spec.proofs.Clock.{joined, clockOf}
+use Rattle.adds_spec.proofs.Meets.{retelling}
 use Rattle.adds_spec.proofs.Reached.{enter-append, Suits, Below, Reached, Continues, reached-start, reached-next, allowed, bounds, suits}
 
 within-true : (n a b : ℕ) → (leb a n && leb n b) ≡ true → (a ≤ n) × (n ≤ b)
@@ -50,6 +52,10 @@ pub record Runs (top : ℕ) (a : Add) (C : AddCall) (c : Call) : Type 0 where
 pub part-cell : (a : Add) (cell amount : ℕ) (op : Op) → Part a cell amount op → cellOf op ≡ cell
 part-cell a cell amount op (reading h i) = refl
 part-cell a cell amount op (swapping v h i) = refl
+
+pub part-limits : (a : Add) (cell amount : ℕ) (op : Op) → Part a cell amount op → (a .steps ≤ 27 * a .failed + moreSteps op) × (a .won + a .lost ≤ 4 * a .failed + moreAttempts op)
+part-limits a cell amount op (reading h i) = (omega arith, omega arith)
+part-limits a cell amount op (swapping v h i) = (omega arith, omega arith)
 
 part-bounds : (a : Add) (cell amount : ℕ) (op : Op) → Part a cell amount op → (most op + a .steps ≤ 27 * suc (a .failed)) × (mostHard op + (a .won + a .lost) ≤ 4 * suc (a .failed))
 part-bounds a cell amount op (reading h i) = (omega arith, omega arith)
@@ -550,23 +556,48 @@ module _ {S : Type 0} (top : ℕ) (machine : S → Action → S × Event) (start
       unended t (some a) (some D) none z x C e = absurd x
       unended t (some a) (some D) (some c) z x C e = subst (RightSoFar top) (some-inj {o = some D} refl e) (so-far top a D c x (bounds machine start meets (invariant .reached) .unended t c z))
 
-  -- what an add under way did before its part that is under way: 27 steps and 4 hardware CAS attempts at most for each swap that answered no,
-  -- with 6 and 1 more where a swap is under way; its task has that part as its pending call
-  pub record Limits (t : ℕ) (a : Add) : Type 0 where
+  -- an add under way: its task has a part of it as its pending call
+  pub record Doing (t : ℕ) (a : Add) : Type 0 where
+    pub add : AddCall
+    pub its : addsOf h .pending t ≡ some add
     pub call : Call
     pub busy : enterAll noCalls (joined (didsOf h)) .pending t ≡ some call
-    pub tries : (1 ≤ a .tries) × (a .tries ≤ 8)
-    pub fewer : a .failed < a .tries
-    pub cell : ℕ
-    pub amount : ℕ
-    pub its : Part a cell amount (call .start .op)
+    pub runs : Runs top a add call
 
-  pub adds-limits : (t : ℕ) (a : Add) → run (withAdds top machine) (start, noAdds) l .1 t ≡ some a → Limits t a
-  adds-limits t a e = go (run (withAdds top machine) (start, noAdds) l .1 t) (addsOf h .pending t) (enterAll noCalls (joined (didsOf h)) .pending t) refl (invariant .tasks t) e
+  pub doing : (t : ℕ) (a : Add) → run (withAdds top machine) (start, noAdds) l .1 t ≡ some a → Doing t a
+  doing t a e = go (run (withAdds top machine) (start, noAdds) l .1 t) (addsOf h .pending t) (enterAll noCalls (joined (didsOf h)) .pending t) refl refl (invariant .tasks t) e
     where
-      go : (o : Option Add) (B : Option AddCall) (p : Option Call) → enterAll noCalls (joined (didsOf h)) .pending t ≡ p → At top (λ op. Unit {0}) (λ op a. 0) (λ op a. 0) (λ F. 0) o B p → o ≡ some a → Limits t a
-      go none none p q x e = absurd (clash refl e)
-      go none (some D) p q x e = absurd x
-      go (some d) none p q x e = absurd x
-      go (some d) (some D) none q x e = absurd x
-      go (some d) (some D) (some c) q x e = subst (Limits t) (some-inj {o = some d} refl e) (record { call = c; busy = q; tries = (x .some-tries, x .few-tries); fewer = x .fewer; cell = D .start .cell; amount = D .start .amount; its = x .its })
+      go : (o : Option Add) (B : Option AddCall) (p : Option Call) → addsOf h .pending t ≡ B → enterAll noCalls (joined (didsOf h)) .pending t ≡ p → At top (λ op. Unit {0}) (λ op a. 0) (λ op a. 0) (λ F. 0) o B p → o ≡ some a → Doing t a
+      go none none p z q x e = absurd (clash refl e)
+      go none (some D) p z q x e = absurd x
+      go (some d) none p z q x e = absurd x
+      go (some d) (some D) none z q x e = absurd x
+      go (some d) (some D) (some c) z q x e = subst (Doing t) (some-inj {o = some d} refl e) (record { add = D; its = z; call = c; busy = q; runs = x })
+
+  -- Each add under way is as far as its ended parts, keeps to the limits of question 6, and its part is the one that follows theirs.
+  pub adds-under-way : (t : ℕ) (a : Add) → run (withAdds top machine) (start, noAdds) l .1 t ≡ some a → UnderWay top (history (withAdds top machine) (start, noAdds) l) t a
+  adds-under-way t a e =
+      let d = doing t a e in
+      let R = d .runs in
+      let b = part-limits a (d .add .start .cell) (d .add .start .amount) (d .call .start .op) (R .its) in
+      record {
+        call = d .add;
+        its = d .its;
+        part = callAt (clockOf (didsOf h)) (d .call);
+        busy = retelling top machine start Clear size values meets l .image .pending t ∙ ap (pendingAt (clockOf (didsOf h))) (d .busy);
+        comes = R .comes;
+        amount = sym (R .amount);
+        tries = sym (R .tries);
+        failed = sym (R .failed);
+        steps = R .part-steps;
+        won = R .part-won;
+        lost = R .part-lost;
+        all-steps = R .steps;
+        all-won = R .won;
+        all-lost = R .lost;
+        some-tries = R .some-tries;
+        few-tries = R .few-tries;
+        fewer = R .fewer;
+        few-steps = b .0;
+        few-attempts = b .1;
+      }

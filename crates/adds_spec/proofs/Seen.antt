@@ -7,11 +7,12 @@ use Prim.Native.Nat.{ℕ, suc, _+_, _*_, _≤_}
 use lib.ListN.{replicate}
 use Rattle.history_spec.specs.Basics.{upd, _∈_}
 use Rattle.history_spec.specs.History.{Action, begin, step, drop, taskOf, Attempt, Report, Event, refused, accepted, answered}
-use Rattle.history_spec.proofs.Basics.{either, upd-at, upd-off, clash, some-inj, mem-map}
+use Rattle.history_spec.proofs.Basics.{either, upd-at, upd-off, clash, some-inj}
 use Rattle.adds_spec.specs.Requests.{Request, act, add, AddReport, RequestEvent, plain, summed, Gave, eventsOf}
 use Rattle.adds_spec.specs.Adds.{AddCall, FinishedAdd, AddCalls, noAddCalls, reportsIn, addSteps, addEnds, addCalled, alsoWithdrawnAdd, enterAdd, enterAdds, addsOf, Counted, FewSoFar, RightAdds, AddFinishes}
 use Rattle.adds_spec.specs.Sums.{broughtBy, broughtTo}
 use Rattle.adds_spec.specs.Seen.{enterSeen, addsSeen, RightSeen}
+use Rattle.adds_spec.proofs.Images.{map-in, map-out}
 
 abbrev pub withoutParts : AddCall → AddCall
 withoutParts c = record { start = c .start; steps = c .steps; won = c .won; lost = c .lost; parts = [] }
@@ -86,10 +87,6 @@ seen-shows = shows-all noAddCalls noAddCalls (record { now = refl; pending = λ 
 
 -- OF THE ADDS
 
-pub from-map : {A B : Type 0} (f : A → B) (l : List A) (b : B) → b ∈ map f l → (a : A) × (a ∈ l) × (b ≡ f a)
-from-map f (x ∷ l) b (inl e) = (x, inl refl, e)
-from-map f (x ∷ l) b (inr i) = let r = from-map f l b i in (r .0, inr (r .1), r .2)
-
 shown-some : (o : Option AddCall) (c : AddCall) → shown o ≡ some c → (d : AddCall) × (o ≡ some d) × (c ≡ withoutParts d)
 shown-some none c e = absurd (clash refl e)
 shown-some (some d) c e = (d, refl, some-inj {o = some c} refl (sym e))
@@ -102,9 +99,9 @@ counted-shown f h = record { cell = h .cell; steps = h .steps; won = h .won; los
 
 pub right-seen : (top : ℕ) (A B : AddCalls) → Shows A B → RightAdds top A → RightSeen B
 right-seen top A B S R = record {
-  ended = λ f i. let r = from-map shownEnd (A .finished) f (subst (λ (l : List FinishedAdd). f ∈ l) (S .finished) i) in subst Counted (sym (r .2)) (counted-shown (r .0) (R .ended (r .0) (r .1) .counted));
+  ended = λ f i. let r = map-out shownEnd (A .finished) f (subst (λ (l : List FinishedAdd). f ∈ l) (S .finished) i) in subst Counted (sym (r .2)) (counted-shown (r .0) (R .ended (r .0) (r .1) .counted));
   unended = λ t c e. let r = shown-some (A .pending t) c (sym (S .pending t) ∙ e) in subst FewSoFar (sym (r .2)) (few-shown (r .0) (R .unended t (r .0) (r .1) .few));
-  withdrawn = λ c i. let r = from-map withoutParts (A .withdrawn) c (subst (λ (l : List AddCall). c ∈ l) (S .withdrawn) i) in subst FewSoFar (sym (r .2)) (few-shown (r .0) (R .withdrawn (r .0) (r .1) .few));
+  withdrawn = λ c i. let r = map-out withoutParts (A .withdrawn) c (subst (λ (l : List AddCall). c ∈ l) (S .withdrawn) i) in subst FewSoFar (sym (r .2)) (few-shown (r .0) (R .withdrawn (r .0) (r .1) .few));
 }
 
 -- an add that finishes is seen to finish
@@ -117,7 +114,7 @@ finish-seen adds seen S l t c e ends =
       steps = f .steps;
       at-most = subst (λ (d : AddCall). f .steps ≤ 27 * d .start .tries) (sym (r .2)) (f .at-most);
       end = shownEnd (f .end);
-      done = subst (λ (l : List FinishedAdd). shownEnd (f .end) ∈ l) (sym (S (l ++ replicate (f .steps) (act (step t))) .finished)) (mem-map shownEnd (adds (l ++ replicate (f .steps) (act (step t))) .finished) (f .end) (f .done));
+      done = subst (λ (l : List FinishedAdd). shownEnd (f .end) ∈ l) (sym (S (l ++ replicate (f .steps) (act (step t))) .finished)) (map-in shownEnd (adds (l ++ replicate (f .steps) (act (step t))) .finished) (f .end) (f .done));
       is = f .is ∙ ap (λ (d : AddCall). d .start) (sym (r .2));
     }
 

@@ -8,12 +8,13 @@ use Prim.Native.Nat.{ℕ}
 use Rattle.history_spec.specs.Basics.{upd, _∈_}
 use Rattle.history_spec.specs.History.{Op, read, cellOf, Action, begin, step, drop, Attempt, Report, Event, refused, accepted, answered, history, run, Call, WithdrawnCall, Calls, noCalls, called, advanced, alsoWithdrawn, enter, enterAll, Allowed, Complete}
 use Rattle.history_spec.specs.Demand3.{Meets}
-use Rattle.history_spec.proofs.Basics.{either, upd-same, upd-off, clash, mem-map}
+use Rattle.history_spec.proofs.Basics.{either, upd-same, upd-off, clash}
 use Rattle.adds_spec.specs.declared.Add.{Add}
 use Rattle.adds_spec.specs.Requests.{Request, act, add, plain, Gave, eventsOf, freshAdd, Ahead, part, end, ahead, triesOk, Handled, handled, onwards, stepsOn, addBegins, forgets, handles, withAdds, noAdds}
 use Rattle.adds_spec.specs.Demand3.{didsOf}
 use Rattle.adds_spec.specs.Adds.{AddCall, AddCalls, noAddCalls, reportsIn, addSteps, addCalled, alsoWithdrawnAdd, enterAdd, enterAdds, addsOf}
 use Rattle.adds_spec.specs.Seen.{enterPlain, enterPlains, callsSeen, AllFinished}
+use Rattle.adds_spec.proofs.Images.{map-in}
 use Rattle.adds_spec.proofs.Clock.{joined}
 use Rattle.adds_spec.proofs.Reached.{enter-append, Continues, allowed}
 use Rattle.adds_spec.proofs.Adds.{part-cell, At, Inv, idle-plain, requested-next, none-weighs, invariant}
@@ -226,4 +227,4 @@ module _ {S : Type 0} (top : ℕ) (machine : S → Action → S × Event) (start
 
         gone : (w : WithdrawnCall) → Gone (addsOf h .withdrawn) (callsSeen (eventsOf h) .withdrawn) w → cellOf (w .call .start .op) ≢ cell
         gone w (inl (v, i, e)) = λ q. F .calls .none-withdrawn v i (ap cellOf e ∙ q)
-        gone w (inr (C, i, e)) = λ q. F .none-withdrawn (withoutParts C) (subst (λ (l : List AddCall). withoutParts C ∈ l) (sym (seen-shows h .withdrawn)) (mem-map withoutParts (addsOf h .withdrawn) C i)) (sym e ∙ q)
+        gone w (inr (C, i, e)) = λ q. F .none-withdrawn (withoutParts C) (subst (λ (l : List AddCall). withoutParts C ∈ l) (sym (seen-shows h .withdrawn)) (map-in withoutParts (addsOf h .withdrawn) C i)) (sym e ∙ q)

@@ -6,8 +6,10 @@ use mathlib.Core.List.{List, [], _∷_, _++_}
 use Prim.Native.Nat.{ℕ, suc, _+_, _*_, _≤_, _<_}
 use lib.ListN.{replicate}
 use Rattle.history_spec.specs.Basics.{upd, _∈_}
-use Rattle.history_spec.specs.History.{Op, read, swap, Action, begin, step, drop, taskOf, Response, Value, Yes, No, Report, Attempt, Event, refused, accepted, answered, wins, losses}
+use Rattle.history_spec.specs.History.{Op, read, swap, Action, begin, step, drop, taskOf, Response, Value, Yes, No, Report, Attempt, Event, refused, accepted, answered, wins, losses, Call, noCalls}
+use Rattle.adds_spec.specs.declared.Add.{Add}
 use Rattle.adds_spec.specs.Requests.{Request, act, add, AddAnswer, AmountAdded, Over, Spent, AddReport, RequestEvent, plain, summed, Gave}
+use Rattle.adds_spec.specs.Demand3.{didsOf, enterDids}
 
 -- what never changes of an add: the moment of its begin, its task and cell, its amount and tries
 pub record AddId : Type 0 where
@@ -177,6 +179,37 @@ pub record RightAdds (top : ℕ) (b : AddCalls) : Type 0 where
   pub ended : (f : FinishedAdd) → f ∈ b .finished → RightAdd top f
   pub unended : (t : ℕ) (c : AddCall) → b .pending t ≡ some c → RightSoFar top c
   pub withdrawn : (c : AddCall) → c ∈ b .withdrawn → RightSoFar top c
+
+-- beyond what is allowed for each swap that answered no, an add did a read where a swap is under way
+abbrev pub moreSteps : Op → ℕ
+moreSteps (read k) = 0
+moreSteps (swap k e n) = 6
+
+abbrev pub moreAttempts : Op → ℕ
+moreAttempts (read k) = 0
+moreAttempts (swap k e n) = 1
+
+-- task t's add a is under way, as the call `call`, with its part `part`: what a says is what its ended parts did, and it keeps to the fit limits
+pub record UnderWay (top : ℕ) (h : List (Request × Gave)) (t : ℕ) (a : Add) : Type 0 where
+  pub call : AddCall
+  pub its : addsOf h .pending t ≡ some call
+  pub part : Call
+  pub busy : enterDids noCalls (didsOf h) .pending t ≡ some part
+  pub comes : NextPart top (call .start .cell) (call .start .amount) (lastAnswer (call .parts)) (part .start .op)
+  pub amount : a .amount ≡ call .start .amount
+  pub tries : a .tries ≡ call .start .tries
+  pub failed : a .failed ≡ noes (call .parts)
+  pub steps : a .steps ≡ sumOf (λ (r : Report). r .steps) (call .parts)
+  pub won : a .won ≡ sumOf (λ (r : Report). r .won) (call .parts)
+  pub lost : a .lost ≡ sumOf (λ (r : Report). r .lost) (call .parts)
+  pub all-steps : call .steps ≡ a .steps + part .steps
+  pub all-won : call .won ≡ a .won + part .won
+  pub all-lost : call .lost ≡ a .lost + part .lost
+  pub some-tries : 1 ≤ a .tries
+  pub few-tries : a .tries ≤ 8
+  pub fewer : a .failed < a .tries
+  pub few-steps : a .steps ≤ 27 * a .failed + moreSteps (part .start .op)
+  pub few-attempts : a .won + a .lost ≤ 4 * a .failed + moreAttempts (part .start .op)
 
 -- `adds`: those of each list of requests. After the requests l, so many more steps of task t, at most `few`, finish its add c.
 pub record AddFinishes (adds : List Request → AddCalls) (l : List Request) (t : ℕ) (c : AddCall) (few : ℕ) : Type 0 where

@@ -32,15 +32,16 @@ use Rattle.cells_spec.specs.Events as Events
 use Rattle.cells_spec.specs.Machine.{Pool, pool, begins, triedBy}
 use Rattle.cells_spec.proofs.Acts.{step-untouched}
 use Rattle.cells_theorems.specs.Terms.{start}
-use Rattle.cells_theorems.proofs.Refines.{together}
+use Rattle.cells_theorems.proofs.Refines.{together, always-fit}
+use Rattle.cells_theorems.proofs.Lacking.{never-20}
 use Rattle.cells_theorems.proofs.Demand3.{cells-meet-demand-3}
 use Rattle.adds_spec.specs.declared.Add.{Add}
 use Rattle.adds_spec.specs.Requests.{Request, act, add, RequestEvent, plain, eventsOf, Over, Spent, freshAdd, withPart, Ahead, part, end, sumBelow, tryLeft, ahead, triesOk, Handled, handled, onwards, stepsOn, addBegins, forgets, handles, withAdds, noAdds}
 use Rattle.adds_spec.proofs.Plays.{flat, flat-history, flat-run, run-append}
-use Rattle.adds_spec.proofs.Adds.{Part, reading, swapping, adds-limits}
+use Rattle.adds_spec.proofs.Adds.{Part, reading, swapping, doing}
 use Rattle.adds_spec.proofs.Reached.{Below}
 use Rattle.adds_spec.specs.declared.AddingState.{AddingState}
-use Rattle.adds_spec.specs.Adding.{Denies, GoesOn, FinishesCall, AddingAfter, addingAfter, unlessDenies, noAdd, addAt, hasAdd, withAdd, withCells, addTests, addFit, addsFit, withoutAdd, addingOpened, addingBegun, addingDropped, firstRecord, addQuestions, addBegun, addOnwards, stepEnds, addingStepped, addingLooked, AddingPool, requestEvent, addingPool}
+use Rattle.adds_spec.specs.Adding.{Denies, GoesOn, FinishesCall, AddingAfter, addingAfter, unlessDenies, noAdd, addAt, hasAdd, withAdd, withCells, addTests, addFit, addsFit, addingFit, withoutAdd, addingOpened, addingBegun, addingDropped, firstRecord, addQuestions, addBegun, addOnwards, stepEnds, addingStepped, addingLooked, AddingPool, requestEvent, addingPool}
 use Rattle.adds_theorems.specs.Terms.{addingStart}
 use Rattle.adds_theorems.proofs.Continuing.{pool-continues}
 use Rattle.adds_theorems.proofs.SwapKind.{pending-swap-kind}
@@ -321,11 +322,11 @@ module _ (old : State) (words : List ℕ) (tasks cells blocks : ℕ) (values : L
         go : (b : Bool) → hasAdd (addAt L t) ≡ b → (not b || ands (addTests (addAt L t) (r t))) ≡ true
         go false e = refl
         go true e =
-            let m = adds-limits noValue pool x₀ (cells-meet-demand-3 old words tasks cells blocks values allowed) (pool-continues old words tasks cells blocks values allowed) l t (addAt L t) (h .adds t ∙ some-add (addAt L t) e) in
-            let w = within-limits (addAt L t) (eqb (r t .kind) 2) (m .cell) (m .amount) (m .call .start .op) (m .its)
+            let m = doing noValue pool x₀ (cells-meet-demand-3 old words tasks cells blocks values allowed) (pool-continues old words tasks cells blocks values allowed) l t (addAt L t) (h .adds t ∙ some-add (addAt L t) e) in
+            let w = within-limits (addAt L t) (eqb (r t .kind) 2) (m .add .start .cell) (m .add .start .amount) (m .call .start .op) (m .runs .its)
             (λ c e n o. eq-eqb (r t .kind) 2 (ap (λ (x : Pool). recordAt (x .0 .records) t .kind) (plainly l) ∙ pending-swap-kind old words tasks cells blocks values allowed (flat noValue pool x₀ noAdds l) t (m .call) c e n (omega (arith, i, same-tasks l))
             (ap (λ (h : List (Action × Event)). callsOf h .pending t) (sym (flat-history noValue pool l x₀ noAdds)) ∙ m .busy) o)) in
-            rw (le-leb 1 (addAt L t .tries) (m .tries .0), le-leb (addAt L t .tries) 8 (m .tries .1), lt-ltb (addAt L t .failed) (addAt L t .tries) (m .fewer), le-leb _ _ (w .0), le-leb _ _ (w .1))
+            rw (le-leb 1 (addAt L t .tries) (m .runs .some-tries), le-leb (addAt L t .tries) 8 (m .runs .few-tries), lt-ltb (addAt L t .failed) (addAt L t .tries) (m .runs .fewer), le-leb _ _ (w .0), le-leb _ _ (w .1))
 
     all-fit : addsFit (record { cells = after l .0 .0; adds = L }) ≡ true
     unfolding addsFit
@@ -378,3 +379,48 @@ module _ (old : State) (words : List ℕ) (tasks cells blocks : ℕ) (values : L
       addingLooked (entries .0) (entries .1) cell ≡ looked (now .0) (now .1) cell
   unfolding addingLooked
   same-looks l k = let r = from-opening l in ap (λ (x : AddingPool). cond (addsFit (x .0)) (looked (x .0 .cells) (x .1) k) (NotShown 6)) (r .left) ∙ rw (all-fit l (r .list) (r .holds))
+
+  -- The state is fit after any requests: question 6 is never answered no.
+  pub adds-always-fit : (requests : List Request) → let now = run addingPool (addingStart old words tasks cells blocks values) requests in addingFit (now .0) (now .1) ≡ true
+  adds-always-fit l =
+      let r = from-opening l in
+      let fits : fit (after l .0 .0) (after l .0 .1) ≡ true = ap (λ (x : Pool). fit (x .0) (x .1)) (plainly l) ∙ always-fit old words tasks cells blocks values allowed (flat noValue pool x₀ noAdds l) in
+      ap (λ (x : AddingPool). addingFit (x .0) (x .1)) (r .left) ∙ rw (fits, all-fit l (r .list) (r .holds))
+
+  abbrev firstEvent : List (Request × RequestEvent) → RequestEvent
+  firstEvent [] = plain (refused 20)
+  firstEvent (x ∷ h) = x .1
+
+  -- of the layer's events
+  never-there : (x : Pool) (f : ℕ → Option Add) → ((a : Action) → pool x a .1 ≡ refused 20 → ⊥) → (q : Request) → handles noValue pool x f q .gave .event ≡ plain (refused 20) → ⊥
+  never-there x f h (act (begin t op)) e = h (begin t op) cc
+  never-there x f h (act (drop t)) e = h (drop t) cc
+  never-there x f h (act (step t)) e = go (f t) (pool x (step t) .1) (h (step t)) e
+    where
+      go : (o : Option Add) (y : Event) → (y ≡ refused 20 → ⊥) → stepsOn noValue pool (pool x (step t) .0) f t o y .gave .event ≡ plain (refused 20) → ⊥
+      go none y h e = h cc
+      go (some a) (refused n) h e = h cc
+      go (some a) (accepted y) h e = h cc
+      go (some a) (answered y r) h e = next (ahead noValue a r (r .answer)) e
+        where
+          next : (w : Ahead) → onwards noValue pool (pool x (step t) .0) f t a y r w .gave .event ≡ plain (refused 20) → ⊥
+          next (part op n) e = let v : _≡_ {A = ℕ} 0 1 = cc in omega arith
+          next (end z) e = let v : _≡_ {A = ℕ} 0 1 = cc in omega arith
+  never-there x f h (add t k d n) e = go (pool x (begin t (read k)) .1) (h (begin t (read k))) e
+    where
+      go : (y : Event) → (y ≡ refused 20 → ⊥) → addBegins noValue pool x (pool x (begin t (read k)) .0) f t k d n y .gave .event ≡ plain (refused 20) → ⊥
+      go (refused m) h e = h cc
+      go (answered y r) h e = let v : _≡_ {A = ℕ} 0 1 = cc in omega arith
+      go (accepted y) h e = test (triesOk n) e
+        where
+          test : (b : Bool) → cond b (handled noValue pool (pool x (begin t (read k)) .0) (upd f t (some (freshAdd d n))) ((begin t (read k), accepted y) ∷ []) (plain (accepted y))) (handled noValue pool x f [] (plain (refused 23))) .gave .event ≡ plain (refused 20) → ⊥
+          test true e = let v : _≡_ {A = ℕ} 0 1 = cc in omega arith
+          test false e = let v : _≡_ {A = ℕ} 20 23 = cc in omega arith
+
+  -- No request is refused with 20.
+  pub adds-never-20 : (requests : List Request) (request : Request) → addingPool (run addingPool (addingStart old words tasks cells blocks values) requests) request .1 ≡ plain (refused 20) → ⊥
+  adds-never-20 l q e =
+      let r = from-opening l in
+      let next = ap firstEvent (ran (q ∷ []) l (r .list) (r .holds) .events) in
+      never-there (after l .0) (after l .1) (λ a z. never-20 old words tasks cells blocks values allowed (flat noValue pool x₀ noAdds l) a (ap (λ (x : Pool). pool x a .1) (sym (plainly l)) ∙ z)) q
+      (sym next ∙ ap (λ (x : AddingPool). addingPool x q .1) (sym (r .left)) ∙ e)

@@ -26,13 +26,13 @@ use Rattle.cells_theorems.proofs.Demand3.{starting-values, cells-meet-demand-3}
 use Rattle.adds_spec.specs.Requests.{Request, Gave, eventsOf, noAdds, withAdds}
 use Rattle.adds_spec.specs.declared.Add.{Add}
 use Rattle.adds_spec.specs.Demand3.{didsOf, enterDids, MeetsAdds}
-use Rattle.adds_spec.specs.Adds.{AddCall, addsOf, RightAdds, AddFinishes}
+use Rattle.adds_spec.specs.Adds.{AddCall, addsOf, RightAdds, UnderWay, AddFinishes}
 use Rattle.adds_spec.specs.Sums.{broughtTo, OnlyAdds}
 use Rattle.adds_spec.proofs.Images.{complete-before}
 use Rattle.adds_spec.proofs.Clock.{joined, clockOf}
 use Rattle.adds_spec.proofs.Plays.{requested, flat, flat-history, flat-run}
 use Rattle.adds_spec.proofs.Meets.{meets-adds, retelling}
-use Rattle.adds_spec.proofs.Adds.{adds-right, Limits, adds-limits}
+use Rattle.adds_spec.proofs.Adds.{adds-right, adds-under-way}
 use Rattle.adds_spec.proofs.Sums.{sum-left}
 use Rattle.adds_spec.proofs.AddEnds.{adds-end}
 use Rattle.adds_theorems.proofs.Continuing.{pool-continues}
@@ -56,10 +56,11 @@ module _ (old : State) (words : List ℕ) (tasks cells blocks : ℕ) (values : L
       AddFinishes (λ l. addsOf (history (withAdds noValue pool) (start old words tasks cells blocks values, noAdds) l)) requests task call (27 * call .start .tries)
   every-add-ends = adds-end noValue pool x₀ (cells-meet-demand-3 old words tasks cells blocks values allowed) (pool-continues old words tasks cells blocks values allowed) requests
 
-  -- What question 6 asks of an add under way.
+  -- An add under way keeps to the limits of question 6. Its part is on its cell: a read, or the swap of the value just read to that plus the
+  -- amount.
   pub adds-stay-fit : (task : ℕ) (add : Add) → run (withAdds noValue pool) (start old words tasks cells blocks values, noAdds) requests .1 task ≡ some add →
-      Limits noValue pool (start old words tasks cells blocks values) (cells-meet-demand-3 old words tasks cells blocks values allowed) (pool-continues old words tasks cells blocks values allowed) requests task add
-  adds-stay-fit = adds-limits noValue pool x₀ (cells-meet-demand-3 old words tasks cells blocks values allowed) (pool-continues old words tasks cells blocks values allowed) requests
+      UnderWay noValue (history (withAdds noValue pool) (start old words tasks cells blocks values, noAdds) requests) task add
+  adds-stay-fit = adds-under-way noValue pool x₀ (cells-meet-demand-3 old words tasks cells blocks values allowed) (pool-continues old words tasks cells blocks values allowed) requests
 
   abbrev did : List Action
   did = flat noValue pool x₀ noAdds requests

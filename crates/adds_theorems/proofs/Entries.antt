@@ -18,7 +18,8 @@ use Rattle.adds_spec.specs.Adds.{AddCall, FinishedAdd, AddCalls, addsOf, RightA
 use Rattle.adds_spec.specs.Seen.{addsSeen, AllFinished, RightSeen}
 use Rattle.adds_spec.specs.Sums.{broughtTo, OnlyAdds}
 use Rattle.adds_spec.specs.Adding.{addingLooked, addingPool}
-use Rattle.adds_spec.proofs.Seen.{Shows, shownEnd, seen-shows, from-map, right-seen, finish-seen, brought-seen}
+use Rattle.adds_spec.proofs.Images.{map-out}
+use Rattle.adds_spec.proofs.Seen.{Shows, shownEnd, seen-shows, right-seen, finish-seen, brought-seen}
 use Rattle.adds_spec.proofs.SeenCalls.{complete-seen}
 use Rattle.adds_theorems.specs.Terms.{addingStart}
 use Rattle.adds_theorems.proofs.Continuing.{pool-continues}
@@ -44,7 +45,7 @@ module _ (old : State) (words : List ℕ) (tasks cells blocks : ℕ) (values : L
   pub entries-right : (f : FinishedAdd) → f ∈ addsSeen (history addingPool (addingStart old words tasks cells blocks values) requests) .finished →
       (g : FinishedAdd) × (g ∈ addsOf (history (withAdds noValue pool) (start old words tasks cells blocks values, noAdds) requests) .finished) × (f .call .start ≡ g .call .start) × (f .report ≡ g .report) × RightAdd noValue g
   entries-right f i =
-      let r = from-map shownEnd (adds requests .finished) f (subst (λ (l : List FinishedAdd). f ∈ l) (shows requests .finished) i) in
+      let r = map-out shownEnd (adds requests .finished) f (subst (λ (l : List FinishedAdd). f ∈ l) (shows requests .finished) i) in
       (r .0, r .1, ap (λ (f : FinishedAdd). f .call .start) (r .2), ap (λ (f : FinishedAdd). f .report) (r .2), adds-within-bounds old words tasks cells blocks values allowed requests .ended (r .0) (r .1))
 
   -- From anywhere in any list of requests, at most 27 further steps of its task for each try finish a pending add.
