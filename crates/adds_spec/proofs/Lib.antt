@@ -8,3 +8,4 @@ pub mod Sums
 pub mod AddEnds
 pub mod Seen
 pub mod SeenCalls
+pub mod FitExamples
