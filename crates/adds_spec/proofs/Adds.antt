@@ -368,7 +368,7 @@ module _ (top : ℕ) (P : Op → Type 0) (up down : Op → Response → ℕ) (ga
 
                 last : (z : AddAnswer) → cellOf op ≡ C .start .cell → a .steps + r .steps ≤ 27 * a .tries → (a .won + r .won) + (a .lost + r .lost) ≤ 4 * a .tries → a .failed + noOf y ≤ a .tries →
                     RightAnswer top (C .start .amount) (C .start .tries) (r ∷ C .parts) z → RightAdd top (Fz z)
-                last z k few hard noes answer = record {
+                last z k long hard fewer answer = record {
                   counted = record {
                     cell = at-cell ∙ k;
                     steps = omega (arith, R .steps, reports .steps);
@@ -382,7 +382,7 @@ module _ (top : ℕ) (P : Op → Type 0) (up down : Op → Response → ℕ) (ga
                   won = omega (arith, R .part-won);
                   lost = omega (arith, R .part-lost);
                   went-on = R .went-on;
-                  few-noes = omega (arith, noes, R .failed, R .tries, noes-are);
+                  few-noes = omega (arith, fewer, R .failed, R .tries, noes-are);
                   answer = answer;
                 }
 

@@ -93,15 +93,16 @@ pub limits : Holds (
 unfolding fit recordFit cellsFit recordsFit hasNone openQuestions uses countsTrue opened readBegun swapBegun stepped dropped looked addFit addsFit addingBegun addBegun addingStepped addingDropped addingLooked
 limits = (refl, (refl, (refl, (refl, (refl, (refl, (refl, (refl, (refl, (refl, (refl, (refl, (refl, (refl, (refl, (refl, (refl, (refl, (refl, tt)))))))))))))))))))
 
--- whatever an idle task's add was, a begin of a read or a swap leaves none, and a begin of an add its own
-pub begins-clear : Holds (
+-- whatever an idle task's add was, a begin of a read or a swap leaves none, and a begin of an add its own; a drop leaves none
+pub left : Holds (
     (addAt (addingBegun (adding (idle .state) 0 (counts 9 9 1000 9 9)) words 0 (read 0) .state .adds) 0, noAdd) ∷
     (addAt (addingBegun (adding (idle .state) 0 (counts 9 9 1000 9 9)) words 0 (swap 0 5 9) .state .adds) 0, noAdd) ∷
     (addAt (addBegun (adding (idle .state) 0 (counts 9 9 1000 9 9)) words 0 0 3 2 .state .adds) 0, freshAdd 3 2) ∷
+    (addAt (addingDropped (adding (busy (read 0)) 0 (counts 8 7 189 20 8)) words 0 .state .adds) 0, noAdd) ∷
     []
     )
-unfolding fit recordFit cellsFit recordsFit hasNone openQuestions uses countsTrue opened readBegun swapBegun addFit addsFit addingBegun addBegun
-begins-clear = (refl, (refl, (refl, tt)))
+unfolding fit recordFit cellsFit recordsFit hasNone openQuestions uses countsTrue opened readBegun swapBegun dropped addFit addsFit addingBegun addBegun addingDropped
+left = (refl, (refl, (refl, (refl, tt))))
 
 -- 23: r outside 1 to 8, whatever d is; asked after 7, 8 and 9
 abbrev adds : State → (task cell amount tries : ℕ) → Option ℕ

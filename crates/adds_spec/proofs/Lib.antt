@@ -1,3 +1,5 @@
+pub mod AddExamples
+pub mod FitExamples
 pub mod Images
 pub mod Clock
 pub mod Plays
@@ -5,7 +7,6 @@ pub mod Meets
 pub mod Reached
 pub mod Adds
 pub mod Sums
-pub mod AddEnds
+pub mod Ends
 pub mod Seen
 pub mod SeenCalls
-pub mod FitExamples

@@ -34,7 +34,7 @@ use Rattle.adds_spec.proofs.Plays.{requested, flat, flat-history, flat-run}
 use Rattle.adds_spec.proofs.Meets.{meets-adds, retelling}
 use Rattle.adds_spec.proofs.Adds.{adds-right, adds-under-way}
 use Rattle.adds_spec.proofs.Sums.{sum-left}
-use Rattle.adds_spec.proofs.AddEnds.{adds-end}
+use Rattle.adds_spec.proofs.Ends.{adds-end}
 use Rattle.adds_theorems.proofs.Continuing.{pool-continues}
 
 module _ (old : State) (words : List ℕ) (tasks cells blocks : ℕ) (values : List ℕ) (allowed : refusal (openQuestions (length words) tasks cells blocks values) ≡ none) (requests : List Request) where

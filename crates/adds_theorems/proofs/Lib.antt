@@ -5,4 +5,4 @@ pub mod Moments
 pub mod SwapKind
 pub mod Adding
 pub mod Entries
-pub mod AddExamples
+pub mod MomentExamples

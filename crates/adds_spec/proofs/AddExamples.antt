@@ -1,22 +1,19 @@
 -- Adds worked out: the last event of some lists of requests on one cell, by the entries' definitions.
 use mathlib.Core.Path.{_≡_, refl}
 use mathlib.Core.Option.{Option, none, some}
-use mathlib.Core.List.{List, [], _∷_, _++_, map}
+use mathlib.Core.List.{List, [], _∷_, _++_}
 use Prim.Native.Nat.{ℕ}
 use lib.ListN.{replicate}
 use Rattle.cells_spec.specs.Questions.{fit, recordFit, cellsFit, recordsFit, hasNone, openQuestions, uses, countsTrue}
 use Rattle.cells_spec.specs.Blocks.{firstUnused}
-use Rattle.history_spec.specs.Basics.{upd}
-use Rattle.history_spec.specs.History.{read, swap, begin, step, drop, untried, success, Value, aRead, refused, answered, history}
-use Rattle.history_spec.specs.Moments.{Mark, Rule, R1, R2, C2, C3, C4, C5, C6}
+use Rattle.history_spec.specs.History.{read, swap, begin, step, drop, untried, success, Value, aRead, Report, refused, answered, history}
 use Rattle.cells_spec.specs.Open.{blank, opened}
 use Rattle.cells_spec.specs.Begin.{readBegun, swapBegun}
 use Rattle.cells_spec.specs.StoredCounts.{recounted}
 use Rattle.cells_spec.specs.Step.{ran, stepped}
 use Rattle.cells_spec.specs.Drop.{dropped}
 use Rattle.adds_spec.specs.Requests.{Request, act, add, AddAnswer, AmountAdded, Over, Spent, AddReport, RequestEvent, plain, summed}
-use Rattle.adds_theorems.specs.Moments.{poolRequestMoments}
 use Rattle.adds_spec.specs.Adding.{noAdd, addFit, addsFit, addingOpened, addingBegun, addBegun, addingStepped, addingDropped, addingPool}
 
 abbrev lastEvent : List (Request × RequestEvent) → Option RequestEvent
 lastEvent [] = none
@@ -27,14 +24,18 @@ lastEvent (x ∷ y ∷ h) = lastEvent (y ∷ h)
 abbrev ends : ℕ → List Request → Option RequestEvent
 ends v l = let r = addingOpened (record { cells = blank; adds = replicate 32 noAdd }) (replicate 20 0) 2 1 4 (v ∷ []) in lastEvent (history addingPool (r .state, r .pool) l)
 
-abbrev steps : (task times : ℕ) → List Request
+abbrev pub steps : (task times : ℕ) → List Request
 steps t n = replicate n (act (step t))
 
 abbrev reports : ℕ → AddAnswer → (steps won lost : ℕ) → AddReport
 reports k a n w l = record { cell = k; answer = a; steps = n; won = w; lost = l }
 
+-- of 3 steps
+abbrev readOf : (value : ℕ) → Report
+readOf v = record { kind = aRead; cell = 0; answer = Value v; steps = 3; won = 0; lost = 0 }
+
 -- an add of 3 is withdrawn when its swap has stored
-abbrev storedThenWithdrawn : List Request
+abbrev pub storedThenWithdrawn : List Request
 storedThenWithdrawn = (add 0 0 3 1 ∷ steps 0 12) ++ act (drop 0) ∷ []
 
 abbrev Holds : List (Option RequestEvent × Option RequestEvent) → Type 0
@@ -44,12 +45,16 @@ Holds (x ∷ l) = (x .0 ≡ x .1) × Holds l
 pub examples : Holds (
     -- alone: a read of 3 steps and a swap of 10
     (ends 5 (add 0 0 3 1 ∷ steps 0 13), some (summed untried (reports 0 AmountAdded 13 0 0))) ∷
+    -- a read finds the sum
+    (ends 5 ((add 0 0 3 1 ∷ steps 0 13) ++ act (begin 1 (read 0)) ∷ steps 1 3), some (plain (answered untried (readOf 8)))) ∷
     -- between its read and its swap another swaps: one try is spent, a second one adds
     (ends 5 ((add 0 0 3 1 ∷ steps 0 3) ++ (act (begin 1 (swap 0 5 9)) ∷ steps 1 10) ++ steps 0 8), some (summed untried (reports 0 Spent 11 0 0))) ∷
     (ends 5 ((add 0 0 3 2 ∷ steps 0 3) ++ (act (begin 1 (swap 0 5 9)) ∷ steps 1 10) ++ steps 0 21), some (summed untried (reports 0 AmountAdded 24 0 0))) ∷
     -- the sum would be none; one less is added
     (ends 5 (add 0 0 4294967290 2 ∷ steps 0 3), some (summed untried (reports 0 Over 3 0 0))) ∷
     (ends 5 (add 0 0 4294967289 2 ∷ steps 0 13), some (summed untried (reports 0 AmountAdded 13 0 0))) ∷
+    -- so it is of an amount that is none: 5 more would be 4, in 32 bits
+    (ends 5 (add 0 0 4294967295 2 ∷ steps 0 3), some (summed untried (reports 0 Over 3 0 0))) ∷
     -- an amount of 0: the swap of equal values is a read, by line 14
     (ends 5 (add 0 0 0 8 ∷ steps 0 6), some (summed untried (reports 0 AmountAdded 6 0 0))) ∷
     -- question 23 is the last: after 7, 8 and 9
@@ -59,7 +64,7 @@ pub examples : Holds (
     (ends 5 (add 0 1 0 0 ∷ []), some (plain (refused 8))) ∷
     (ends 5 (act (begin 0 (read 0)) ∷ add 0 0 0 0 ∷ []), some (plain (refused 9))) ∷
     -- an add is withdrawn in its swap: a read that its task begins then is no part of it
-    (ends 5 ((add 0 0 3 2 ∷ steps 0 5) ++ act (drop 0) ∷ act (begin 0 (read 0)) ∷ steps 0 3), some (plain (answered untried (record { kind = aRead; cell = 0; answer = Value 5; steps = 3; won = 0; lost = 0 })))) ∷
+    (ends 5 ((add 0 0 3 2 ∷ steps 0 5) ++ act (drop 0) ∷ act (begin 0 (read 0)) ∷ steps 0 3), some (plain (answered untried (readOf 5)))) ∷
     -- withdrawn after its store: another add finds the sum, and Y true; its two hardware CAS attempts succeed
     (ends 5 (storedThenWithdrawn ++ add 1 0 4 2 ∷ steps 1 16), some (summed success (reports 0 AmountAdded 16 2 0))) ∷
     -- a finished add is not withdrawn, nor is that of no task
@@ -68,34 +73,4 @@ pub examples : Holds (
     []
     )
 unfolding fit recordFit cellsFit recordsFit hasNone openQuestions uses countsTrue firstUnused recounted opened readBegun swapBegun ran stepped dropped addFit addsFit addingOpened addingBegun addBegun addingStepped addingDropped
-examples = (refl, (refl, (refl, (refl, (refl, (refl, (refl, (refl, (refl, (refl, (refl, (refl, (refl, (refl, (refl, tt)))))))))))))))
-
--- MOMENTS: what is listed, at which request, of which task, and by which rule
-
-abbrev listed : List Request → List (ℕ × ℕ × Rule)
-listed l = let r = opened blank (replicate 20 0) 2 1 4 (5 ∷ []) in map (λ (m : Mark). (m .spot .moment, m .call .task, m .spot .rule)) (poolRequestMoments 2 (r .state, r .pool) l)
-
-abbrev Lists : List (List Request × List (ℕ × ℕ × Rule)) → Type 0
-Lists [] = Unit {0}
-Lists (x ∷ l) = (listed (x .0) ≡ x .1) × Lists l
-
--- task 1's add of 4 has read 5, task 0 swaps 5 to 7; it makes the block inactive (request 15), then the add's swap stores 9, late (request 16)
-abbrev lateStore : List Request
-lateStore = (add 1 0 4 2 ∷ steps 1 3) ++ (act (begin 0 (swap 0 5 7)) ∷ steps 0 2) ++ steps 1 7 ++ steps 0 2 ++ steps 1 1
-
-pub listed-moments : Lists (
-    -- a refused add is a request too; the add's read, another's swap, the add's swap that finds it, and its second try
-    ((add 0 0 3 0 ∷ add 0 0 3 2 ∷ steps 0 3) ++ (act (begin 1 (swap 0 5 9)) ∷ steps 1 10) ++ steps 0 21, (3, 0, R1) ∷ (13, 1, C4) ∷ (21, 0, C2) ∷ (25, 0, R1) ∷ (34, 0, C4) ∷ []) ∷
-    -- of a withdrawn add: its read is finished, its swap has stored, and another add goes on from there
-    (storedThenWithdrawn ++ add 1 0 4 2 ∷ steps 1 16, (2, 0, R1) ∷ (11, 0, C4) ∷ (16, 1, R1) ∷ (30, 1, C6) ∷ []) ∷
-    -- its swap had not stored
-    ((add 0 0 3 1 ∷ steps 0 10) ++ act (drop 0) ∷ add 1 0 4 2 ∷ steps 1 16, (2, 0, R1) ∷ (14, 1, R1) ∷ (28, 1, C6) ∷ []) ∷
-    -- its swap had stored late: listed as soon as its value is decided (request 19), where the block became inactive, and not before
-    (lateStore ++ act (drop 1) ∷ steps 0 1, (2, 1, R1) ∷ []) ∷
-    (lateStore ++ act (drop 1) ∷ steps 0 2, (2, 1, R1) ∷ (15, 1, C3) ∷ []) ∷
-    -- also where its task has begun another add by then, which replaces the block
-    (lateStore ++ act (drop 1) ∷ add 1 0 1 2 ∷ steps 0 3 ++ steps 1 19, (2, 1, R1) ∷ (15, 1, C3) ∷ (20, 0, C5) ∷ (22, 1, R2) ∷ (40, 1, C6) ∷ []) ∷
-    []
-    )
-unfolding fit recordFit cellsFit recordsFit hasNone openQuestions uses countsTrue firstUnused recounted opened readBegun swapBegun ran stepped dropped upd
-listed-moments = (refl, (refl, (refl, (refl, (refl, (refl, tt))))))
+examples = (refl, (refl, (refl, (refl, (refl, (refl, (refl, (refl, (refl, (refl, (refl, (refl, (refl, (refl, (refl, (refl, (refl, tt)))))))))))))))))
