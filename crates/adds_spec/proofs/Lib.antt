@@ -10,3 +10,4 @@ pub mod Sums
 pub mod Ends
 pub mod Seen
 pub mod SeenCalls
+pub mod Entries

@@ -1,19 +1,19 @@
 -- The entries with adds: questions, what they leave and answer, and the machine that they are.
-use mathlib.Core.Bool.{Bool, _&&_, _||_, not, cond}
+use mathlib.Core.Bool.{Bool, true, false, _&&_, _||_, not, cond}
 use mathlib.Core.Option.{Option, none, some}
 use mathlib.Core.List.{List, [], _∷_, _++_}
-use Prim.Native.Nat.{ℕ, _+_, _*_}
+use Prim.Native.Nat.{ℕ, _+_, _*_, _≤_}
 use lib.Dec.{eqb, leb, ltb}
 use lib.ListN.{getD, set, replicate}
 use Rattle.figure_lines.specs.declared.Record.{Record}
 use Rattle.figure_lines.specs.Basics.{ands, allFrom, within}
 use Rattle.figure_lines.specs.Record.{noValue, isIdle, recordAt, firstRead, firstSwap}
-use Rattle.figure_lines.specs.Answers.{Result}
+use Rattle.figure_lines.specs.Answers.{Result, result}
 use Rattle.cells_spec.specs.declared.State.{State}
 use Rattle.cells_spec.specs.Questions.{Question, refusal, fit, beginQuestions}
 use Rattle.history_spec.specs.History.{Op, read, swap, begin, step, drop, Attempt, untried}
 use Rattle.cells_spec.specs.Answers.{Said, Refused, Acted, Ended, Seen, NotShown, acts}
-use Rattle.cells_spec.specs.Open.{After, opened}
+use Rattle.cells_spec.specs.Open.{After, blank, opened}
 use Rattle.cells_spec.specs.Begin.{withRecord}
 use Rattle.cells_spec.specs.Step.{stepped}
 use Rattle.cells_spec.specs.Drop.{dropped}
@@ -21,8 +21,14 @@ use Rattle.cells_spec.specs.Look.{looked}
 use Rattle.cells_spec.specs.Events as Events
 use Rattle.cells_spec.specs.Machine.{begins, triedBy}
 use Rattle.adds_spec.specs.declared.Add.{Add}
-use Rattle.adds_spec.specs.Requests.{Request, act, add, AddReport, RequestEvent, plain, summed, freshAdd, addReportOf, Ahead, part, end, ahead, triesOk}
+use Rattle.adds_spec.specs.Requests.{Request, act, add, AddAnswer, AmountAdded, Over, Spent, AddReport, RequestEvent, plain, summed, freshAdd, addReportOf, Ahead, part, end, ahead, triesOk}
 use Rattle.adds_spec.specs.declared.AddingState.{AddingState}
+use Rattle.adds_spec.specs.declared.AddVerdict.{AddVerdict}
+use Rattle.adds_spec.specs.declared.AddVerdict.the-variants as verdict
+use Rattle.adds_spec.specs.declared.AddAhead.{AddAhead}
+use Rattle.adds_spec.specs.declared.AddAhead.the-variants as next
+use Rattle.adds_spec.specs.declared.AddingOutcome.{AddingOutcome}
+use Rattle.adds_spec.specs.declared.AddingOutcome.the-variants as outcome
 
 -- WHAT AN ENTRY ANSWERS
 
@@ -31,6 +37,29 @@ pub data AddingSaid : Type 0 where
   GoesOn : AddingSaid
   FinishesCall : Result → AddingSaid
   FinishesAdd : AddReport → AddingSaid
+
+abbrev pub denies : AddingSaid → Bool
+denies (Denies n) = true
+denies GoesOn = false
+denies (FinishesCall f) = false
+denies (FinishesAdd r) = false
+
+-- what the code's enums say: an add's answer, what follows a part on cell k, what an entry answers
+abbrev pub addAnswerOf : AddVerdict → AddAnswer
+addAnswerOf verdict.Added = AmountAdded
+addAnswerOf verdict.Over = Over
+addAnswerOf verdict.Spent = Spent
+
+abbrev pub aheadOf : (cell : ℕ) → AddAhead → Ahead
+aheadOf k (next.NextRead a) = part (read k) a
+aheadOf k (next.NextSwap e n a) = part (swap k e n) a
+aheadOf k (next.LastPart v) = end (addAnswerOf v)
+
+abbrev pub addingSaidOf : AddingOutcome → AddingSaid
+addingSaidOf (outcome.Denied n) = Denies n
+addingSaidOf outcome.Going = GoesOn
+addingSaidOf (outcome.Finished f) = FinishesCall (result f)
+addingSaidOf (outcome.Summed f) = FinishesAdd (record { cell = f .cell; answer = addAnswerOf (f .verdict); steps = f .steps; won = f .won; lost = f .lost })
 
 pub record AddingAfter : Type 0 where
   pub state : AddingState
@@ -61,6 +90,10 @@ withAdd s c t a = record { cells = c; adds = set (s .adds) t a }
 abbrev pub withCells : AddingState → State → AddingState
 withCells s c = record { cells = c; adds = s .adds }
 
+-- a state to open
+abbrev pub addingBlank : AddingState
+addingBlank = record { cells = blank; adds = replicate 32 noAdd }
+
 -- QUESTION 6: the cells' state is fit, and each busy task's add, if it has one. Before the read or swap under way it did at most 27 steps and
 -- 4 hardware CAS attempts for each swap that answered no, with 6 and 1 more where a swap is under way.
 
@@ -90,9 +123,12 @@ lifted (Ended f) = FinishesCall f
 unfoldable pub addingOpened : AddingState → List ℕ → (tasks cells blocks : ℕ) → List ℕ → AddingAfter
 addingOpened s p n v b vs = let r = opened (s .cells) p n v b vs in cond (acts (r .outcome)) (addingAfter (record { cells = r .state; adds = replicate 32 noAdd }) (r .pool) (lifted (r .outcome))) (addingAfter s p (lifted (r .outcome)))
 
--- what the cells' entry left, and no add of the task; as it was, where that entry refused
+-- what the cells' entry left, and the task's add a; as it was, where that entry refused
+abbrev pub thenAdd : AddingState → List ℕ → (task : ℕ) → Add → After → AddingAfter
+thenAdd s p t a r = ifFit s p (cond (acts (r .outcome)) (addingAfter (withAdd s (r .state) t a) (r .pool) (lifted (r .outcome))) (addingAfter s p (lifted (r .outcome))))
+
 abbrev pub withoutAdd : AddingState → List ℕ → (task : ℕ) → After → AddingAfter
-withoutAdd s p t r = ifFit s p (cond (acts (r .outcome)) (addingAfter (withAdd s (r .state) t noAdd) (r .pool) (lifted (r .outcome))) (addingAfter s p (lifted (r .outcome))))
+withoutAdd s p t r = thenAdd s p t noAdd r
 
 -- a read or a swap that is not refused has no add: whatever an idle task's add held
 unfoldable pub addingBegun : AddingState → List ℕ → (task : ℕ) → Op → AddingAfter
@@ -125,6 +161,29 @@ stepEnds s t a r (Ended f) = cond (hasAdd a) (addOnwards s (r .state) (r .pool) 
 
 unfoldable pub addingStepped : AddingState → List ℕ → (task : ℕ) → AddingAfter
 addingStepped s p t = let r = stepped (s .cells) p t in ifFit s p (stepEnds s t (addAt (s .adds) t) r (r .outcome))
+
+-- what is known of an add and of its part that ends, in a fit state: the sums fit 32 bits
+abbrev pub PartsFit : Add → Result → Type 0
+PartsFit a f = (a .failed ≤ 8) × (a .steps + f .steps ≤ 4294967295) × (a .won + f .won ≤ 4294967295) × (a .lost + f .lost ≤ 4294967295)
+
+-- A STEP OVER A RECORD that the caller lends: it takes the place of the state's record of the task. The add stays in the state.
+
+pub record AddingLent : Type 0 where
+  pub entry : AddingAfter
+  pub «record» : Record
+
+abbrev pub addingLent : AddingAfter → Record → AddingLent
+addingLent a r = record { entry = a; «record» = r }
+
+-- the state with the lent record
+abbrev pub lending : AddingState → (task : ℕ) → Record → AddingState
+lending s t r = withCells s (withRecord (s .cells) t r)
+
+-- refused: all as handed in, the state without the lent record; otherwise the lent record is the state's
+unfoldable pub addingSteppedLent : AddingState → List ℕ → (task : ℕ) → Record → AddingLent
+addingSteppedLent s p t r =
+    let a = addingStepped (lending s t r) p t in
+    cond (denies (a .said)) (addingLent (addingAfter s p (a .said)) r) (addingLent a (recordAt (a .state .cells .records) t))
 
 unfoldable pub addingLooked : AddingState → List ℕ → (cell : ℕ) → Seen
 addingLooked s p k = cond (addsFit s) (looked (s .cells) p k) (NotShown 6)

@@ -35,6 +35,13 @@ pub struct AddEnd {
     pub lost: u32,
 }
 
+// What follows an add's read or swap: another read; a swap, with its values; or the add's answer.
+pub enum AddAhead {
+    NextRead(Add),
+    NextSwap(u32, u32, Add),
+    LastPart(AddVerdict),
+}
+
 // What an entry answers: the number of the first question answered no; that it acted; that it acted and the task's read or
 // swap is finished; that it acted and the task's add is finished.
 pub enum AddingOutcome {

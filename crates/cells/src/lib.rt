@@ -1,4 +1,6 @@
 // The entries that firmware links, and every type that their users name.
+pub mod add_parts;
+pub mod adds_fitness;
 mod begins;
 mod drops;
 pub mod lent;

@@ -1,0 +1,2 @@
+mod AddArrays
+mod SmallParts
