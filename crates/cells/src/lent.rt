@@ -9,7 +9,7 @@ use cells_spec::Reply;
 use cells_spec::State;
 use figure_lines::Record;
 
-fn is_refused(outcome: Outcome) -> bool
+pub fn is_refused(outcome: Outcome) -> bool
     ensures { λ b. ⌜ b ≡ isRefused (said outcome) ⌝ }
 {
     match outcome {

@@ -1,6 +1,8 @@
 // The entries that firmware links, and every type that their users name.
-pub mod add_parts;
-pub mod adds_fitness;
+mod add_parts;
+mod add_replies;
+pub mod adding;
+mod adds_fitness;
 mod begins;
 mod drops;
 pub mod lent;
@@ -18,6 +20,12 @@ pub use crate::looks::look;
 pub use crate::opening::open;
 pub use crate::opening_state::blank;
 pub use crate::steps::step;
+pub use adds_spec::Add;
+pub use adds_spec::AddEnd;
+pub use adds_spec::AddVerdict;
+pub use adds_spec::AddingOutcome;
+pub use adds_spec::AddingReply;
+pub use adds_spec::AddingState;
 pub use cells_spec::Looked;
 pub use cells_spec::Outcome;
 pub use cells_spec::Reply;
