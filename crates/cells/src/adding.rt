@@ -2,7 +2,7 @@
 ghost use mathlib.Core.Path.{_≡_};
 ghost use Rattle.cells_spec.specs.Answers.{seen};
 ghost use Rattle.history_spec.specs.History.{read, swap};
-ghost use Rattle.adds_spec.specs.Adding.{addingSaidOf, addingAfter, addingBlank, addingOpened, addingBegun, addBegun, addingStepped, addingDropped, addingLooked};
+ghost use Rattle.adds_spec.specs.Adding.{addingSaidOf, addingAfter, addingBlank, addingOpened, addingBegun, addBegun, addingStepped, addingLent, addingSteppedLent, addingDropped, addingLooked};
 use crate::add_parts::end_part;
 use crate::add_parts::no_add;
 use crate::add_replies::is_denied;
@@ -16,6 +16,7 @@ use adds_spec::AddingReply;
 use adds_spec::AddingState;
 use cells_spec::Looked;
 use cells_spec::Outcome;
+use figure_lines::Record;
 
 // For whoever opens cells with adds for the first time.
 pub fn blank() -> AddingState
@@ -138,6 +139,46 @@ pub fn step(mut s: AddingState, pool: &mut [u32], task: u32) -> AddingReply
         }
         Outcome::Ended(f) => end_part(s, after, task, f),
     }
+}
+
+// What a step over a lent record leaves besides the pool.
+struct AddingTurn {
+    reply: AddingReply,
+    record: Record,
+}
+
+fn lent_turn(s: AddingState, pool: &mut [u32], task: u32, r: Record) -> AddingTurn
+    ensures { λ n. ⌜ addingLent (addingAfter (n .reply .state) (now (pool .exit)) (addingSaidOf (n .reply .outcome))) (n .record) ≡ addingSteppedLent s (now (pool .entry)) task r ⌝ }
+{
+    let t = task as usize;
+    let mut cells = s.cells;
+    // A task beyond the records has none, and is refused.
+    if task < 32 {
+        cells.records[t] = r;
+    }
+    let mut q = s;
+    q.cells = cells;
+    let a = step(q, pool, task);
+    let outcome = a.outcome;
+    if is_denied(outcome) {
+        let reply = AddingReply { state: s, outcome };
+        return AddingTurn { reply, record: r };
+    }
+    q = a.state;
+    cells = q.cells;
+    let record = cells.records[t];
+    AddingTurn { reply: a, record }
+}
+
+// A step over the task's record, lent: it takes the place of the state's, and afterwards the two are equal. Refused, it is as
+// before.
+pub fn step_lent(s: AddingState, pool: &mut [u32], task: u32, rec: &mut Record) -> AddingReply
+    ensures { λ n. ⌜ addingLent (addingAfter (n .state) (now (pool .exit)) (addingSaidOf (n .outcome))) (now (rec .exit)) ≡ addingSteppedLent s (now (pool .entry)) task (now (rec .entry)) ⌝ }
+{
+    let r = *rec;
+    let n = lent_turn(s, pool, task, r);
+    *rec = n.record;
+    n.reply
 }
 
 // The task's call is withdrawn, and the add that it is a part of.
