@@ -3,11 +3,13 @@ use mathlib.Core.Path.{_≡_, refl, sym, ap, _∙_}
 use mathlib.Core.Bool.{Bool, true, false, _&&_, _||_, cond, and-true, false≢true}
 use mathlib.Core.Option.{Option, none, some}
 use mathlib.Core.List.{List, [], _∷_, _++_}
-use Prim.Native.Nat.{ℕ, zero, suc, _≤_, _<_}
+use Prim.Native.Nat.{ℕ, zero, suc, _+_, _≤_, _<_}
 use native.Mathlib.Omega.{arith}
 use lib.Dec.{ltb}
 use lib.ListN.{getD, length, replicate}
 use lib.Seq.{set-getD}
+use borrow.Author.Tests.{lt-ltb, le-ltb}
+use Rattle.history_spec.specs.History.{read, swap, Report, Value, No}
 use Rattle.figure_lines.specs.declared.Record.{Record}
 use Rattle.figure_lines.specs.Basics.{ands, allFrom}
 use Rattle.figure_lines.specs.Record.{noValue, idle, isIdle, recordAt, firstRead}
@@ -25,7 +27,7 @@ use Rattle.cells_spec.proofs.Acts.{acts-iff, open-untouched, step-untouched}
 use Rattle.cells_spec.proofs.LentLaw.{below-32}
 use Rattle.adds_spec.specs.declared.Add.{Add}
 use Rattle.adds_spec.specs.declared.AddingState.{AddingState}
-use Rattle.adds_spec.specs.Requests.{Ahead, part, end, ahead, freshAdd, triesOk}
+use Rattle.adds_spec.specs.Requests.{Over, Spent, Ahead, part, end, ahead, freshAdd, withPart, triesOk}
 use Rattle.adds_spec.specs.Adding.{AddingSaid, Denies, GoesOn, FinishesCall, denies, AddingAfter, addingAfter, unlessDenies, noAdd, addAt, hasAdd, withAdd, withCells, addFit, addsFit, lifted, addingOpened, thenAdd, addQuestions, addBegun, addOnwards, stepEnds, addingStepped, AddingLent, addingLent, lending, addingSteppedLent}
 
 or-true : (x : Bool) → (x || true) ≡ true
@@ -127,6 +129,21 @@ module _ (s : AddingState) (p : List ℕ) (t k d m : ℕ) where
 
     pub begun-23 : (triesOk m || b) ≡ false → addingAfter s p (Denies 23) ≡ addBegun s p t k d m
     begun-23 h = sym (ap (λ (x : Bool). cond x y (addingAfter s p (Denies 23))) h) ∙ tried
+
+-- WHAT FOLLOWS A PART, by its answer and a comparison
+
+module _ (a : Add) (r : Report) where
+  pub ahead-swaps : (v : ℕ) → v + a .amount < noValue → part (swap (r .cell) v (v + a .amount)) (withPart a r 0) ≡ ahead noValue a r (Value v)
+  ahead-swaps v h = rw (lt-ltb (v + a .amount) noValue h)
+
+  pub ahead-over : (v : ℕ) → noValue ≤ v + a .amount → end Over ≡ ahead noValue a r (Value v)
+  ahead-over v h = rw (le-ltb (v + a .amount) noValue h)
+
+  pub ahead-reads : a .failed + 1 < a .tries → part (read (r .cell)) (withPart a r 1) ≡ ahead noValue a r No
+  ahead-reads h = rw (lt-ltb (suc (a .failed)) (a .tries) (omega arith))
+
+  pub ahead-spent : a .tries ≤ a .failed + 1 → end Spent ≡ ahead noValue a r No
+  ahead-spent h = rw (le-ltb (suc (a .failed)) (a .tries) (omega arith))
 
 -- THE STEP
 

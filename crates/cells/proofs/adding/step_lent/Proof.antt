@@ -77,14 +77,15 @@ machS s = LL.val S.the-type S′.the-laws s
 abbrev machG : AddingReply → Val
 machG g = LL.val G.the-type G′.the-laws g
 
--- what whoever holds a AddingTurn knows of its fields
+-- what whoever holds an AddingTurn knows of its fields
 record-is : (r : AddingTurn) (vs : List Val) → Is P.the-row r vs → Is R.the-row (r .record) (machR (r .record) ∷ [])
 record-is r vs g = LL.owed P.the-type P′.the-laws r vs g .1 .0
 
 reply-is : (r : AddingTurn) (vs : List Val) → Is P.the-row r vs → Is G.the-row (r .reply) (machG (r .reply) ∷ [])
 reply-is r vs g = LL.owed P.the-type P′.the-laws r vs g .0
 
-module _ {M : Type 1} (𝓤 : URA M) (H : Heap 𝓤) (A : Atoms 𝓤) (W : Given 𝓤 H A) (at-mem : Memory → SProp 𝓤) (run : Routine → Fun 𝓤) (κ κ′ : Lft) (q q′ : Share) (st : AddingState) (b o : ℕ) (γ : GName) (ys : List ℕ) (t : ℕ) (b′ o′ : ℕ) (γ′ : GName) (h : Record) (gs : Is S.the-row st (machS st ∷ [])) (room : Room u32 (length ys)) (t-fits : t < 2 ^ 32) where
+module _ {M : Type 1} (𝓤 : URA M) (H : Heap 𝓤) (A : Atoms 𝓤) (W : Given 𝓤 H A) (at-mem : Memory → SProp 𝓤) (run : Routine → Fun 𝓤) (κ κ′ : Lft) (q q′ : Share)
+    (st : AddingState) (b o : ℕ) (γ : GName) (ys : List ℕ) (t : ℕ) (b′ o′ : ℕ) (γ′ : GName) (h : Record) (gs : Is S.the-row st (machS st ∷ [])) (room : Room u32 (length ys)) (t-fits : t < 2 ^ 32) where
   abbrev x : RefT (List ℕ)
   x = record { ptr = (b, o); name = γ; now = ys }
 
@@ -135,7 +136,8 @@ module _ {M : Type 1} (𝓤 : URA M) (H : Heap 𝓤) (A : Atoms 𝓤) (W : Given
         move ! (3 ∷ []) $ fsplit ! $ move ! (1 ∷ []) $ fsplit ! $ move ! (1 ∷ []) $ fsplit ! $ move ! (1 ∷ []) $ fsplit ! $ fsplit3 ! $ drop ! $ keep ! (0 ∷ 1 ∷ 6 ∷ 4 ∷ 8 ∷ []) $
         -- [obs; the borrow; its token; the slice; its token]
         enter ! C Λ code.function (machS st ∷ sl ∷ vint w32 t ∷ vptr b′ o′ ∷ []) _ $
-        alloc1 ! (λ l₀. alloc1 ! (λ l₁. alloc1 ! (λ l₂. alloc1 ! (λ l₃. alloc1 ! (λ l₄. alloc1 ! (λ l₅. alloc1 ! (λ l₆. alloc1 ! (λ l₇. alloc1 ! (λ l₈. alloc0 ! $ params1 ! $ pass1 ! (init ! 14 refl (LL.lawful S.the-type S′.the-laws 𝓤 H A W .typed st _ gs .0)) $ pass1 ! (init ! 12 refl (tt, (tt, (record { fits = room .0 }, tt)))) $ pass1 ! (init ! 10 refl (tt, record { fits = t-fits })) $ pass1 ! (init ! 8 refl (tt, tt)) $ pass0 ! $
+        alloc1 ! (λ l₀. alloc1 ! (λ l₁. alloc1 ! (λ l₂. alloc1 ! (λ l₃. alloc1 ! (λ l₄. alloc1 ! (λ l₅. alloc1 ! (λ l₆. alloc1 ! (λ l₇. alloc1 ! (λ l₈. alloc0 ! $ params1 ! $
+        pass1 ! (init ! 14 refl (LL.lawful S.the-type S′.the-laws 𝓤 H A W .typed st _ gs .0)) $ pass1 ! (init ! 12 refl (tt, (tt, (record { fits = room .0 }, tt)))) $ pass1 ! (init ! 10 refl (tt, record { fits = t-fits })) $ pass1 ! (init ! 8 refl (tt, tt)) $ pass0 ! $
         move ! (18 ∷ 19 ∷ 20 ∷ []) $ opens ! tt R.the-row {h = h} b′ o′ (λ vs. spelt ! R.the-row (Is R.the-row) (shows 𝓤 H A R.the-row) (LL.vals R.the-type R′.the-laws) (LL.tells R.the-type R′.the-laws) fullShare h vs b′ o′ $
         move ! (1 ∷ []) $ peeks ! R.the-row (Is R.the-row) (shows 𝓤 H A R.the-row) h (machR h ∷ []) (λ g. move ! (1 ∷ 0 ∷ []) $
         -- [the record's cell; what it owns; the open borrow; obs; auth; _8 at 5; _7; _6; _5 at 11; _4; _3; _2 at 17; _1; room for _0 at 21; the slice at 23; its token]

@@ -1,8 +1,9 @@
 -- Each return by the tests that led to it.
 use mathlib.Core.Path.{_≡_}
-use mathlib.Core.Bool.{and-true}
+use mathlib.Core.Bool.{_&&_, cond, and-true}
 use Prim.Native.Nat.{_+_, _*_}
 use native.Mathlib.Omega.{arith}
+use lib.Dec.{eqb, leb}
 use borrow.Author.Needs.{needs}
 use borrow.Author.Tests.{eq-eqb, ne-eqb, le-leb, lt-leb, lt-ltb, le-ltb}
 use Rattle.adds_spec.specs.Adding.{addFit}
@@ -29,19 +30,23 @@ returns-4 c =
     let a = c .before .before .before .before .before .before .before .before .args .a in
     rw (ne-eqb _ _ (c .before .before .before .before .before .before .if1 .left), ne-eqb (a .tries) 0 (c .before .before .before .before .if2 .left), le-leb 1 (a .tries) (omega (arith, c .before .before .before .before .if2 .left)), le-leb (a .tries) 8 (c .before .before .if3 .left), le-ltb (a .failed) (a .tries) (c .if4 .taken))
 
-returns-5 : tie.Need-returns-5
+-- what is left to ask of a busy task's add whose tries are right
+left : (c : tie.Else4) → let e = c .before .before .before .before .before .before .before .before .args in let a = e .a in let swap = eqb (e .r .kind) 2 in
+    addFit a (e .r) ≡ leb (a .steps) (27 * a .failed + cond swap 6 0) && leb (a .won + a .lost) (4 * a .failed + cond swap 1 0)
 unfolding addFit
-returns-5 c =
-    let a = c .before .before .before .before .before .before .before .before .before .before .before .before .before .before .before .args .a in
-    rw (ne-eqb _ _ (c .before .before .before .before .before .before .before .before .before .before .before .before .before .if1 .left), ne-eqb (a .tries) 0 (c .before .before .before .before .before .before .before .before .before .before .before .if2 .left), le-leb 1 (a .tries) (omega (arith, c .before .before .before .before .before .before .before .before .before .before .before .if2 .left)), le-leb (a .tries) 8 (c .before .before .before .before .before .before .before .before .before .if3 .left), lt-ltb (a .failed) (a .tries) (c .before .before .before .before .before .before .before .if4 .left), eq-eqb _ _ (c .before .before .if5 .taken), and-true)
+left c =
+    let a = c .before .before .before .before .before .before .before .before .args .a in
+    rw (ne-eqb _ _ (c .before .before .before .before .before .before .if1 .left), ne-eqb (a .tries) 0 (c .before .before .before .before .if2 .left), le-leb 1 (a .tries) (omega (arith, c .before .before .before .before .if2 .left)), le-leb (a .tries) 8 (c .before .before .if3 .left), lt-ltb (a .failed) (a .tries) (c .if4 .left), and-true)
+
+returns-5 : tie.Need-returns-5
+returns-5 c = rw (left (c .before .before .before .before .before .before .before), eq-eqb _ _ (c .before .before .if5 .taken))
 
 returns-6 : tie.Need-returns-6
-unfolding addFit
 returns-6 c =
     let a = c .before .before .before .before .before .before .before .before .before .before .before .before .before .before .before .args .a in
     let m : 27 * a .failed + 0 ≡ 27 * a .failed = omega arith in
     let n : 4 * a .failed + 0 ≡ 4 * a .failed = omega arith in
-    rw (ne-eqb _ _ (c .before .before .before .before .before .before .before .before .before .before .before .before .before .if1 .left), ne-eqb (a .tries) 0 (c .before .before .before .before .before .before .before .before .before .before .before .if2 .left), le-leb 1 (a .tries) (omega (arith, c .before .before .before .before .before .before .before .before .before .before .before .if2 .left)), le-leb (a .tries) 8 (c .before .before .before .before .before .before .before .before .before .if3 .left), lt-ltb (a .failed) (a .tries) (c .before .before .before .before .before .before .before .if4 .left), ne-eqb _ _ (c .before .before .if5 .left), m, n, and-true)
+    rw (left (c .before .before .before .before .before .before .before), ne-eqb _ _ (c .before .before .if5 .left), m, n)
 
 pub add-fit-spec : {M : Type 1} → statement M
 add-fit-spec =
