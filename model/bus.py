@@ -5,7 +5,7 @@
 
 prints what `bus LL LH SL SH HL HH` prints: the low and the high time of a load,
 of a store and of a hardware swap, in tenths of a nanosecond.  Written from
-document 02 (CR 11 and 12), document 01 and the design page, alone.
+document 02 (CR 11, 12 and 13), document 01 and the design page, alone.
 """
 
 from collections import Counter
@@ -25,7 +25,8 @@ TENTHS = 10
 
 class Call:
     """A finished call: its task, how many calls that task finished before, and
-    the lines that it did."""
+    the lines that it did.  "In the [..] bus lines [..] an add is one call" (change
+    request 13), with the lines of all its reads and swaps."""
 
     def __init__(self, task, n, lines):
         self.task = task

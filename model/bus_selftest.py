@@ -37,10 +37,11 @@ def check(what, found, wanted):
 
 # ------------------------------------------------------------ drawn sessions
 
-def totals_by_row(path, times):
-    """In nanoseconds, of a path's row with times in tenths."""
-    _, *counts = cells.PATHS[path]
-    return sum(Fraction(count * time, 10)
+def totals_by_row(lines, times):
+    """In nanoseconds, of the row of each read and swap in a call's lines, with
+    times in tenths."""
+    rows = [cells.PATHS[cells.path_of(part)] for part in cells.parts_of(lines)]
+    return sum(Fraction(count * time, 10) for _, *counts in rows
                for count, time in zip(counts, times))
 
 
@@ -51,11 +52,10 @@ def wanted_text(data, times):
     before = {}
     lines, least, greatest = [], [], []
     for task, _, done in trace.calls:
-        path = cells.path_of(done)
         n = before.get(task, 0)
         before[task] = n + 1
-        least.append(totals_by_row(path, times[0::2]))
-        greatest.append(totals_by_row(path, times[1::2]))
+        least.append(totals_by_row(done, times[0::2]))
+        greatest.append(totals_by_row(done, times[1::2]))
         lines.append("(bus %d %d %d %d)" % (
             task, n, math.floor(least[-1]), math.ceil(greatest[-1])))
     if lines:
@@ -68,8 +68,8 @@ def wanted_text(data, times):
     return "".join(line + "\n" for line in lines).encode()
 
 
-def drawn_sessions(count):
-    drawn = draw.Draw(2011)
+def drawn_sessions(count, adds=(), seed=2011):
+    drawn = draw.Draw(seed)
     calls = 0
     for _ in range(count):
         n, v = drawn.between(2, 5), drawn.between(1, 2)
@@ -78,7 +78,7 @@ def drawn_sessions(count):
                 length=drawn.between(5, 150), hot_cells=v, values=3,
                 burst=drawn.between(1, 8), refusals=drawn.pick((0, 5)),
                 halts=drawn.below(2), runs_out=drawn.pick((0, 30)),
-                drops=drawn.pick((0, 5, 15)))))
+                drops=drawn.pick((0, 5, 15)), adds=adds and drawn.pick(adds))))
         times = draw_times(drawn)
         wanted = wanted_text(data, times)
         check("bus %s of\n%s" % (times, data.decode()),

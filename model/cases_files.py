@@ -152,8 +152,10 @@ def form_cases(cases):
                        ("agai", b"(agai 1 (step 0))"),
                        ("look", b"(look 0)"), ("done", b"(done 0)"),
                        ("drops", b"(drops 0)"), ("dro", b"(dro 0)"),
-                       ("cap_drop", b"(Drop 0)"), ("add", b"(add 0 0 1 1)"),
-                       ("offer", b"(offer 0 0 5)"),
+                       ("cap_drop", b"(Drop 0)")):
+        bad("word_" + name, OPEN + form + b"\n")
+    cases.pin("form_14_word_add", OPEN + b"(add 0 0 1 1)\n", b"(bad 14)\n")
+    for name, form in (("offer", b"(offer 0 0 5)"),
                        ("cell", b"(cell 0 5)"), ("end", b"(end)"),
                        ("quoted", b'("step" 0)'), ("s", b"(s 0)")):
         bad("word_" + name, OPEN + form + b"\n")

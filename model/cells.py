@@ -1,8 +1,8 @@
 """The library of cells: pool, blocks, task records, the lines of figure 2.
 
 Written from document 01 ("Shared cells for the milling unit's tasks"), change
-requests 2, 5, 7, 10 and 12 of document 02 and source document 003, figure 2,
-alone.
+requests 2, 5, 7, 10, 12 and 13 of document 02 and source document 003, figure
+2, alone.
 Their sentences are quoted in the comments where they decide something.
 """
 
@@ -38,11 +38,22 @@ MOST_STEPS = 21
 MOST_STEPS_SO_FAR = 20
 MOST_HARD_SO_FAR = 3
 
+# An add (change request 13): "r outside 1 to 8" is refused.  Each lost try is a
+# read and a swap, at most "27 steps and 4 hardware swaps for each lost one, with 6
+# and 1 more where a swap is under way": its read.
+MOST_TRIES = 8
+TRY_STEPS, TRY_HARD = 27, 4
+READ_STEPS, READ_HARD = 6, 1
+
 IDLE = 0  # the next line of a task without a call
 
-# The kinds of call, as begun.
+# The kinds of call, as begun.  An add's reads and swaps have their own kind.
 READ = "read"
 SWAP = "swap"
+ADD = "add"
+
+# "It answers added, over [..] or spent" (change request 13).
+ADDED, OVER, SPENT = "added", "over", "spent"
 
 # "Steps are lines 10 to 12 (read), 15 to 24, 26, 27, 29 and 30 (swap), and 1
 # to 3 of the deciding part. Lines 13, 25 and 28 run the deciding part."
@@ -77,7 +88,7 @@ class Finished(NamedTuple):
 
     kind: str
     cell: int
-    answer: object  # a value for a read, a bool for a swap
+    answer: object  # a value for a read, a bool for a swap, an add's word
     steps: int
     won: int
     lost: int
@@ -96,10 +107,16 @@ class Record:
     far."  The next line is there too, and in the deciding part the line that
     wanted it.  Since change request 5 the hardware swaps are kept as won and
     lost.
+
+    In an add these are of its read or swap under way; the others are the add's
+    (change request 13): d, r, the swaps lost so far, and what it did before that
+    read or swap.  Without an add r is 0.
     """
 
     __slots__ = ("line", "wanted_by", "kind", "cell", "expected", "new",
-                 "held", "installing", "loaded", "steps", "won", "lost")
+                 "held", "installing", "loaded", "steps", "won", "lost",
+                 "amount", "tries", "swaps_lost", "steps_before",
+                 "won_before", "lost_before")
 
     def __init__(self):
         self.clear()
@@ -107,6 +124,10 @@ class Record:
     def clear(self):
         """"A finished call leaves it idle, its other fields 0", and so does a
         drop (change request 12)."""
+        self.clear_call()
+        self.clear_add()
+
+    def clear_call(self):
         self.line = IDLE
         self.wanted_by = 0
         self.kind = 0
@@ -120,12 +141,25 @@ class Record:
         self.won = 0
         self.lost = 0
 
+    def clear_add(self):
+        self.amount = 0
+        self.tries = 0
+        self.swaps_lost = 0
+        self.steps_before = 0
+        self.won_before = 0
+        self.lost_before = 0
+
     def words(self):
         return tuple(getattr(self, name) for name in self.__slots__)
 
     @property
     def busy(self):
         return self.line != IDLE
+
+    @property
+    def adds(self):
+        """Whether the read or swap under way is an add's."""
+        return self.tries != 0
 
     @property
     def hard(self):
@@ -185,6 +219,10 @@ class Cells:
         # "The state now stores, for each block, how many times it is used"
         # (change request 7); so far by the cells alone.
         self.counts = [1] * v + [0] * (MOST_BLOCKS - v)
+
+    # The read or swap that the last step ended, an add's or not, or None; no part
+    # of what the step hands back.
+    ended = None
 
     @classmethod
     def found(cls, n, v, b, pool, current, last_taken, tasks):
@@ -256,6 +294,8 @@ class Cells:
         # "each record is idle or busy"
         if not all(self.is_record_fit(record) for record in self.tasks):
             return False
+        if not all(map(self.is_add_fit, self.tasks)):
+            return False
         # "A state whose counts differ from a fresh reading of the table is not
         # fit" (change request 7); a block is one below B.
         return self.counts[:self.b] == self.fresh_counts()[:self.b]
@@ -291,8 +331,26 @@ class Cells:
         return (record.steps <= MOST_STEPS_SO_FAR
                 and record.won + record.lost <= MOST_HARD_SO_FAR)
 
+    def is_add_fit(self, record):
+        """"The fit limits hold for its read or swap under way; its r is 1 to 8,
+        with fewer than r swaps lost, and what it did before that read or swap is
+        at most 27 steps and 4 hardware swaps for each lost one, with 6 and 1 more
+        where a swap is under way" (change request 13).  Of an idle record nothing
+        is asked."""
+        if not (record.busy and record.adds):
+            return True
+        if record.tries > MOST_TRIES or record.swaps_lost >= record.tries:
+            return False
+        steps = TRY_STEPS * record.swaps_lost
+        hard = TRY_HARD * record.swaps_lost
+        if record.kind == SWAP:
+            steps += READ_STEPS
+            hard += READ_HARD
+        return (record.steps_before <= steps
+                and record.won_before + record.lost_before <= hard)
+
     def refusal(self, task=None, cell=None, begin=False, swap=None,
-                step=False, drop=False):
+                tries=None, step=False, drop=False):
         """The number of the first question answered no, or 0.  The questions
         follow in the paper's order, "as far as the entry names them"."""
         if self.ask_fit and not self.is_fit():
@@ -305,6 +363,10 @@ class Cells:
             return 9
         if swap is not None and NONE in swap:
             return 10
+        # "Refused: 23, r outside 1 to 8, asked after 9; d may be any number"
+        # (change request 13)
+        if tries is not None and not 1 <= tries <= MOST_TRIES:
+            return 23
         # "A drop asks 6, 7 and 11" (change request 12)
         if (step or drop) and not self.tasks[task].busy:
             return 11
@@ -321,6 +383,7 @@ class Cells:
         number = self.refusal(task=task, cell=cell, begin=True)
         if number:
             return Refused(number)
+        self.tasks[task].clear_add()
         self.begin(task, READ, cell, 0, 0)
         return None
 
@@ -329,7 +392,22 @@ class Cells:
                               swap=(expected, new))
         if number:
             return Refused(number)
+        self.tasks[task].clear_add()
         self.begin(task, SWAP, cell, expected, new)
+        return None
+
+    def begin_add(self, task, cell, amount, tries):
+        """"an operation that reads a cell, then swaps it to the value plus d, and
+        tries again after a lost swap, up to r tries" (change request 13); its
+        first read "begins with the add"."""
+        number = self.refusal(task=task, cell=cell, begin=True, tries=tries)
+        if number:
+            return Refused(number)
+        record = self.tasks[task]
+        record.clear_add()
+        record.amount = amount
+        record.tries = tries
+        self.begin(task, READ, cell, 0, 0)
         return None
 
     def begin(self, task, kind, cell, expected, new):
@@ -354,16 +432,54 @@ class Cells:
         record.steps += 1
         answer = self.do_line(task, record)
         finished = None
+        self.ended = None
         if answer is not None:
             # "A call returns with its last step."
-            finished = Finished(record.kind, record.cell, answer, record.steps,
-                                record.won, record.lost)
-            record.clear()
+            self.ended = Finished(record.kind, record.cell, answer,
+                                  record.steps, record.won, record.lost)
+            finished = self.end_of_call(task, record, self.ended)
         # "Every entry keeps these counts true, a finishing step included"
         # (change request 7); a begin uses no block.
         after = [self.current[cell], *record.blocks()]
         self.move_counts(before, after)
         return finished
+
+    def end_of_call(self, task, record, ended):
+        """What the step hands back that ended this read or swap: of an add it is
+        the add's end or None, where the add goes on."""
+        if not record.adds:
+            record.clear()
+            return ended
+        record.clear_call()
+        record.steps_before += ended.steps
+        record.won_before += ended.won
+        record.lost_before += ended.lost
+        answer = self.go_on(task, record, ended)
+        if answer is None:
+            return None
+        finished = Finished(ADD, ended.cell, answer, record.steps_before,
+                            record.won_before, record.lost_before)
+        record.clear()
+        return finished
+
+    def go_on(self, task, record, ended):
+        """The add's answer; or None, and its next read or swap "begins with [..]
+        the step that ended the one before it" (change request 13)."""
+        if ended.kind == READ:
+            total = ended.answer + record.amount
+            # "over (the sum would be 4,294,967,295 or more)"
+            if total >= NONE:
+                return OVER
+            self.begin(task, SWAP, ended.cell, ended.answer, total)
+            return None
+        if ended.answer:
+            return ADDED
+        record.swaps_lost += 1
+        # "spent, the last only after r swaps answered no"
+        if record.swaps_lost == record.tries:
+            return SPENT
+        self.begin(task, READ, ended.cell, 0, 0)
+        return None
 
     def drop(self, task):
         """"the call is withdrawn, its blocks are released and the record is
@@ -381,7 +497,8 @@ class Cells:
     def act(self, word, *numbers):
         """The entry that an action's word names, asked these numbers."""
         entry = {"read": self.begin_read, "swap": self.begin_swap,
-                 "step": self.step, "drop": self.drop}[word]
+                 "add": self.begin_add, "step": self.step,
+                 "drop": self.drop}[word]
         return entry(*numbers)
 
     def move_counts(self, before, after):
@@ -642,6 +759,17 @@ def path_of(lines):
     else:
         way = 17
     return "%s_by_%d" % ("end_at_30" if last[0] == 30 else "no_from_28", way)
+
+
+def parts_of(lines):
+    """A call's lines by its reads and swaps, which begin with line 10 or 15: one,
+    or those of an add."""
+    parts = []
+    for line in lines:
+        if line[0] in (10, 15):
+            parts.append([])
+        parts[-1].append(line)
+    return parts
 
 
 def counts_of(lines):

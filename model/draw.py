@@ -45,7 +45,7 @@ class Style:
 
     def __init__(self, length=200, hot_cells=1, values=4, burst=3,
                  right_guess=60, reads=20, equal=8, refusals=0, halts=0,
-                 idle=20, runs_out=0, drops=0):
+                 idle=20, runs_out=0, drops=0, adds=0):
         self.length = length            # actions
         self.hot_cells = hot_cells      # cells that calls are begun on
         self.values = values            # values drawn from 0 upward
@@ -58,6 +58,7 @@ class Style:
         self.idle = idle                # percent: an idle task is preferred
         self.runs_out = runs_out        # percent: a burst runs the call out
         self.drops = drops              # percent: a busy task is dropped
+        self.adds = adds                # percent of calls that are adds
 
 
 def draw_actions(draw, model, style):
@@ -87,7 +88,7 @@ def draw_actions(draw, model, style):
 
     while len(actions) < style.length:
         if draw.percent(style.refusals):
-            do(draw_refused(draw, model, bool(style.drops)))
+            do(draw_refused(draw, model, bool(style.drops), bool(style.adds)))
             continue
         going = [t for t in range(model.n) if not halted(t)]
         task = draw.pick(going)
@@ -103,7 +104,7 @@ def draw_actions(draw, model, style):
             continue
         burst = draw.between(1, style.burst)
         if draw.percent(style.runs_out):
-            burst = cells.MOST_STEPS
+            burst = cells.MOST_TRIES * cells.TRY_STEPS
         for _ in range(burst):
             if halted(task) or do(("step", task)) is not None:
                 break
@@ -111,6 +112,9 @@ def draw_actions(draw, model, style):
 
 
 def draw_call(draw, model, style, task, cell):
+    # nothing is drawn for a style without adds
+    if style.adds and draw.percent(style.adds):
+        return ("add", task, cell, *draw_add(draw, model.look(cell)))
     if draw.percent(style.reads):
         return ("read", task, cell)
     expected = draw.below(style.values)
@@ -122,7 +126,17 @@ def draw_call(draw, model, style, task, cell):
     return ("swap", task, cell, expected, new)
 
 
-def draw_refused(draw, model, drops=False):
+def draw_add(draw, value):
+    """What is added, mostly little, sometimes about as much as goes; and how many
+    tries."""
+    amount = draw.pick((0, 1, 1, 1, 2, 3, 7))
+    if draw.percent(8):
+        amount = draw.pick((cells.NONE, max(0, cells.NONE - value
+                                            - draw.below(4))))
+    return amount, draw.pick((1, 1, 2, 2, 3, 5, 8))
+
+
+def draw_refused(draw, model, drops=False, adds=False):
     """An action likely to be refused, often for several reasons at once."""
     edges = (cells.NONE, cells.NONE - 1, 32, 33, 255, 256)
     task = draw.pick((draw.below(model.n), model.n, model.n + 1,
@@ -131,9 +145,11 @@ def draw_refused(draw, model, drops=False):
                       draw.pick(edges)))
     expected = draw.pick((draw.below(4), cells.NONE))
     new = draw.pick((draw.below(4), expected, cells.NONE))
-    return draw.pick((("read", task, cell),
-                      ("swap", task, cell, expected, new),
-                      ("step", task), ("drop", task))[:3 + drops])
+    kinds = (("read", task, cell), ("swap", task, cell, expected, new),
+             ("step", task), ("drop", task))[:3 + drops]
+    if adds:
+        kinds += (("add", task, cell, new, draw.pick((0, 1, 8, 9, cells.NONE))),)
+    return draw.pick(kinds)
 
 
 def form(action):

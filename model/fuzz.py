@@ -74,7 +74,8 @@ def sizes(d):
 
 
 def contention(d):
-    """Calls that meet, most of them run out, some refusals, halts and drops."""
+    """Calls that meet, most of them run out, some refusals, halts, drops and
+    adds."""
     n, v, b = sizes(d)
     style = draw.Style(
         length=d.pick((10, 30, 60, 120, 250)), hot_cells=d.pick((1, 1, 2, v)),
@@ -82,7 +83,8 @@ def contention(d):
         right_guess=d.pick((30, 60, 90)), reads=d.pick((5, 20, 40)),
         equal=d.pick((3, 15)), refusals=d.pick((0, 0, 3, 10)),
         halts=d.pick((0, 0, 1, 3)), idle=d.pick((0, 20, 40)),
-        runs_out=d.pick((0, 20, 60)), drops=d.pick((0, 0, 3, 10)))
+        runs_out=d.pick((0, 20, 60)), drops=d.pick((0, 0, 3, 10)),
+        adds=d.pick((0, 0, 15, 50, 90)))
     return draw.text(draw.draw_session(d, n, v, b, style,
                                        d.pick((0, 30, 100))))
 
@@ -98,6 +100,7 @@ def few_steps_apart(d):
                 "(swap %d 0 5 %d)" % (t, 6 + t), "(swap %d 0 5 %d)" % (t, t),
                 "(swap %d 0 %d 5)" % (t, 6 + d.below(3)),
                 "(swap %d 0 4 6)" % t, "(swap %d 0 5 5)" % t,
+                "(add %d 0 %d %d)" % (t, d.below(4), 1 + d.below(4)),
                 "(read %d 0)" % t)))
         if d.percent(40):  # the beginning of P9 and P10
             p = d.below(n)
@@ -156,6 +159,25 @@ def drops(d):
     return draw.text(late_stores(d, d.pick((10, 25, 50))))
 
 
+def adds_meet(d):
+    """Adds, and swaps that bring the value back, mostly in turns of one part."""
+    n = d.pick((2, 2, 3, 4, 6, 32))
+    value = d.pick((0, 5, cells.NONE - 1 - d.below(5)))
+    s = Script(n, 1, cells.least_blocks(n, 1), [value])
+    for _ in range(d.between(5, 60)):
+        task = d.below(n)
+        if s.model.tasks[task].busy:
+            if d.percent(4):
+                s.drop(task)
+            else:
+                s.steps(task, d.pick((1, 2, 3, 3, 6, 8, 10, 11, 13, 21)))
+        elif d.percent(75):
+            s.add(task, 0, *draw.draw_add(d, s.value(0)))
+        else:
+            s.swap(task, 0, d.pick((value, s.value(0))), d.pick((value, 7)))
+    return draw.text(s.lines)
+
+
 def taken_block_waits(d, s, task, helper):
     """The task comes to line 30, or to one of the lines 5 to 8 before it, with
     its held block current, and waits there while the pool is gone round on the
@@ -204,7 +226,9 @@ def number(d, good=90):
 
 
 def any_form(d, depth):
-    kind = d.below(11)
+    kind = d.below(12)
+    if kind == 11:
+        return "(add %s %s %s %s)" % tuple(number(d) for _ in range(4))
     if kind < 5:
         return "(step %s)" % number(d, 97)
     if kind == 10:
@@ -281,8 +305,8 @@ def many_bytes(d):
 
 
 TOKENS = (b"(", b"(", b")", b")", b" ", b" ", b"\n", b"0", b"1", b"5", b"open",
-          b"read", b"swap", b"step", b"drop", b"again", b"(step 0)", b"(5)",
-          b"()",
+          b"read", b"swap", b"add", b"step", b"drop", b"again", b"(step 0)",
+          b"(5)", b"()",
           b"(open 1 1 3 (5))\n", b"\0", b"\xff", b"\r", b"\t", b"01")
 
 
@@ -335,8 +359,8 @@ def damage(d, data):
         word = place.group()
         other = d.pick((word + word[-1:], word[:-1], word.capitalize(),
                         word[:-1] + b"x", b"x" + word[1:], word + b"0",
-                        d.pick((b"open", b"read", b"swap", b"step", b"drop",
-                                b"again", b"look", b"done", b"no"))))
+                        d.pick((b"open", b"read", b"swap", b"add", b"step",
+                                b"drop", b"again", b"look", b"done", b"no"))))
         return data[:place.start()] + other + data[place.end():]
     lines = data.split(b"\n")
     at = d.below(len(lines))
@@ -357,10 +381,10 @@ def damaged(d):
 
 
 # What is drawn, and how often in a thousand.
-MAKERS = ((contention, 210), (rate_near_half, 20), (few_steps_apart, 200),
-          (blocks_turn, 70), (drops, 50), (any_forms, 90), (any_open, 60), (deep, 60),
-          (token_soup, 30), (damaged, 194), (many_bytes, 6),
-          (many_actions, 10))
+MAKERS = ((contention, 190), (rate_near_half, 20), (few_steps_apart, 170),
+          (blocks_turn, 70), (drops, 50), (adds_meet, 100), (any_forms, 90),
+          (any_open, 60), (deep, 60), (token_soup, 30), (damaged, 144),
+          (many_bytes, 6), (many_actions, 10))
 
 
 def make(d):

@@ -65,8 +65,8 @@ class Cases(make_cases.Cases):
         trace = self.add(name, tools.stored(times, data))
         self.refusals += trace.refusals
         if not trace.refusals:
-            self.paths.update(cells.path_of(call.lines)
-                              for call in trace.calls)
+            self.paths.update(cells.path_of(lines) for call in trace.calls
+                              for lines in cells.parts_of(call.lines))
             self.seen.update(seen_in(trace, times, data))
         return trace
 

@@ -34,6 +34,7 @@ class Cases:
         self.files = {}
         self.prints = {}
         self.stdin = None
+        self.pins = set()
 
     def add(self, name, data):
         """One case; hands back the trace of its run."""
@@ -47,6 +48,13 @@ class Cases:
         # "it can arise only in a state no opening leads to" (change request 10)
         assert 20 not in trace.refusals, name
         return trace
+
+    def pin(self, name, data, text):
+        """A case stored before change request 13, which answers it otherwise; it
+        leaves when the cases of adds are stored."""
+        self.add(name, data)
+        self.prints[name] = text
+        self.pins.add(name)
 
     def refused(self, name, data, *numbers):
         """A case named refuse_NN_... or edge_...: its refusals are these."""

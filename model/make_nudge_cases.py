@@ -118,7 +118,9 @@ def seen_in(trace, n, opening):
     else:
         end = trace.exchange
         became = trace.became
-        if not isinstance(became, str):
+        if became in (cells.ADDED, cells.OVER, cells.SPENT):
+            became = "answers %s" % became
+        elif not isinstance(became, str):
             became = "answers otherwise"
         yield "%s, %s" % (became, place(trace))
     model = nudge.opened(opening)
@@ -144,9 +146,9 @@ def drops_seen_in(trace, opening):
     """The same of drops."""
     actions, (begin, last, _) = trace.actions, trace.named
     history = moments.History(opening, actions)
-    drops = {o.drop for o in history.calls}
+    drops = {o.drop for o in history.wholes}
     if any(o.drop is not None and o.task == actions[begin].task
-           for o in history.calls if o.begin < begin):
+           for o in history.wholes if o.begin < begin):
         yield "its task was dropped before"
     end = len(actions) - 1 if trace.exchange is None else trace.exchange
     for i in range(min(end, last)):
@@ -157,7 +159,7 @@ def drops_seen_in(trace, opening):
     if trace.became == nudge.UNFINISHED:
         history = moments.History(opening, nudge.exchanged(actions, end))
         begin = nudge.place_after(begin, end)
-        if any(o.begin == begin and o.drop is not None for o in history.calls):
+        if any(o.begin == begin and o.drop is not None for o in history.wholes):
             yield "the call is withdrawn after the exchange"
 
 

@@ -4,7 +4,7 @@
     moments.py < SESSION
 
 prints what `moments` prints.  Written from source document 003, section 5, and
-document 02 (CR 8 and 12), alone; o.23 is, as there, the execution of line 23 by
+document 02 (CR 8, 12 and 13), alone; o.23 is, as there, the execution of line 23 by
 the call o.  run(data) is the exact text for a session file's bytes.
 """
 
@@ -34,11 +34,38 @@ class Figure(cells.Cells):
         return len(self.pool) // cells.WORDS - 1
 
 
-class Call:
-    """A begin that isn't refused, and its task's steps after it.  "A withdrawn
-    call has only its steps before the drop" (change request 12)."""
+class Whole:
+    """A begin that isn't refused, with its reads and swaps: one, or those of an
+    add, which "stand in CR 8's order as calls of their own" (change request 13)."""
 
-    def __init__(self, begin, task, word, cell, expected, new):
+    def __init__(self, begin, task, word):
+        self.begin = begin
+        self.task = task
+        self.word = word
+        self.parts = []
+        self.answer = None  # None while it is unfinished, or if withdrawn
+
+    @property
+    def finished(self):
+        return self.answer is not None
+
+    @property
+    def drop(self):
+        """The action that withdrew it."""
+        return self.parts[-1].drop
+
+    def steps(self):
+        """The actions that are its steps."""
+        return [i for part in self.parts for i in part.at.values()]
+
+
+class Call:
+    """A read or a swap, and its task's steps after its begin: the action itself or
+    "the step that ended the one before it" (change request 13).  "A withdrawn call
+    has only its steps before the drop" (change request 12)."""
+
+    def __init__(self, whole, begin, task, word, cell, expected, new):
+        self.whole = whole
         self.begin = begin
         self.task = task
         self.word = word
@@ -64,8 +91,9 @@ class History:
     def __init__(self, opening, actions):
         n, v, b, values = opening
         self.figure = Figure(n, v, b, [0] * (cells.WORDS * b), values, False)
-        self.calls = []      # in the order of their begins
-        self.under_way = {}  # task -> its call
+        self.wholes = []     # as begun, in the order of their begins
+        self.calls = []      # their reads and swaps, in that order
+        self.under_way = {}  # task -> its read or swap
         self.inactive = {}   # block -> delta_C, "the event that makes b inactive"
         self.decided = {}    # block -> delta_D, "that makes b decided"
         self.replaced = {}   # block -> the line 30 that put another in its place
@@ -75,21 +103,29 @@ class History:
                 result = self.step(i, *action)
             elif isinstance(action, reader.Drop):
                 result = self.drop(i, *action)
-            elif isinstance(action, reader.Read):
-                result = self.begin(i, cells.READ, *action)
             else:
-                result = self.begin(i, cells.SWAP, *action)
+                result = self.begin(i, action)
             if isinstance(result, cells.Refused):
                 self.refused.append(result.number)
 
-    def begin(self, i, word, task, cell, *swap):
-        begin = (self.figure.begin_swap if swap else self.figure.begin_read)
-        result = begin(task, cell, *swap)
+    def begin(self, i, action):
+        result = self.figure.act(action.word, *action)
         if result is None:
-            call = Call(i, task, word, cell, *(swap or (None, None)))
-            self.calls.append(call)
-            self.under_way[task] = call
+            whole = Whole(i, action.task, action.word)
+            self.wholes.append(whole)
+            self.begin_part(i, whole)
         return result
+
+    def begin_part(self, i, whole):
+        """The read or swap that the task has just begun."""
+        task = whole.task
+        record = self.figure.tasks[task]
+        swap = ((record.expected, record.new) if record.kind == cells.SWAP
+                else (None, None))
+        call = Call(whole, i, task, record.kind, record.cell, *swap)
+        whole.parts.append(call)
+        self.calls.append(call)
+        self.under_way[task] = call
 
     def step(self, i, task):
         call = self.under_way.get(task)
@@ -104,10 +140,19 @@ class History:
         call.next_line = record.line
         if call.block is None:
             call.block = record.held
-        if result is not None:
-            call.answer = result.answer
-            del self.under_way[task]
+        if self.figure.ended:
+            self.end_part(i, call, result)
         return result
+
+    def end_part(self, i, call, result):
+        """The read or swap is answered; its add goes on unless there is a
+        result."""
+        call.answer = self.figure.ended.answer
+        del self.under_way[call.task]
+        if result is None:
+            self.begin_part(i, call.whole)
+        else:
+            call.whole.answer = result.answer
 
     def drop(self, i, task):
         """The call "ends there without finishing" (change request 12).  Its block

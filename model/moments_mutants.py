@@ -60,7 +60,7 @@ NOTE = """                if is_now and not was:
 EACH = "for i, action in enumerate(actions):"
 DROP = "result = self.figure.drop(task)"
 DROPPED = "self.under_way.pop(task).drop = i"
-BEGUN = "            self.under_way[task] = call"
+BEGUN = "        self.under_way[task] = call"
 PRINTED = 'return "".join(mark.line() for mark in trace.marks).encode("ascii")'
 
 
@@ -243,7 +243,7 @@ MISREADINGS = [
     ("a withdrawn call is forgotten", DROPPED, "self.calls.remove("
      "self.under_way.pop(task))"),
     ("a withdrawn call is forgotten by the next begin", BEGUN, BEGUN
-     + "\n            self.calls[:] = [o for o in self.calls if o.drop is None"
+     + "\n        self.calls[:] = [o for o in self.calls if o.drop is None"
      " or o.task != task]"),
     ("a refused drop withdraws the call before", DROP, DROP + "\n        for o in"
      " self.calls if result is not None else ():\n            if o.task == task:"

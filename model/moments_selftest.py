@@ -25,7 +25,7 @@ import session
 import shaker
 from cases_calls import P1, P9, P10
 from cases_drop import late_stores
-from selftest import NewBlockEachTime
+from selftest import NewBlockEachTime, begun
 
 NONE = cells.NONE
 
@@ -141,6 +141,12 @@ class Told:
             self.seen.append([self.look(k) for k in range(v)])
         self.abstract = self.abstract_values()
 
+    def begin(self, i, task, under_way):
+        """A read or a swap, an add's or not."""
+        _, *numbers = begun(task, self.model.tasks[task])
+        under_way[task] = Call(i, numbers)
+        self.calls.append(under_way[task])
+
     def act(self, i, action, under_way):
         task, call = action.task, under_way.get(action.task)
         if call is not None and isinstance(action, reader.Step):
@@ -151,13 +157,15 @@ class Told:
         result = self.model.act(action.word, *action)
         if isinstance(result, cells.Refused):
             return
-        if result is not None:
-            call.finished, call.answer = True, result.answer
-        if result is not None or isinstance(action, reader.Drop):
+        if isinstance(action, reader.Drop):
             del under_way[task]
         elif not isinstance(action, reader.Step):
-            under_way[task] = Call(i, action)
-            self.calls.append(under_way[task])
+            self.begin(i, task, under_way)
+        elif self.model.ended:
+            call.finished, call.answer = True, self.model.ended.answer
+            del under_way[task]
+            if result is None:
+                self.begin(i, task, under_way)
 
     def look(self, cell):
         block = self.model.current[cell]
@@ -321,8 +329,8 @@ def judged(name, data):
 
 
 def answers_are_the_pool_s(data):
-    """The figure's finished calls are those that the session program prints,
-    with the same answers."""
+    """The figure's finished reads and swaps are those that the session program
+    came by, with the same answers."""
     trace = moments.Trace()
     moments.run(data, trace)
     found = {(o.last_action, o.task, o.word, o.cell, o.answer)
@@ -333,7 +341,7 @@ def answers_are_the_pool_s(data):
           sorted(map(repr, ((task, word, cell, answer)
                             for _, task, word, cell, answer in found))),
           sorted(repr((task, done.kind, done.cell, done.answer))
-                 for task, done, _ in played.calls))
+                 for task, done, _ in played.parts))
 
 
 def with_last_actions(history):

@@ -1099,7 +1099,8 @@ def main():
     # A misread count may ask for more memory than there is.
     resource.setrlimit(resource.RLIMIT_AS, (1 << 30, 1 << 30))
     cases = make_cases.make()
-    sessions = by_size(cases.files)
+    sessions = by_size({name: data for name, data in cases.files.items()
+                        if name not in cases.pins})
     with open(os.path.join(HERE, "../crates/test_cells/stdin")) as file:
         lines = {line: line for line in file.read().splitlines()}
     answers = {line: cells_cases.run(line) for line in lines}

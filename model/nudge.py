@@ -5,8 +5,8 @@ answer?
     nudge.py T n < SESSION
 
 prints what `nudge T n` prints; n is how many calls T finished before the named
-one.  Written from document 02 (CR 9 and 12), document 01 and the design page,
-alone.
+one.  Written from document 02 (CR 9, 12 and 13), document 01 and the design page,
+alone.  "in CR 9 an add is one call" (CR 13).
 """
 
 from collections import Counter
@@ -55,7 +55,7 @@ def find_call(opening, actions, task, n):
         result = act(model, action)
         if action.task != task or isinstance(result, cells.Refused):
             continue
-        if isinstance(action, (reader.Read, reader.Swap)):
+        if isinstance(action, reader.BEGINS):
             begin = i
         elif isinstance(result, cells.Finished):
             if before == n:

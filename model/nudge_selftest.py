@@ -57,7 +57,7 @@ class Exchanges:
             lines = list(self.lines)
             lines[i], lines[i + 1] = lines[i + 1], lines[i]
             self.after[i] = {o.begin: o.answer for o in
-                             figure_of(self.first, lines).calls}
+                             figure_of(self.first, lines).wholes}
 
     def nudges(self, o):
         """Every exchange that matters to this call."""
@@ -70,8 +70,8 @@ class Exchanges:
         return found
 
 
-def drawn_sessions(count):
-    drawn = draw.Draw(2009)
+def drawn_sessions(count, adds=(), seed=2009):
+    drawn = draw.Draw(seed)
     for number in range(count):
         if number % 2:
             yield draw.text(close_session(drawn))
@@ -82,7 +82,7 @@ def drawn_sessions(count):
                 length=drawn.between(15, 45), hot_cells=v, values=3,
                 burst=drawn.between(1, 4), right_guess=80,
                 refusals=drawn.pick((0, 8)), runs_out=drawn.pick((0, 30)),
-                drops=drawn.pick((0, 5, 15)))))
+                drops=drawn.pick((0, 5, 15)), adds=adds and drawn.pick(adds))))
 
 
 def stored_sessions():
@@ -99,10 +99,11 @@ def told_two_ways(data):
     """The calls named, and how many of them have a nudge."""
     session = Exchanges(data)
     numbers = {}
-    finished = sorted((o for o in session.history.calls if o.finished),
-                      key=lambda o: max(o.at.values()))
-    steps = {i for o in session.history.calls for i in o.at.values()}
-    begins = {o.begin for o in session.history.calls}
+    wholes = session.history.wholes
+    finished = sorted((o for o in wholes if o.finished),
+                      key=lambda o: max(o.steps()))
+    steps = {i for o in wholes for i in o.steps()}
+    begins = {o.begin for o in wholes}
     named = with_one = 0
     check("finished calls", list(finished_calls(data)),
           [(o.task, sum(p.task == o.task for p in finished[:at]))
@@ -117,7 +118,7 @@ def told_two_ways(data):
         for i in found:
             # a drop is no step
             check("two steps, not after the last and the next", (
-                i in steps, i + 1 in steps, i <= max(o.at.values()),
+                i in steps, i + 1 in steps, i <= max(o.steps()),
                 {i, i + 1} & begins), (True, True, True, set()))
         named += 1
         with_one += bool(found)

@@ -1,8 +1,8 @@
 """The session file: questions 12 to 15, in their order.
 
 Written from document 01 ("Questions before anything is done", session file,
-and "Sessions in brackets") and change request 12 of document 02, alone.  Each
-question is asked of the whole file before the next one.
+and "Sessions in brackets") and change requests 12 and 13 of document 02, alone.
+Each question is asked of the whole file before the next one.
 """
 
 import re
@@ -100,6 +100,16 @@ class Swap(NamedTuple):
     word = "swap"
 
 
+class Add(NamedTuple):
+    """"In sessions it is `(add T K d r)`" (change request 13)."""
+
+    task: int
+    cell: int
+    amount: int
+    tries: int
+    word = "add"
+
+
 class Step(NamedTuple):
     task: int
     word = "step"
@@ -110,6 +120,10 @@ class Drop(NamedTuple):
 
     task: int
     word = "drop"
+
+
+# The actions that begin a call.
+BEGINS = (Read, Swap, Add)
 
 
 class Again(NamedTuple):
@@ -156,6 +170,8 @@ def repeatable_form(items):
         return Read(*numbers(rest, 2))
     if word == b"swap":
         return Swap(*numbers(rest, 4))
+    if word == b"add":
+        return Add(*numbers(rest, 4))
     if word == b"step":
         return Step(*numbers(rest, 1))
     if word == b"drop":
@@ -171,7 +187,8 @@ def repeatable_form(items):
 def count_actions(form):
     """The actions of a form after repeating.  An again is none itself: "Its
     actions are begins of a read, begins of a swap and steps", and "Demand 3's
-    list now holds drops too" (change request 12)."""
+    list now holds drops too" (change request 12) and "begins of an add too"
+    (change request 13)."""
     if isinstance(form, Again):
         return form.count * sum(map(count_actions, form.forms))
     return 1

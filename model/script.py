@@ -26,6 +26,9 @@ class Script:
     def swap(self, task, cell, expected, new):
         return self.act("swap", task, cell, expected, new)
 
+    def add(self, task, cell, amount, tries):
+        return self.act("add", task, cell, amount, tries)
+
     def drop(self, task):
         return self.act("drop", task)
 
@@ -52,7 +55,18 @@ class Script:
 
     def out(self, task):
         """Runs the task's call out."""
-        return self.steps(task, cells.MOST_STEPS)
+        return self.steps(task, cells.MOST_TRIES * cells.TRY_STEPS)
+
+    def part(self, task):
+        """Runs out the read or swap under way, an add's or not."""
+        assert self.model.tasks[task].busy
+        count = 1
+        self.model.step(task)
+        while not self.model.ended:
+            self.model.step(task)
+            count += 1
+        self.write_steps(task, count)
+        return self
 
     def until(self, task, line):
         """Steps the task until this line is its next."""

@@ -208,7 +208,7 @@ def every_refusal_changes_nothing():
         model = cells.open_cells(n, v, b, [7] * (5 * b), [1] * v)
         draw.draw_actions(drawn, model, draw.Style(length=30))
         for _ in range(40):
-            action = draw.draw_refused(drawn, model, True)
+            action = draw.draw_refused(drawn, model, True, True)
             before = everything(model)
             if isinstance(model.act(*action), cells.Refused):
                 check("a refusal changes nothing", everything(model), before)
@@ -256,8 +256,9 @@ def unfit_states_are_refused():
             # the counts are true of what is damaged
             model.counts = model.fresh_counts()
         check("unfit", (model.begin_read(9, 9), model.step(9), model.look(9),
-                        model.begin_swap(9, 9, 9, 9), model.drop(9)),
-              (cells.Refused(6),) * 5)
+                        model.begin_swap(9, 9, 9, 9), model.drop(9),
+                        model.begin_add(9, 9, 9, 9)),
+              (cells.Refused(6),) * 6)
     # "how many times it is used" is asked of blocks alone: those below B
     for block in range(5, cells.MOST_BLOCKS):
         model = cells.open_cells(2, 1, 5, [0] * 25, [5])
@@ -509,11 +510,11 @@ def attempts_told_by_memory(model, actions):
         if line in (2, 30):
             changed = memory() != before
             won, lost = won + changed, lost + (not changed)
-        after = record if result is None else result
+        after = model.ended or record
         check("won and lost", (after.won, after.lost), (won, lost))
         check("counts of uses", model.counts[:model.b],
               counts_by_reading(model))
-        if result is None:
+        if not model.ended:
             tries[task] = won, lost
 
 
@@ -650,33 +651,53 @@ class Call:
         return (True, new) if value == expected else (False, value)
 
 
-def calls_of(model, actions):
-    """Runs the actions; the calls, for the tellings."""
-    calls, under_way = [], {}
-    for i, action in enumerate(actions):
-        word, task = action[:2]
-        result = model.act(*action)
-        if isinstance(result, cells.Refused):
-            continue
-        if word == "drop":
-            # "from there on it isn't unfinished either" (change request 12)
-            under_way.pop(task).withdrawn = True
-        elif word == "step":
-            call = under_way[task]
-            call.last = i
-            count = result or model.tasks[task]
-            call.steps, call.hard = count.steps, count.hard
-            if result:
-                call.answer, call.finished = result.answer, True
-                del under_way[task]
-        else:
-            at = cells.WORDS * model.current[action[2]]
-            call = Call(i, action, model.pool[at + cells.C],
-                        model.pool[at + cells.Y])
-            meet(call, under_way.values())
-            under_way[task] = call
-            calls.append(call)
-    return calls
+class Calls:
+    """Runs the actions; the reads and swaps, for the tellings.  Demand 3's telling
+    holds those of an add too, and "each of these begins with the add or with the
+    step that ended the one before it" (change request 13)."""
+
+    def __init__(self, model, actions):
+        self.model = model
+        self.all = []
+        self.under_way = {}
+        for i, action in enumerate(actions):
+            word, task = action[:2]
+            result = model.act(*action)
+            if isinstance(result, cells.Refused):
+                continue
+            if word == "drop":
+                # "from there on it isn't unfinished either" (change request 12)
+                self.under_way.pop(task).withdrawn = True
+            elif word == "step":
+                self.step(i, task, result)
+            else:
+                self.begin(i, task)
+
+    def begin(self, i, task):
+        model, record = self.model, self.model.tasks[task]
+        at = cells.WORDS * model.current[record.cell]
+        call = Call(i, begun(task, record), model.pool[at + cells.C],
+                    model.pool[at + cells.Y])
+        meet(call, self.under_way.values())
+        self.under_way[task] = call
+        self.all.append(call)
+
+    def step(self, i, task, result):
+        call, ended = self.under_way[task], self.model.ended
+        call.last = i
+        count = ended or self.model.tasks[task]
+        call.steps, call.hard = count.steps, count.hard
+        if ended:
+            call.answer, call.finished = ended.answer, True
+            del self.under_way[task]
+            if result is None:
+                self.begin(i, task)
+
+
+def begun(task, record):
+    """The read or swap that a task has begun, as an action."""
+    swap = ((record.expected, record.new) if record.kind == cells.SWAP else ())
+    return record.kind, task, record.cell, *swap
 
 
 def meet(call, others):
@@ -695,7 +716,8 @@ def can_be_told(calls, start):
     unfinished ones" (change request 12)."""
     calls = [c for c in calls if c.last > c.begin or c.finished]
     wanted = sum(1 << i for i, c in enumerate(calls) if c.finished)
-    before = [sum(1 << j for j, d in enumerate(calls) if d.last < c.begin)
+    # the step that ends one of an add's begins the next
+    before = [sum(1 << j for j, d in enumerate(calls) if d.last <= c.begin)
               for c in calls]
     seen = set()
     todo = [(0, start)]
@@ -719,7 +741,7 @@ def can_be_told(calls, start):
     return False
 
 
-def drawn_list(drawn, drops):
+def drawn_list(drawn, drops, adds=()):
     """An opening, and actions drawn for it."""
     n = drawn.pick((2, 2, 3, 3, 4, 6))
     v = drawn.between(1, 2)
@@ -727,7 +749,8 @@ def drawn_list(drawn, drops):
     style = draw.Style(length=drawn.between(20, 120), hot_cells=v,
                        values=drawn.between(2, 4), burst=drawn.between(1, 7),
                        refusals=drawn.pick((0, 5)), halts=drawn.below(3),
-                       runs_out=drawn.pick((0, 30)), drops=drawn.pick(drops))
+                       runs_out=drawn.pick((0, 30)), drops=drawn.pick(drops),
+                       adds=adds and drawn.pick(adds))
     values = [drawn.below(style.values) for _ in range(v)]
     opening = n, v, b, values
     return opening, draw.draw_actions(drawn, opened(opening), style)
@@ -755,7 +778,7 @@ class Lists:
     def judge(self, name, opening, actions):
         self.judge_printed(name, text_of(opening, actions))
         attempts_told_by_memory(opened(opening), actions)
-        calls = calls_of(opened(opening), actions)
+        calls = Calls(opened(opening), actions).all
         for call in calls:
             self.judge_call(name, call)
         for cell, value in enumerate(opening[3]):
@@ -767,7 +790,7 @@ class Lists:
         pool_text = session.run(data, trace, ask_fit=True)
         check(name + "the figure with a new block each time", pool_text,
               session.run(data, open_cells=open_figure))
-        for (_, finished, lines), tries in zip(trace.calls, trace.attempts):
+        for (_, finished, lines), tries in zip(trace.parts, trace.attempts):
             path = cells.path_of(lines)
             check(name + path, cells.counts_of(lines), cells.PATHS[path])
             check(name + path, (finished.steps, finished.won + finished.lost),

@@ -20,14 +20,17 @@ class Trace:
     def __init__(self):
         self.refusals = Counter()  # number -> how often
         self.paths = Counter()     # the table's path -> how often
-        self.calls = []            # (task, Finished, lines done), as finished
+        self.parts = []            # (task, Finished, lines done) of each read
+                                   # and swap that ended, an add's or not
         self.attempts = []         # of each of them, w for won, l for lost
-        self.withdrawn = []        # (task, lines done), as dropped
+        self.calls = []            # the same of each finished call
+        self.withdrawn = []        # (task, lines done) of the read or swap that
+                                   # was under way, as dropped
         self.next_lines = []       # (line, wanted by) left by each task
 
-    def finished(self, task, finished, lines, attempts):
+    def ended(self, task, ended, lines, attempts):
         self.paths[cells.path_of(lines)] += 1
-        self.calls.append((task, finished, tuple(lines)))
+        self.parts.append((task, ended, tuple(lines)))
         self.attempts.append(attempts)
 
 
@@ -48,6 +51,7 @@ class Session:
         tasks = opening.n if self.is_open() else 0
         self.lines = [[] for _ in range(tasks)]
         self.attempts = [""] * tasks
+        self.lines_before = [[] for _ in range(tasks)]  # of an add's parts
 
     def is_open(self):
         return not isinstance(self.cells, cells.Refused)
@@ -89,18 +93,25 @@ class Session:
         result = self.cells.step(task)
         if isinstance(result, cells.Refused):
             return result
-        after = record if result is None else result
+        ended = self.cells.ended
+        after = ended or record
         self.attempts[task] += ("w" * (after.won - won)
                                 + "l" * (after.lost - lost))
+        if ended:
+            self.trace.ended(task, ended, self.lines[task],
+                             self.attempts[task])
+            self.lines_before[task] += self.lines[task]
+            self.forget(task)
         return result
 
     def withdrawn(self, task):
         if self.trace is not None:
             self.trace.withdrawn.append((task, tuple(self.lines[task])))
+            self.lines_before[task] = []
             self.forget(task)
 
     def forget(self, task):
-        """The lines done are of one call."""
+        """The lines done are of one read or swap."""
         self.lines[task] = []
         self.attempts[task] = ""
 
@@ -115,20 +126,23 @@ class Session:
         """"A finished call prints `(done T word K answer steps hard)`; word
         is read or swap as begun, answer a value or yes/no".  "The done line
         ends in two numbers, won and lost, where it ended in one; [..] and the
-        end line keeps the sum" (change request 5)."""
+        end line keeps the sum" (change request 5).  "In the done, end and bus
+        lines [..] an add is one call" (change request 13)."""
         self.finished += 1
         self.hard += result.won + result.lost
         if result.kind == cells.SWAP:
             answer = "yes" if result.answer else "no"
+        elif result.kind == cells.ADD:
+            answer = result.answer
         else:
             answer = "%d" % result.answer
         self.out.append("(done %d %s %d %s %d %d %d)" % (
             task, result.kind, result.cell, answer, result.steps,
             result.won, result.lost))
         if self.trace is not None:
-            self.trace.finished(task, result, self.lines[task],
-                                self.attempts[task])
-            self.forget(task)
+            self.trace.calls.append((task, result,
+                                     tuple(self.lines_before[task])))
+            self.lines_before[task] = []
 
     def end(self):
         """"At the end, for each cell, `(cell K value)` by look, then `(end f
