@@ -22,7 +22,7 @@ use Rattle.adds_spec.proofs.Clock.{joined, clockOf}
 use Rattle.adds_spec.proofs.Meets.{retelling}
 use Rattle.adds_spec.proofs.Reached.{enter-append, Suits, Below, Reached, Continues, reached-start, reached-next, allowed, bounds, suits}
 
-within-true : (n a b : ℕ) → (leb a n && leb n b) ≡ true → (a ≤ n) × (n ≤ b)
+pub within-true : (n a b : ℕ) → (leb a n && leb n b) ≡ true → (a ≤ n) × (n ≤ b)
 within-true n a b e = let q = and-eq-true-iff (leb a n) (leb n b) .0 e in (leb-true a n (q .0), leb-true n b (q .1))
 
 -- a part that is under way, with what the add did before it

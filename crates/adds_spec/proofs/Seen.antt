@@ -68,7 +68,7 @@ module _ (A B : AddCalls) (S : Shows A B) where
       (record { now = suc (B .now); pending = upd (B .pending) t none; finished = addEnds (addSteps x [] (B .pending t)) r (B .finished); withdrawn = B .withdrawn })
   summing t x l r = record { now = ap suc (S .now); pending = changed t none none refl; finished = ended t x l r; withdrawn = S .withdrawn }
 
-  shows-next : (q : Request) (d : List (Action × Event)) (e : RequestEvent) → Shows (enterAdd A q d e) (enterAdd B q [] e)
+  pub shows-next : (q : Request) (d : List (Action × Event)) (e : RequestEvent) → Shows (enterAdd A q d e) (enterAdd B q [] e)
   shows-next q d (plain (refused n)) = passes
   shows-next (act (begin t op)) d (plain (accepted x)) = passes
   shows-next (act (step t)) d (plain (accepted x)) = record { now = ap suc (S .now); pending = changed t (addSteps x (reportsIn d) (A .pending t)) (addSteps x [] (B .pending t)) (stepped t x (reportsIn d)); finished = S .finished; withdrawn = S .withdrawn }

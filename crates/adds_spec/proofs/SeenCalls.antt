@@ -6,19 +6,19 @@ use mathlib.Core.Option.{Option, none, some}
 use mathlib.Core.List.{List, [], _∷_}
 use Prim.Native.Nat.{ℕ}
 use Rattle.history_spec.specs.Basics.{upd, _∈_}
-use Rattle.history_spec.specs.History.{Op, read, cellOf, Action, begin, step, drop, Attempt, Report, Event, refused, accepted, answered, history, run, Call, WithdrawnCall, Calls, noCalls, called, advanced, alsoWithdrawn, enter, enterAll, Allowed, Complete}
+use Rattle.history_spec.specs.History.{Op, read, cellOf, Action, begin, step, drop, Attempt, Report, Event, refused, accepted, answered, history, run, Call, WithdrawnCall, Calls, noCalls, called, advanced, alsoWithdrawn, enter, enterAll, IsBusy, Allowed, Complete}
 use Rattle.history_spec.specs.Demand3.{Meets}
 use Rattle.history_spec.proofs.Basics.{either, upd-same, upd-off, clash}
 use Rattle.adds_spec.specs.declared.Add.{Add}
 use Rattle.adds_spec.specs.Requests.{Request, act, add, plain, Gave, eventsOf, freshAdd, Ahead, part, end, ahead, triesOk, Handled, handled, onwards, stepsOn, addBegins, forgets, handles, withAdds, noAdds}
 use Rattle.adds_spec.specs.Demand3.{didsOf}
 use Rattle.adds_spec.specs.Adds.{AddCall, AddCalls, noAddCalls, reportsIn, addSteps, addCalled, alsoWithdrawnAdd, enterAdd, enterAdds, addsOf}
-use Rattle.adds_spec.specs.Seen.{enterPlain, enterPlains, callsSeen, AllFinished}
+use Rattle.adds_spec.specs.Seen.{enterPlain, enterPlains, callsSeen, IsAdding, NoCall, SomeCall, AllowedSeen, WellFormedSeen, AllFinished}
 use Rattle.adds_spec.proofs.Images.{map-in}
 use Rattle.adds_spec.proofs.Clock.{joined}
 use Rattle.adds_spec.proofs.Reached.{enter-append, Continues, allowed}
-use Rattle.adds_spec.proofs.Adds.{part-cell, At, Inv, idle-plain, requested-next, none-weighs, invariant}
-use Rattle.adds_spec.proofs.Seen.{withoutParts, shown, seen-shows}
+use Rattle.adds_spec.proofs.Adds.{within-true, part-cell, At, Inv, idle-plain, requested-next, none-weighs, invariant}
+use Rattle.adds_spec.proofs.Seen.{withoutParts, shown, Shows, shows-next, seen-shows}
 
 -- a task: its add, the plain call that is seen, its call
 abbrev Like : Option AddCall → Option Call → Option Call → Type 0
@@ -190,6 +190,84 @@ module _ {S : Type 0} (top : ℕ) (machine : S → Action → S × Event) (start
     seen-next (act (step t)) = steps t (machine s (step t) .0) (f t) (A .pending t) (b .pending t) refl refl (I .tasks t) (machine s (step t) .1) (allowed machine start meets (I .reached) (step t))
     seen-next (act (drop t)) = drops t (machine s (drop t) .0) (machine s (drop t) .1) (allowed machine start meets (I .reached) (drop t))
     seen-next (add t k d n) = adds t (machine s (begin t (read k)) .0) k d n (machine s (begin t (read k)) .1) (allowed machine start meets (I .reached) (begin t (read k)))
+
+    -- ITS EVENTS
+
+    module _ (B : AddCalls) (shows : Shows A B) where
+      no-call : (t : ℕ) → b .pending t ≡ none → NoCall c B t
+      no-call t e = let i = idle t e in (i .1, shows .pending t ∙ ap shown (i .0))
+
+      adding : (t : ℕ) (C : AddCall) → A .pending t ≡ some C → IsAdding (B .pending t)
+      adding t C e = subst IsAdding (sym (shows .pending t ∙ ap shown e)) tt
+
+      plain-busy : (d p : Option Call) → Like none d p → IsBusy p → IsBusy d
+      plain-busy (some d) p h i = tt
+      plain-busy none none h i = absurd i
+      plain-busy none (some e) h i = absurd h
+
+      some-call : (t : ℕ) → IsBusy (b .pending t) → SomeCall c B t
+      some-call t i = go (A .pending t) refl
+        where
+          go : (o : Option AddCall) → A .pending t ≡ o → SomeCall c B t
+          go none e = inl (plain-busy (c .pending t) (b .pending t) (subst (λ (o : Option AddCall). Like o (c .pending t) (b .pending t)) e (K .tasks t)) i)
+          go (some C) e = inr (adding t C e)
+
+      abbrev May : Request → Handled S → Type 0
+      May q x = AllowedSeen size c B q (x .gave .event)
+
+      module _ (t : ℕ) (s' : S) where
+        may-begin : (op : Op) (e : Event) → Allowed size b (begin t op) e → May (act (begin t op)) (handled top machine s' (forgets top machine f t e) ((begin t op, e) ∷ []) (plain e))
+        may-begin op (refused n) al = tt
+        may-begin op (accepted x) al = (no-call t (al .0), al .1, al .2)
+        may-begin op (answered x r) al = al
+
+        may-drop : (e : Event) → Allowed size b (drop t) e → May (act (drop t)) (handled top machine s' (forgets top machine f t e) ((drop t, e) ∷ []) (plain e))
+        may-drop (refused n) al = no-call t al
+        may-drop (accepted x) al = (some-call t (al .0), al .1)
+        may-drop (answered x r) al = al
+
+        may-add : (k d n : ℕ) (e : Event) → Allowed size b (begin t (read k)) e → May (add t k d n) (addBegins top machine s s' f t k d n e)
+        may-add k d n (refused z) al = tt
+        may-add k d n (answered x r) al = al
+        may-add k d n (accepted x) al = test (triesOk n) refl
+          where
+            test : (z : Bool) → triesOk n ≡ z → May (add t k d n) (cond z (handled top machine s' (upd f t (some (freshAdd d n))) ((begin t (read k), accepted x) ∷ []) (plain (accepted x))) (handled top machine s f [] (plain (refused 23))))
+            test false z = tt
+            test true z = let w = within-true n 1 8 z in (no-call t (al .0), al .1, w .0, w .1, al .2)
+
+        may-step : (o : Option Add) (D : Option AddCall) (p : Option Call) → A .pending t ≡ D → b .pending t ≡ p → At top (λ op. Unit {0}) (λ op a. 0) (λ op a. 0) (λ F. 0) o D p → (e : Event) → Allowed size b (step t) e → May (act (step t)) (stepsOn top machine s' f t o e)
+        may-step none none p y z h (refused n) al = no-call t al
+        may-step none none p y z h (accepted x) al = some-call t al
+        may-step none none p y z h (answered x r) al = plain-busy (c .pending t) (b .pending t) (subst (λ (o : Option AddCall). Like o (c .pending t) (b .pending t)) y (K .tasks t)) al
+        may-step none (some C) p y z h e al = absurd h
+        may-step (some a) none p y z h e al = absurd h
+        may-step (some a) (some C) none y z h e al = absurd h
+        may-step (some a) (some C) (some d) y z h (refused n) al = absurd (clash al z)
+        may-step (some a) (some C) (some d) y z h (accepted x) al = some-call t al
+        may-step (some a) (some C) (some d) y z h (answered x r) al = next (ahead top a r (r .answer))
+          where
+            next : (w : Ahead) → May (act (step t)) (onwards top machine s' f t a x r w)
+            next (part op n) = inr (adding t C y)
+            next (end v) = adding t C y
+
+      may : (q : Request) → May q (handles top machine s f q)
+      may (act (begin t op)) = may-begin t (machine s (begin t op) .0) op (machine s (begin t op) .1) (allowed machine start meets (I .reached) (begin t op))
+      may (act (step t)) = may-step t (machine s (step t) .0) (f t) (A .pending t) (b .pending t) refl refl (I .tasks t) (machine s (step t) .1) (allowed machine start meets (I .reached) (step t))
+      may (act (drop t)) = may-drop t (machine s (drop t) .0) (machine s (drop t) .1) (allowed machine start meets (I .reached) (drop t))
+      may (add t k d n) = may-add t (machine s (begin t (read k)) .0) k d n (machine s (begin t (read k)) .1) (allowed machine start meets (I .reached) (begin t (read k)))
+
+  may-all : (l : List Request) (s : S) (f : ℕ → Option Add) (b : Calls) (A : AddCalls) → I₀ s f b A → (c : Calls) → Seen A c b → (B : AddCalls) → Shows A B → WellFormedSeen size c B (eventsOf (history (withAdds top machine) (s, f) l))
+  may-all [] s f b A I c K B H = tt
+  may-all (q ∷ l) s f b A I c K B H =
+      let x = handles top machine s f q in
+      let J = requested-next top (λ op. Unit {0}) (λ op a. 0) (λ op a. 0) (λ F. 0) machine start none-weighs meets continues s f b A I q (λ t op y e z. tt) in
+      let A' = enterAdd A q (x .gave .did) (x .gave .event) in
+      let B' = enterAdd B q [] (x .gave .event) in
+      (may s f b A I c K B H q, may-all l (x .state) (x .adds) (enterAll b (x .gave .did)) A' J (enterPlain c q (x .gave .event)) (seen-next s f b A I c K q) B' (shows-next A B H q (x .gave .did) (x .gave .event)))
+
+  -- The events of every list of requests are well-formed.
+  pub well-formed-seen : (l : List Request) → WellFormedSeen size noCalls noAddCalls (eventsOf (history (withAdds top machine) (start, noAdds) l))
+  well-formed-seen l = may-all l start noAdds noCalls noAddCalls (invariant top machine start meets continues []) noCalls (record { tasks = λ t. tt; gone = λ w i. absurd i }) noAddCalls (seen-shows [])
 
   seen-all : (l : List Request) (s : S) (f : ℕ → Option Add) (b : Calls) (A : AddCalls) → I₀ s f b A → (c : Calls) → Seen A c b →
       let h = history (withAdds top machine) (s, f) l in Seen (enterAdds A h) (enterPlains c (eventsOf h)) (enterAll b (joined (didsOf h)))

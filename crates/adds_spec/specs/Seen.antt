@@ -1,11 +1,11 @@
 -- What the events alone show of a list of requests: its plain calls, and its adds but for their parts. An add is one call here.
 use mathlib.Core.Path.{_≡_}
-use mathlib.Core.Logic.{_≢_}
-use mathlib.Core.Option.{some}
+use mathlib.Core.Logic.{_≢_, _⊎_}
+use mathlib.Core.Option.{Option, none, some}
 use mathlib.Core.List.{List, [], _∷_}
-use Prim.Native.Nat.{ℕ}
+use Prim.Native.Nat.{ℕ, _≤_, _<_}
 use Rattle.history_spec.specs.Basics.{_∈_}
-use Rattle.history_spec.specs.History.{Calls, noCalls, passed, enter, Complete}
+use Rattle.history_spec.specs.History.{cellOf, begin, step, drop, untried, refused, accepted, answered, Calls, noCalls, passed, enter, IsBusy, Complete}
 use Rattle.adds_spec.specs.Requests.{Request, act, add, RequestEvent, plain, summed}
 use Rattle.adds_spec.specs.Adds.{AddCall, FinishedAdd, AddCalls, noAddCalls, enterAdd, Counted, FewSoFar}
 
@@ -27,6 +27,45 @@ enterSeen b (x ∷ h) = enterSeen (enterAdd b (x .0) [] (x .1)) h
 
 abbrev pub addsSeen : List (Request × RequestEvent) → AddCalls
 addsSeen h = enterSeen noAddCalls h
+
+-- WELL-FORMED EVENTS
+
+abbrev pub IsAdding : Option AddCall → Type 0
+IsAdding none = ⊥
+IsAdding (some c) = Unit {0}
+
+-- task t has no call: no read, swap or add
+abbrev pub NoCall : Calls → AddCalls → (task : ℕ) → Type 0
+NoCall c b t = (c .pending t ≡ none) × (b .pending t ≡ none)
+
+abbrev pub SomeCall : Calls → AddCalls → (task : ℕ) → Type 0
+SomeCall c b t = IsBusy (c .pending t) ⊎ IsAdding (b .pending t)
+
+-- an event that its request may give. A task has one call at a time, on a cell that there is, an add with 1 to 8 tries. A begin and a drop
+-- attempt no hardware CAS. A step or drop of a pending call is never refused; a step answers for the call that is pending.
+abbrev pub AllowedSeen : (size : ℕ) → Calls → AddCalls → Request → RequestEvent → Type 0
+AllowedSeen size c b (act (begin t op)) (plain (refused n)) = Unit {0}
+AllowedSeen size c b (act (begin t op)) (plain (accepted x)) = NoCall c b t × (cellOf op < size) × (x ≡ untried)
+AllowedSeen size c b (act (begin t op)) (plain (answered x r)) = ⊥
+AllowedSeen size c b (act (begin t op)) (summed x r) = ⊥
+AllowedSeen size c b (act (step t)) (plain (refused n)) = NoCall c b t
+AllowedSeen size c b (act (step t)) (plain (accepted x)) = SomeCall c b t
+AllowedSeen size c b (act (step t)) (plain (answered x r)) = IsBusy (c .pending t)
+AllowedSeen size c b (act (step t)) (summed x r) = IsAdding (b .pending t)
+AllowedSeen size c b (act (drop t)) (plain (refused n)) = NoCall c b t
+AllowedSeen size c b (act (drop t)) (plain (accepted x)) = SomeCall c b t × (x ≡ untried)
+AllowedSeen size c b (act (drop t)) (plain (answered x r)) = ⊥
+AllowedSeen size c b (act (drop t)) (summed x r) = ⊥
+AllowedSeen size c b (add t k d r) (plain (refused n)) = Unit {0}
+AllowedSeen size c b (add t k d r) (plain (accepted x)) = NoCall c b t × (k < size) × (1 ≤ r) × (r ≤ 8) × (x ≡ untried)
+AllowedSeen size c b (add t k d r) (plain (answered x o)) = ⊥
+AllowedSeen size c b (add t k d r) (summed x o) = ⊥
+
+abbrev pub WellFormedSeen : (size : ℕ) → Calls → AddCalls → List (Request × RequestEvent) → Type 0
+WellFormedSeen size c b [] = Unit {0}
+WellFormedSeen size c b (x ∷ h) = AllowedSeen size c b (x .0) (x .1) × WellFormedSeen size (enterPlain c (x .0) (x .1)) (enterAdd b (x .0) [] (x .1)) h
+
+-- WHAT HOLDS OF THEM
 
 -- every call on a cell is finished: no read, swap or add is pending there, none was withdrawn
 pub record AllFinished (h : List (Request × RequestEvent)) (cell : ℕ) : Type 0 where

@@ -8,19 +8,19 @@ use Rattle.figure_lines.specs.Record.{noValue}
 use Rattle.cells_spec.specs.declared.State.{State}
 use Rattle.cells_spec.specs.Questions.{refusal, openQuestions}
 use Rattle.history_spec.specs.Basics.{_∈_}
-use Rattle.history_spec.specs.History.{history, run}
+use Rattle.history_spec.specs.History.{history, run, noCalls}
 use Rattle.cells_spec.specs.Answers.{Shown}
 use Rattle.cells_spec.specs.Machine.{pool}
 use Rattle.cells_theorems.specs.Terms.{start}
 use Rattle.cells_theorems.proofs.Demand3.{cells-meet-demand-3}
 use Rattle.adds_spec.specs.Requests.{Request, RequestEvent, noAdds, withAdds}
-use Rattle.adds_spec.specs.Adds.{AddCall, FinishedAdd, AddCalls, addsOf, RightAdd, AddFinishes}
-use Rattle.adds_spec.specs.Seen.{addsSeen, AllFinished, RightSeen}
+use Rattle.adds_spec.specs.Adds.{AddCall, FinishedAdd, AddCalls, noAddCalls, addsOf, RightAdd, AddFinishes}
+use Rattle.adds_spec.specs.Seen.{addsSeen, WellFormedSeen, AllFinished, RightSeen}
 use Rattle.adds_spec.specs.Sums.{broughtTo, OnlyAdds}
 use Rattle.adds_spec.specs.Adding.{addingLooked, addingPool}
 use Rattle.adds_spec.proofs.Images.{map-out}
 use Rattle.adds_spec.proofs.Seen.{Shows, shownEnd, seen-shows, right-seen, finish-seen, brought-seen}
-use Rattle.adds_spec.proofs.SeenCalls.{complete-seen}
+use Rattle.adds_spec.proofs.SeenCalls.{well-formed-seen, complete-seen}
 use Rattle.adds_theorems.specs.Terms.{addingStart}
 use Rattle.adds_theorems.proofs.Continuing.{pool-continues}
 use Rattle.adds_theorems.proofs.Cells.{adds-within-bounds, every-add-ends, sum-of}
@@ -35,6 +35,11 @@ module _ (old : State) (words : List ℕ) (tasks cells blocks : ℕ) (values : L
 
   shows : (l : List Request) → Shows (adds l) (seen l)
   shows l = subst (λ (h : List (Request × RequestEvent)). Shows (adds l) (addsSeen h)) (sym (same-requests old words tasks cells blocks values allowed l)) (seen-shows (history (withAdds noValue pool) (start old words tasks cells blocks values, noAdds) l))
+
+  -- Its events are well-formed: a task has one call at a time, a read, a swap or an add.
+  pub entries-well-formed : WellFormedSeen cells noCalls noAddCalls (history addingPool (addingStart old words tasks cells blocks values) requests)
+  entries-well-formed = subst (WellFormedSeen cells noCalls noAddCalls) (sym (same-requests old words tasks cells blocks values allowed requests))
+      (well-formed-seen noValue pool (start old words tasks cells blocks values) (cells-meet-demand-3 old words tasks cells blocks values allowed) (pool-continues old words tasks cells blocks values allowed) requests)
 
   -- A finished add reports the steps and hardware CAS attempts that its events show, within 27 and 4 for each of its 1 to 8 tries; one that is
   -- pending or withdrawn has fewer steps.
