@@ -541,7 +541,7 @@ module _ {S : Type 0} (top : ℕ) (machine : S → Action → S × Event) (start
   pub invariant : let x = run (withAdds top machine) (start, noAdds) l in Inv top (λ op. Unit {0}) (λ op a. 0) (λ op a. 0) (λ F. 0) machine start (x .0) (x .1) (enterAll noCalls (joined (didsOf h))) (addsOf h)
   invariant = all-requests top (λ op. Unit {0}) (λ op a. 0) (λ op a. 0) (λ F. 0) machine start none-weighs meets continues l (λ t op g x i e. tt)
 
-  -- Each add that is finished reports what it did, the sums over its parts, and answers by the last of them; each that is pending or withdrawn
+  -- Each add that is finished reports what it did, the sums over its parts, and answers by the last of them. Each that is pending or withdrawn
   -- has fewer steps than 27 for each try, and fewer swaps that answered no than tries.
   pub adds-right : RightAdds top (addsOf (history (withAdds top machine) (start, noAdds) l))
   adds-right = record {

@@ -93,7 +93,7 @@ pub limits : Holds (
 unfolding fit recordFit cellsFit recordsFit hasNone openQuestions uses countsTrue opened readBegun swapBegun stepped dropped looked addFit addsFit addingBegun addBegun addingStepped addingDropped addingLooked
 limits = (refl, (refl, (refl, (refl, (refl, (refl, (refl, (refl, (refl, (refl, (refl, (refl, (refl, (refl, (refl, (refl, (refl, (refl, (refl, tt)))))))))))))))))))
 
--- whatever an idle task's add was, a begin of a read or a swap leaves none, and a begin of an add its own; a drop leaves none
+-- Whatever an idle task's add was, a begin of a read or a swap leaves none, and a begin of an add its own. A drop leaves none.
 pub left : Holds (
     (addAt (addingBegun (adding (idle .state) 0 (counts 9 9 1000 9 9)) words 0 (read 0) .state .adds) 0, noAdd) ∷
     (addAt (addingBegun (adding (idle .state) 0 (counts 9 9 1000 9 9)) words 0 (swap 0 5 9) .state .adds) 0, noAdd) ∷

@@ -11,3 +11,4 @@ pub mod Ends
 pub mod Seen
 pub mod SeenCalls
 pub mod Entries
+pub mod PartCalls

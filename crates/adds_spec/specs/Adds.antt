@@ -6,7 +6,7 @@ use mathlib.Core.List.{List, [], _∷_, _++_}
 use Prim.Native.Nat.{ℕ, suc, _+_, _*_, _≤_, _<_}
 use lib.ListN.{replicate}
 use Rattle.history_spec.specs.Basics.{upd, _∈_}
-use Rattle.history_spec.specs.History.{Op, read, swap, Action, begin, step, drop, taskOf, Response, Value, Yes, No, Report, Attempt, Event, refused, accepted, answered, wins, losses, Call, noCalls}
+use Rattle.history_spec.specs.History.{Op, read, swap, cellOf, Action, begin, step, drop, taskOf, Response, Value, Yes, No, Report, Attempt, Event, refused, accepted, answered, wins, losses, Call, FinishedCall, Calls, noCalls}
 use Rattle.adds_spec.specs.declared.Add.{Add}
 use Rattle.adds_spec.specs.Requests.{Request, act, add, AddAnswer, AmountAdded, Over, Spent, AddReport, RequestEvent, plain, summed, Gave}
 use Rattle.adds_spec.specs.Demand3.{didsOf, enterDids}
@@ -19,7 +19,8 @@ pub record AddId : Type 0 where
   pub amount : ℕ
   pub tries : ℕ
 
--- an add so far: its steps, their hardware CAS attempts won and lost; the reports of its reads and swaps that ended, the last one first
+-- an add so far: its steps, their hardware CAS attempts won and lost. `parts`: the reports of its reads and swaps that ended, the last one
+-- first.
 pub record AddCall : Type 0 where
   pub start : AddId
   pub steps : ℕ
@@ -130,16 +131,16 @@ GoesOnAfter top d No = Unit {0}
 abbrev pub AllGoOn : (top amount : ℕ) → List Report → Type 0
 AllGoOn top d l = (r : Report) → r ∈ l → GoesOnAfter top d (r .answer)
 
--- the part under way, by the answer of the part before it: a read at first, and after a swap that answered no; after a read, the swap of its
--- value to that plus the amount
+-- the part under way, by the answer of the part before it. A read at first, and after a swap that answered no. After a read, the swap of its
+-- value to that plus the amount.
 abbrev pub NextPart : (top cell amount : ℕ) → Option Response → Op → Type 0
 NextPart top k d none op = op ≡ read k
 NextPart top k d (some (Value v)) op = (op ≡ swap k v (v + d)) × (v + d < top)
 NextPart top k d (some Yes) op = ⊥
 NextPart top k d (some No) op = op ≡ read k
 
--- added exactly where its last swap answered yes; over exactly where the value just read plus the amount is none or more; spent exactly where
--- as many swaps as it has tries answered no
+-- Added exactly where its last swap answered yes. Over exactly where the value just read plus the amount is none or more. Spent exactly where
+-- as many swaps as it has tries answered no.
 pub record RightAnswer (top amount tries : ℕ) (parts : List Report) (z : AddAnswer) : Type 0 where
   pub added : (z ≡ AmountAdded) ↔ (lastAnswer parts ≡ some Yes)
   pub over : (z ≡ Over) ↔ ((v : ℕ) × (lastAnswer parts ≡ some (Value v)) × (top ≤ v + amount))
@@ -189,7 +190,8 @@ abbrev pub moreAttempts : Op → ℕ
 moreAttempts (read k) = 0
 moreAttempts (swap k e n) = 1
 
--- task t's add a is under way, as the call `call`, with its part `part`: what a says is what its ended parts did, and it keeps to the fit limits
+-- task t's add a is under way, as the call `call`, with its part `part`. What a says is what its ended parts did, and it keeps to the fit
+-- limits.
 pub record UnderWay (top : ℕ) (h : List (Request × Gave)) (t : ℕ) (a : Add) : Type 0 where
   pub call : AddCall
   pub its : addsOf h .pending t ≡ some call
@@ -210,6 +212,15 @@ pub record UnderWay (top : ℕ) (h : List (Request × Gave)) (t : ℕ) (a : Add)
   pub fewer : a .failed < a .tries
   pub few-steps : a .steps ≤ 27 * a .failed + moreSteps (part .start .op)
   pub few-attempts : a .won + a .lost ≤ 4 * a .failed + moreAttempts (part .start .op)
+
+-- its parts are calls of its task on its cell: each is what a finished call reported
+abbrev pub PartsAreCalls : Calls → AddCall → Type 0
+PartsAreCalls b c = (r : Report) → r ∈ c .parts → (f : FinishedCall) × (f ∈ b .finished) × (f .report ≡ r) × (f .call .start .task ≡ c .start .task) × (cellOf (f .call .start .op) ≡ c .start .cell)
+
+pub record AllPartsAreCalls (b : Calls) (A : AddCalls) : Type 0 where
+  pub ended : (f : FinishedAdd) → f ∈ A .finished → PartsAreCalls b (f .call)
+  pub unended : (t : ℕ) (c : AddCall) → A .pending t ≡ some c → PartsAreCalls b c
+  pub withdrawn : (c : AddCall) → c ∈ A .withdrawn → PartsAreCalls b c
 
 -- `adds`: those of each list of requests. After the requests l, so many more steps of task t, at most `few`, finish its add c.
 pub record AddFinishes (adds : List Request → AddCalls) (l : List Request) (t : ℕ) (c : AddCall) (few : ℕ) : Type 0 where

@@ -26,7 +26,7 @@ use Rattle.cells_theorems.proofs.Demand3.{starting-values, cells-meet-demand-3}
 use Rattle.adds_spec.specs.Requests.{Request, Gave, eventsOf, noAdds, withAdds}
 use Rattle.adds_spec.specs.declared.Add.{Add}
 use Rattle.adds_spec.specs.Demand3.{didsOf, enterDids, MeetsAdds}
-use Rattle.adds_spec.specs.Adds.{AddCall, addsOf, RightAdds, UnderWay, AddFinishes}
+use Rattle.adds_spec.specs.Adds.{AddCall, addsOf, RightAdds, UnderWay, AllPartsAreCalls, AddFinishes}
 use Rattle.adds_spec.specs.Sums.{broughtTo, OnlyAdds}
 use Rattle.adds_spec.proofs.Images.{complete-before}
 use Rattle.adds_spec.proofs.Clock.{joined, clockOf}
@@ -35,6 +35,7 @@ use Rattle.adds_spec.proofs.Meets.{meets-adds, retelling}
 use Rattle.adds_spec.proofs.Adds.{adds-right, adds-under-way}
 use Rattle.adds_spec.proofs.Sums.{sum-left}
 use Rattle.adds_spec.proofs.Ends.{adds-end}
+use Rattle.adds_spec.proofs.PartCalls.{parts-are-calls}
 use Rattle.adds_theorems.proofs.Continuing.{pool-continues}
 
 module _ (old : State) (words : List ℕ) (tasks cells blocks : ℕ) (values : List ℕ) (allowed : refusal (openQuestions (length words) tasks cells blocks values) ≡ none) (requests : List Request) where
@@ -46,10 +47,14 @@ module _ (old : State) (words : List ℕ) (tasks cells blocks : ℕ) (values : L
   adds-meet-demand-3 = meets-adds noValue pool x₀ (clearAfter figure (opening tasks cells values) clear) cells (λ k. getD values k 0) (cells-meet-demand-3 old words tasks cells blocks values allowed)
 
   -- An add takes at most 27 steps and 4 hardware CAS attempts for each of its tries, and reports what it did: the sums over its parts. It is
-  -- added exactly where its last swap answered yes, over exactly where the value just read plus the amount is none or more, and spent exactly
+  -- added exactly where its last swap answered yes, over exactly where the value just read plus the amount is none or more. It is spent exactly
   -- where every try's swap answered no. One that is pending or withdrawn has fewer steps, and fewer swaps that answered no than tries.
   pub adds-within-bounds : RightAdds noValue (addsOf (history (withAdds noValue pool) (start old words tasks cells blocks values, noAdds) requests))
   adds-within-bounds = adds-right noValue pool x₀ (cells-meet-demand-3 old words tasks cells blocks values allowed) (pool-continues old words tasks cells blocks values allowed) requests
+
+  -- The parts of an add are calls of its task on its cell, those of adds-meet-demand-3: each is what a finished call reported.
+  pub add-parts-are-calls : let h = history (withAdds noValue pool) (start old words tasks cells blocks values, noAdds) requests in AllPartsAreCalls (enterDids noCalls (didsOf h)) (addsOf h)
+  add-parts-are-calls = parts-are-calls noValue pool x₀ (cells-meet-demand-3 old words tasks cells blocks values allowed) (pool-continues old words tasks cells blocks values allowed) requests
 
   -- From anywhere in any list of requests, at most 27 further steps of its task for each try finish a pending add.
   pub every-add-ends : (task : ℕ) (call : AddCall) → addsOf (history (withAdds noValue pool) (start old words tasks cells blocks values, noAdds) requests) .pending task ≡ some call →

@@ -41,7 +41,7 @@ module _ (old : State) (words : List ℕ) (tasks cells blocks : ℕ) (values : L
   entries-well-formed = subst (WellFormedSeen cells noCalls noAddCalls) (sym (same-requests old words tasks cells blocks values allowed requests))
       (well-formed-seen noValue pool (start old words tasks cells blocks values) (cells-meet-demand-3 old words tasks cells blocks values allowed) (pool-continues old words tasks cells blocks values allowed) requests)
 
-  -- A finished add reports the steps and hardware CAS attempts that its events show, within 27 and 4 for each of its 1 to 8 tries; one that is
+  -- A finished add reports the steps and hardware CAS attempts that its events show, within 27 and 4 for each of its 1 to 8 tries. One that is
   -- pending or withdrawn has fewer steps.
   pub entries-count : RightSeen (addsSeen (history addingPool (addingStart old words tasks cells blocks values) requests))
   entries-count = right-seen noValue (adds requests) (seen requests) (shows requests) (adds-within-bounds old words tasks cells blocks values allowed requests)
