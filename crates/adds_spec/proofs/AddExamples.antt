@@ -6,14 +6,19 @@ use Prim.Native.Nat.{ℕ}
 use lib.ListN.{replicate}
 use Rattle.cells_spec.specs.Questions.{fit, recordFit, cellsFit, recordsFit, hasNone, openQuestions, uses, countsTrue}
 use Rattle.cells_spec.specs.Blocks.{firstUnused}
-use Rattle.history_spec.specs.History.{read, swap, begin, step, drop, untried, success, Value, aRead, Report, refused, answered, history}
+use Rattle.history_spec.specs.Basics.{upd}
+use Rattle.history_spec.specs.History.{read, swap, begin, step, drop, untried, success, Value, aRead, Report, refused, answered, history, run}
+use Rattle.cells_spec.specs.Answers.{Seen, Shown}
 use Rattle.cells_spec.specs.Open.{blank, opened}
 use Rattle.cells_spec.specs.Begin.{readBegun, swapBegun}
 use Rattle.cells_spec.specs.StoredCounts.{recounted}
 use Rattle.cells_spec.specs.Step.{ran, stepped}
 use Rattle.cells_spec.specs.Drop.{dropped}
+use Rattle.cells_spec.specs.Look.{looked}
 use Rattle.adds_spec.specs.Requests.{Request, act, add, AddAnswer, AmountAdded, Over, Spent, AddReport, RequestEvent, plain, summed}
-use Rattle.adds_spec.specs.Adding.{noAdd, addFit, addsFit, addingOpened, addingBegun, addBegun, addingStepped, addingDropped, addingPool}
+use Rattle.adds_spec.specs.Sums.{broughtTo}
+use Rattle.adds_spec.specs.Seen.{addsSeen}
+use Rattle.adds_spec.specs.Adding.{noAdd, addFit, addsFit, addingOpened, addingBegun, addBegun, addingStepped, addingDropped, addingLooked, addingPool}
 
 abbrev lastEvent : List (Request × RequestEvent) → Option RequestEvent
 lastEvent [] = none
@@ -74,3 +79,15 @@ pub examples : Holds (
     )
 unfolding fit recordFit cellsFit recordsFit hasNone openQuestions uses countsTrue firstUnused recounted opened readBegun swapBegun ran stepped dropped addFit addsFit addingOpened addingBegun addBegun addingStepped addingDropped
 examples = (refl, (refl, (refl, (refl, (refl, (refl, (refl, (refl, (refl, (refl, (refl, (refl, (refl, (refl, (refl, (refl, (refl, tt)))))))))))))))))
+
+-- what look gives after a list of requests, and what the adds seen brought
+abbrev sums : ℕ → List Request → Seen × ℕ
+sums v l =
+    let r = addingOpened (record { cells = blank; adds = replicate 32 noAdd }) (replicate 20 0) 2 1 4 (v ∷ []) in
+    let x = run addingPool (r .state, r .pool) l in
+    (addingLooked (x .0) (x .1) 0, broughtTo 0 (addsSeen (history addingPool (r .state, r .pool) l) .finished))
+
+-- task 0's add of 3 has read 5, task 1 adds 4, and task 0's add is spent; with a second try it is added too
+pub sums-shown : (sums 5 ((add 0 0 3 1 ∷ steps 0 3) ++ (add 1 0 4 2 ∷ steps 1 13) ++ steps 0 8) ≡ (Shown 9, 4)) × (sums 5 ((add 0 0 3 2 ∷ steps 0 3) ++ (add 1 0 4 2 ∷ steps 1 13) ++ steps 0 21) ≡ (Shown 12, 7))
+unfolding fit recordFit cellsFit recordsFit hasNone openQuestions uses countsTrue firstUnused recounted opened readBegun swapBegun ran stepped looked addFit addsFit addingOpened addingBegun addBegun addingStepped addingLooked upd
+sums-shown = (refl, refl)

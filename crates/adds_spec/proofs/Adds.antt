@@ -11,7 +11,7 @@ use borrow.Author.Tests.{ltb-true, ltb-false, leb-true}
 use Rattle.history_spec.specs.Basics.{upd, _∈_}
 use Rattle.history_spec.specs.History.{Op, read, swap, cellOf, Action, begin, step, drop, Response, Value, Yes, No, Attempt, untried, Report, Event, refused, accepted, answered, history, run, Call, attempts, FinishedCall, Calls, noCalls, called, advance, advanced, closed, enter, enterAll, Allowed}
 use Rattle.history_spec.specs.Demand3.{most, mostHard, Reports, Meets}
-use Rattle.history_spec.proofs.Basics.{either, upd-same, upd-off, clash, some-inj}
+use Rattle.history_spec.proofs.Basics.{either, upd-same, upd-off, clash, some-inj, enter-append}
 use Rattle.history_linearization.proofs.Order.{total}
 use Rattle.adds_spec.specs.Requests.{Request, act, add, AddAnswer, AmountAdded, Over, Spent, plain, Gave, freshAdd, withPart, addReportOf, part, end, sumBelow, tryLeft, ahead, triesOk, Handled, handled, onwards, stepsOn, addBegins, forgets, handles, withAdds, noAdds}
 use Rattle.adds_spec.specs.declared.Add.{Add}
@@ -20,7 +20,7 @@ use Rattle.adds_spec.specs.Adds.{addsOf, AddCall, FinishedAdd, AddCalls,
 use Rattle.adds_spec.proofs.Images.{callAt, pendingAt}
 use Rattle.adds_spec.proofs.Clock.{joined, clockOf}
 use Rattle.adds_spec.proofs.Meets.{retelling}
-use Rattle.adds_spec.proofs.Reached.{enter-append, Suits, Below, Reached, Continues, reached-start, reached-next, allowed, bounds, suits}
+use Rattle.adds_spec.proofs.Reached.{Suits, Below, Reached, Continues, reached-start, reached-next, allowed, bounds, suits}
 
 pub within-true : (n a b : ℕ) → (leb a n && leb n b) ≡ true → (a ≤ n) × (n ≤ b)
 within-true n a b e = let q = and-eq-true-iff (leb a n) (leb n b) .0 e in (leb-true a n (q .0), leb-true n b (q .1))
@@ -522,7 +522,7 @@ module _ (top : ℕ) (P : Op → Type 0) (up down : Op → Response → ℕ) (ga
           let r = all l (x .state) (x .adds) (enterAll b (x .gave .did)) (enterAdd A q (x .gave .did) (x .gave .event)) J (λ t op g y i e. p t op g y (inr i) e) in
           let y = run (withAdds top machine) (x .state, x .adds) l in
           let B = enterAdds (enterAdd A q (x .gave .did) (x .gave .event)) (history (withAdds top machine) (x .state, x .adds) l) in
-          subst (λ (b : Calls). Inv (y .0) (y .1) b B) (sym (enter-append (x .gave .did) (joined (didsOf (history (withAdds top machine) (x .state, x .adds) l))) b)) r
+          subst (λ (b : Calls). Inv (y .0) (y .1) b B) (sym (enter-append b (x .gave .did) (joined (didsOf (history (withAdds top machine) (x .state, x .adds) l))))) r
 
       -- from the start
       pub all-requests : (l : List Request) → PlainWell (history (withAdds top machine) (start, noAdds) l) → let h = history (withAdds top machine) (start, noAdds) l in let x = run (withAdds top machine) (start, noAdds) l in

@@ -9,12 +9,8 @@ use Rattle.history_spec.specs.Basics.{_∈_, Once}
 use Rattle.history_spec.specs.History.{Action, cellOf, Response, CallId, Call, attempts, FinishedCall, WithdrawnCall, Calls, CallOf, finished, pending, withdrawn, Complete}
 use Rattle.history_spec.specs.Linearization.{apply, Point, Placed, replies, Sorted, Linearizes}
 use Rattle.history_spec.specs.Demand3.{Bounds, Alone, NoHardware}
-use Rattle.history_spec.proofs.Basics.{clash, some-inj}
+use Rattle.history_spec.proofs.Basics.{clash, some-inj, mem-map}
 use Rattle.history_linearization.proofs.Timeline.{le-or-lt}
-
-pub map-in : {A B : Type 0} (f : A → B) (l : List A) (a : A) → a ∈ l → f a ∈ map f l
-map-in f (x ∷ l) a (inl e) = inl (ap f e)
-map-in f (x ∷ l) a (inr i) = inr (map-in f l a i)
 
 pub map-out : {A B : Type 0} (f : A → B) (l : List A) (b : B) → b ∈ map f l → (a : A) × (a ∈ l) × (b ≡ f a)
 map-out f (x ∷ l) b (inl e) = (x, inl refl, e)
@@ -59,7 +55,7 @@ module _ (φ : ℕ → ℕ) where
   pub complete-before : {b b' : Calls} → Image b b' → (cell : ℕ) → Complete b' cell → Complete b cell
   complete-before {b} {b'} i k all = record {
     none-pending = λ t c e. all .none-pending t (callAt c) (i .pending t ∙ ap pendingAt e);
-    none-withdrawn = λ w j. all .none-withdrawn (withdrawnAs w) (rw (i .withdrawn) (map-in withdrawnAs (b .withdrawn) w j));
+    none-withdrawn = λ w j. all .none-withdrawn (withdrawnAs w) (rw (i .withdrawn) (mem-map withdrawnAs (b .withdrawn) w j));
   }
 
   module _ (b b' : Calls) (i : Image b b') (now : b' .now ≡ φ (b .now)) (clock : Clock b) where
@@ -78,9 +74,9 @@ module _ (φ : ℕ → ℕ) where
     same-begin c d n k of of' e = omega (arith, by-begin c n (d .start .at) of (omega arith), by-begin d k (c .start .at) of' (omega arith))
 
     to-image : (c : Call) (n : ℕ) → CallOf b c n → CallOf b' (callAt c) (φ n)
-    to-image c n (finished f j) = finished (finishedAt f) (rw (i .finished) (map-in finishedAt (b .finished) f j))
+    to-image c n (finished f j) = finished (finishedAt f) (rw (i .finished) (mem-map finishedAt (b .finished) f j))
     to-image c n (pending t d h) = subst (λ m. CallOf b' (callAt c) m) now (pending t (callAt c) (i .pending t ∙ ap pendingAt h))
-    to-image c n (withdrawn w j) = withdrawn (withdrawnAs w) (rw (i .withdrawn) (map-in withdrawnAs (b .withdrawn) w j))
+    to-image c n (withdrawn w j) = withdrawn (withdrawnAs w) (rw (i .withdrawn) (mem-map withdrawnAs (b .withdrawn) w j))
 
     from-image : (d : Call) (m : ℕ) → CallOf b' d m → (c : Call) × (n : ℕ) × CallOf b c n × (d ≡ callAt c) × (m ≡ φ n)
     from-image d m (finished f j) =
@@ -123,7 +119,7 @@ module _ (φ : ℕ → ℕ) where
             let ev = ap (λ (s : CallId). s .at) (v .is) in
             let q : φ (x .call .at) ≡ φ (r .0 .call .at) = e ∙ ap (λ (y : Point). y .call .at) (r .2) in
             let z = same-begin (u .call) (v .call) (u .end) (v .end) (u .of-history) (v .of-history) (sym (ap φ eu) ∙ q ∙ ap φ ev) in
-            o .0 (subst (λ n. n ∈ ats l) (sym (eu ∙ z ∙ sym ev)) (map-in (λ (e : Point). e .call .at) l (r .0) (r .1)))
+            o .0 (subst (λ n. n ∈ ats l) (sym (eu ∙ z ∙ sym ev)) (mem-map (λ (e : Point). e .call .at) l (r .0) (r .1)))
 
     replies-at : (cells : ℕ → ℕ) (l : List Point) (e : Point) (a : Response) → (e, a) ∈ replies cells l → (pointAt e, a) ∈ replies cells (map pointAt l)
     replies-at cells (x ∷ l) e a (inl q) = inl (ap (λ (p : Point × Response). (pointAt (p .0), p .1)) q)

@@ -8,15 +8,15 @@ use Prim.Native.Nat.{ℕ}
 use Rattle.history_spec.specs.Basics.{upd, _∈_}
 use Rattle.history_spec.specs.History.{Op, read, cellOf, Action, begin, step, drop, Attempt, Report, Event, refused, accepted, answered, history, Call, FinishedCall, Calls, noCalls, called, advance, advanced, closed, enter, enterAll, Allowed}
 use Rattle.history_spec.specs.Demand3.{Meets}
-use Rattle.history_spec.proofs.Basics.{upd-cases, clash, some-inj}
+use Rattle.history_spec.proofs.Basics.{upd-cases, clash, some-inj, mem-map, enter-append}
 use Rattle.adds_spec.specs.declared.Add.{Add}
 use Rattle.adds_spec.specs.Requests.{Request, act, add, AddReport, plain, freshAdd, addReportOf, Ahead, part, end, ahead, triesOk, Handled, handled, onwards, stepsOn, addBegins, forgets, handles, withAdds, noAdds}
 use Rattle.adds_spec.specs.Demand3.{didsOf, enterDids}
 use Rattle.adds_spec.specs.Adds.{AddCall, FinishedAdd, AddCalls, noAddCalls, reportsIn, addStep, addSteps, addEnds, addsMoved, addsPassed, addCalled, alsoWithdrawnAdd, enterAdd, enterAdds, addsOf, PartsAreCalls, AllPartsAreCalls}
-use Rattle.adds_spec.proofs.Images.{finishedAt, map-in}
+use Rattle.adds_spec.proofs.Images.{finishedAt}
 use Rattle.adds_spec.proofs.Clock.{joined, clockOf}
 use Rattle.adds_spec.proofs.Meets.{retelling}
-use Rattle.adds_spec.proofs.Reached.{enter-append, Continues, reached-next, allowed}
+use Rattle.adds_spec.proofs.Reached.{Continues, reached-next, allowed}
 use Rattle.adds_spec.proofs.Adds.{part-cell, At, Inv, requested-next, none-weighs, invariant}
 
 -- with whose they are
@@ -210,7 +210,7 @@ module _ {S : Type 0} (top : ℕ) (machine : S → Action → S × Event) (start
       let J = requested-next top (λ op. Unit {0}) (λ op a. 0) (λ op a. 0) (λ F. 0) machine start none-weighs meets continues s f b A I q (λ t op y e z. tt) in
       let h = history (withAdds top machine) (x .state, x .adds) l in
       let A' = enterAdd A q (x .gave .did) (x .gave .event) in
-      subst (Made (enterAdds A' h)) (sym (enter-append (x .gave .did) (joined (didsOf h)) b)) (made-all l (x .state) (x .adds) (enterAll b (x .gave .did)) A' J (made-next s f b A I M q))
+      subst (Made (enterAdds A' h)) (sym (enter-append b (x .gave .did) (joined (didsOf h)))) (made-all l (x .state) (x .adds) (enterAll b (x .gave .did)) A' J (made-next s f b A I M q))
 
   -- Every part of an add is a finished call of its task on its cell, at its requests' moments.
   pub parts-are-calls : (l : List Request) → let h = history (withAdds top machine) (start, noAdds) l in AllPartsAreCalls (enterDids noCalls (didsOf h)) (addsOf h)
@@ -225,4 +225,4 @@ module _ {S : Type 0} (top : ℕ) (machine : S → Action → S × Event) (start
           let q = p r i in
           let dids = didsOf (history (withAdds top machine) (start, noAdds) l) in
           let g = finishedAt (clockOf dids) (q .0) in
-          (g, subst (λ (fs : List FinishedCall). g ∈ fs) (sym (retelling top machine start Clear size values meets l .image .finished)) (map-in (finishedAt (clockOf dids)) (enterAll noCalls (joined dids) .finished) (q .0) (q .1)), q .2, q .3, q .4)
+          (g, subst (λ (fs : List FinishedCall). g ∈ fs) (sym (retelling top machine start Clear size values meets l .image .finished)) (mem-map (finishedAt (clockOf dids)) (enterAll noCalls (joined dids) .finished) (q .0) (q .1)), q .2, q .3, q .4)

@@ -9,12 +9,8 @@ use Rattle.history_spec.specs.Basics.{_∈_}
 use Rattle.history_spec.specs.History.{Op, read, swap, cellOf, Action, begin, step, Response, Value, Yes, No, Attempt, untried, Report, Event, accepted, answered, history, run, CallId, FinishedCall, Calls, noCalls, enter, enterAll, callsOf, Allowed, WellFormed}
 use Rattle.history_spec.specs.Linearization.{reply, apply, Point, replies}
 use Rattle.history_spec.specs.Demand3.{Bounds, Meets}
-use Rattle.history_spec.proofs.Basics.{history-append}
+use Rattle.history_spec.proofs.Basics.{history-append, enter-append}
 use Rattle.adds_spec.proofs.Plays.{run-append}
-
-pub enter-append : (h m : List (Action × Event)) (b : Calls) → enterAll b (h ++ m) ≡ enterAll (enterAll b h) m
-enter-append [] m b = refl
-enter-append (x ∷ h) m b = enter-append h m (enter b (x .0) (x .1))
 
 well-formed-after : (size : ℕ) (h m : List (Action × Event)) (b : Calls) → WellFormed size b (h ++ m) → WellFormed size (enterAll b h) m
 well-formed-after size [] m b w = w
@@ -66,7 +62,7 @@ module _ {S : Type 0} (machine : S → Action → S × Event) (start : S) where
     actions = r .actions ++ (a ∷ []);
     state = ap (λ (s : S). machine s a .0) (r .state) ∙ sym (run-append machine start (r .actions) (a ∷ []));
     calls = ap₂ (λ (b : Calls) (s : S). enter b a (machine s a .1)) (r .calls) (r .state)
-        ∙ sym (ap (enterAll noCalls) (history-append machine start (r .actions) (a ∷ [])) ∙ enter-append (history machine start (r .actions)) ((a, machine (run machine start (r .actions)) a .1) ∷ []) noCalls);
+        ∙ sym (ap (enterAll noCalls) (history-append machine start (r .actions) (a ∷ [])) ∙ enter-append noCalls (history machine start (r .actions)) ((a, machine (run machine start (r .actions)) a .1) ∷ []));
   }
 
   module _ {Clear : List Action → ℕ → Type 0} {size : ℕ} {values : ℕ → ℕ} (meets : Meets machine start Clear size values) {s : S} {b : Calls} (r : Reached s b) where

@@ -7,12 +7,12 @@ use Prim.Native.Nat.{ℕ, suc, _+_, _*_, _≤_}
 use lib.ListN.{replicate}
 use Rattle.history_spec.specs.Basics.{upd, _∈_}
 use Rattle.history_spec.specs.History.{Action, begin, step, drop, taskOf, Attempt, Report, Event, refused, accepted, answered}
-use Rattle.history_spec.proofs.Basics.{either, upd-at, upd-off, clash, some-inj}
+use Rattle.history_spec.proofs.Basics.{either, upd-at, upd-off, clash, some-inj, mem-map}
 use Rattle.adds_spec.specs.Requests.{Request, act, add, AddReport, RequestEvent, plain, summed, Gave, eventsOf}
 use Rattle.adds_spec.specs.Adds.{AddCall, FinishedAdd, AddCalls, noAddCalls, reportsIn, addSteps, addEnds, addCalled, alsoWithdrawnAdd, enterAdd, enterAdds, addsOf, Counted, FewSoFar, RightAdds, AddFinishes}
 use Rattle.adds_spec.specs.Sums.{broughtBy, broughtTo}
 use Rattle.adds_spec.specs.Seen.{enterSeen, addsSeen, RightSeen}
-use Rattle.adds_spec.proofs.Images.{map-in, map-out}
+use Rattle.adds_spec.proofs.Images.{map-out}
 
 abbrev pub withoutParts : AddCall → AddCall
 withoutParts c = record { start = c .start; steps = c .steps; won = c .won; lost = c .lost; parts = [] }
@@ -114,7 +114,7 @@ finish-seen adds seen S l t c e ends =
       steps = f .steps;
       at-most = subst (λ (d : AddCall). f .steps ≤ 27 * d .start .tries) (sym (r .2)) (f .at-most);
       end = shownEnd (f .end);
-      done = subst (λ (l : List FinishedAdd). shownEnd (f .end) ∈ l) (sym (S (l ++ replicate (f .steps) (act (step t))) .finished)) (map-in shownEnd (adds (l ++ replicate (f .steps) (act (step t))) .finished) (f .end) (f .done));
+      done = subst (λ (l : List FinishedAdd). shownEnd (f .end) ∈ l) (sym (S (l ++ replicate (f .steps) (act (step t))) .finished)) (mem-map shownEnd (adds (l ++ replicate (f .steps) (act (step t))) .finished) (f .end) (f .done));
       is = f .is ∙ ap (λ (d : AddCall). d .start) (sym (r .2));
     }
 

@@ -8,15 +8,14 @@ use Prim.Native.Nat.{ℕ}
 use Rattle.history_spec.specs.Basics.{upd, _∈_}
 use Rattle.history_spec.specs.History.{Op, read, cellOf, Action, begin, step, drop, Attempt, Report, Event, refused, accepted, answered, history, run, Call, WithdrawnCall, Calls, noCalls, called, advanced, alsoWithdrawn, enter, enterAll, IsBusy, Allowed, Complete}
 use Rattle.history_spec.specs.Demand3.{Meets}
-use Rattle.history_spec.proofs.Basics.{either, upd-same, upd-off, clash}
+use Rattle.history_spec.proofs.Basics.{either, upd-same, upd-off, clash, mem-map, enter-append}
 use Rattle.adds_spec.specs.declared.Add.{Add}
 use Rattle.adds_spec.specs.Requests.{Request, act, add, plain, Gave, eventsOf, freshAdd, Ahead, part, end, ahead, triesOk, Handled, handled, onwards, stepsOn, addBegins, forgets, handles, withAdds, noAdds}
 use Rattle.adds_spec.specs.Demand3.{didsOf}
 use Rattle.adds_spec.specs.Adds.{AddCall, AddCalls, noAddCalls, reportsIn, addSteps, addCalled, alsoWithdrawnAdd, enterAdd, enterAdds, addsOf}
 use Rattle.adds_spec.specs.Seen.{enterPlain, enterPlains, callsSeen, IsAdding, NoCall, SomeCall, AllowedSeen, WellFormedSeen, AllFinished}
-use Rattle.adds_spec.proofs.Images.{map-in}
 use Rattle.adds_spec.proofs.Clock.{joined}
-use Rattle.adds_spec.proofs.Reached.{enter-append, Continues, allowed}
+use Rattle.adds_spec.proofs.Reached.{Continues, allowed}
 use Rattle.adds_spec.proofs.Adds.{within-true, part-cell, At, Inv, idle-plain, requested-next, none-weighs, invariant}
 use Rattle.adds_spec.proofs.Seen.{withoutParts, shown, Shows, shows-next, seen-shows}
 
@@ -278,7 +277,7 @@ module _ {S : Type 0} (top : ℕ) (machine : S → Action → S × Event) (start
       let h = history (withAdds top machine) (x .state, x .adds) l in
       let c' = enterPlain c q (x .gave .event) in
       let A' = enterAdd A q (x .gave .did) (x .gave .event) in
-      subst (λ (d : Calls). Seen (enterAdds A' h) (enterPlains c' (eventsOf h)) d) (sym (enter-append (x .gave .did) (joined (didsOf h)) b)) (seen-all l (x .state) (x .adds) (enterAll b (x .gave .did)) A' J c' (seen-next s f b A I c K q))
+      subst (λ (d : Calls). Seen (enterAdds A' h) (enterPlains c' (eventsOf h)) d) (sym (enter-append b (x .gave .did) (joined (didsOf h)))) (seen-all l (x .state) (x .adds) (enterAll b (x .gave .did)) A' J c' (seen-next s f b A I c K q))
 
   module _ (l : List Request) where
     abbrev h : List (Request × Gave)
@@ -305,4 +304,4 @@ module _ {S : Type 0} (top : ℕ) (machine : S → Action → S × Event) (start
 
         gone : (w : WithdrawnCall) → Gone (addsOf h .withdrawn) (callsSeen (eventsOf h) .withdrawn) w → cellOf (w .call .start .op) ≢ cell
         gone w (inl (v, i, e)) = λ q. F .calls .none-withdrawn v i (ap cellOf e ∙ q)
-        gone w (inr (C, i, e)) = λ q. F .none-withdrawn (withoutParts C) (subst (λ (l : List AddCall). withoutParts C ∈ l) (sym (seen-shows h .withdrawn)) (map-in withoutParts (addsOf h .withdrawn) C i)) (sym e ∙ q)
+        gone w (inr (C, i, e)) = λ q. F .none-withdrawn (withoutParts C) (subst (λ (l : List AddCall). withoutParts C ∈ l) (sym (seen-shows h .withdrawn)) (mem-map withoutParts (addsOf h .withdrawn) C i)) (sym e ∙ q)

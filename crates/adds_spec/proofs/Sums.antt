@@ -13,13 +13,13 @@ use Rattle.history_spec.specs.History.{Op, read, swap, cellOf, Action, begin, A
 use Rattle.history_spec.specs.Linearization.{reply, apply, Point, replies}
 use Rattle.history_spec.specs.Demand3.{Meets}
 use Rattle.history_spec.specs.Moments.{Mark, pointOf, replyOf}
+use Rattle.history_spec.proofs.Basics.{mem-map}
 use Rattle.history_linearization.proofs.Order.{total}
 use Rattle.history_linearization.proofs.Timeline.{leftBy}
 use Rattle.adds_spec.specs.Requests.{Request, act, AmountAdded, AddAnswer, Over, Spent, Gave, RequestEvent, plain, eventsOf, noAdds, withAdds}
 use Rattle.adds_spec.specs.Demand3.{didsOf}
 use Rattle.adds_spec.specs.Adds.{FinishedAdd, addsOf}
 use Rattle.adds_spec.specs.Sums.{amountIf, broughtBy, broughtTo, OnlyAdds}
-use Rattle.adds_spec.proofs.Images.{map-in}
 use Rattle.adds_spec.proofs.Clock.{joined}
 use Rattle.adds_spec.proofs.Reached.{Continues}
 use Rattle.adds_spec.proofs.Adds.{Weights, all-requests}
@@ -127,5 +127,5 @@ module _ {S : Type 0} (top : ℕ) (machine : S → Action → S × Event) (start
       plainly t (read j) g x i e = tt
       plainly t (swap j a n) g x i e = λ z.
           let h = history (withAdds top machine) (start, noAdds) l in
-          let seen = map-in {B = Request × RequestEvent} (λ (x : Request × Gave). (x .0, x .1 .event)) h (act (begin t (swap j a n)), g) i in
+          let seen = mem-map {B = Request × RequestEvent} (λ (x : Request × Gave). (x .0, x .1 .event)) h (act (begin t (swap j a n)), g) i in
           only t a n x (subst (λ (q : Request × RequestEvent). q ∈ eventsOf h) (λ m. (act (begin t (swap (sym z m) a n)), e m)) seen)
