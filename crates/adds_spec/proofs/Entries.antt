@@ -1,7 +1,6 @@
 -- What the entries with adds come to, by what the cells' own entries came to.
 use mathlib.Core.Path.{_≡_, refl, sym, ap, _∙_}
-use mathlib.Core.Bool.{Bool, true, false, _&&_, _||_, cond, and-true, false≢true}
-use mathlib.Core.Option.{Option, none, some}
+use mathlib.Core.Bool.{Bool, true, false, _&&_, _||_, cond, false≢true}
 use mathlib.Core.List.{List, [], _∷_, _++_}
 use Prim.Native.Nat.{ℕ, zero, suc, _+_, _≤_, _<_}
 use native.Mathlib.Omega.{arith}
@@ -28,7 +27,7 @@ use Rattle.cells_spec.proofs.LentLaw.{below-32}
 use Rattle.adds_spec.specs.declared.Add.{Add}
 use Rattle.adds_spec.specs.declared.AddingState.{AddingState}
 use Rattle.adds_spec.specs.Requests.{Over, Spent, Ahead, part, end, ahead, freshAdd, withPart, triesOk}
-use Rattle.adds_spec.specs.Adding.{AddingSaid, Denies, GoesOn, FinishesCall, denies, AddingAfter, addingAfter, unlessDenies, noAdd, addAt, hasAdd, withAdd, withCells, addFit, addsFit, lifted, addingOpened, thenAdd, addQuestions, addBegun, addOnwards, stepEnds, addingStepped, AddingLent, addingLent, lending, addingSteppedLent}
+use Rattle.adds_spec.specs.Adding.{AddingSaid, Denies, GoesOn, FinishesCall, denies, AddingAfter, addingAfter, unlessDenies, noAdd, addAt, hasAdd, withAdd, withCells, addFit, addsFit, lifted, addingOpened, thenAdd, addBegun, addOnwards, stepEnds, addingStepped, addingLent, lending, addingSteppedLent}
 
 or-true : (x : Bool) → (x || true) ≡ true
 or-true true = refl

@@ -3,10 +3,7 @@ use mathlib.Core.Path.{_≡_, sym, ap, _∙_}
 use mathlib.Core.Bool.{true, not}
 use borrow.Author.Needs.{needs}
 use borrow.Author.Tests.{eq-eqb, ne-eqb}
-use Rattle.figure_lines.specs.Record.{noValue}
 use Rattle.figure_lines.specs.Answers.{result}
-use Rattle.cells_spec.specs.Events.{reportOf}
-use Rattle.adds_spec.specs.Requests.{ahead}
 use Rattle.adds_spec.specs.Adding.{addAt, hasAdd, aheadOf, PartsFit}
 use Rattle.adds_spec.proofs.Entries.{goes-on}
 use Rattle.cells.proofs.add_parts.end_part.Statement.{statement}
