@@ -67,10 +67,11 @@ module _ (s : AddingState) (p : List ℕ) (n v b : ℕ) (vs : List ℕ) (a : Aft
 
 -- AN ENTRY THAT GIVES THE TASK AN ADD, OR NONE
 
--- it leaves the pool alone, and does not look at it
+-- by whether the adds are fit, and the cells' own entry acts
 abbrev thenCame : AddingState → List ℕ → (task : ℕ) → Add → State → Said → (f g : Bool) → AddingAfter
 thenCame s p t a c o f g = cond f (cond g (addingAfter (withAdd s c t a) p (lifted o)) (addingAfter s p (lifted o))) (addingAfter s p (Denies 6))
 
+-- it leaves the pool alone, and does not look at it
 pub then-pool : (s : AddingState) (p : List ℕ) (t : ℕ) {a b : Add} {c : State} {o : Said} {y : AddingState} {z : AddingSaid} {r : After} → addingAfter y [] z ≡ thenAdd s [] t a (leaving c [] o) → a ≡ b → leaving c p o ≡ r → addingAfter y p z ≡ thenAdd s p t b r
 then-pool s p t {a} {b} {c} {o} {y} {z} {r} w h e = ap (λ (x : AddingAfter). addingAfter (x .state) p (x .said)) w ∙ go (addsFit s) (acts o) ∙ rw h (ap (thenAdd s p t b) e)
   where
@@ -191,8 +192,8 @@ module _ (s : AddingState) (p : List ℕ) (t : ℕ) where
   goes-or-ends true c q a g (end z) = refl
   goes-or-ends false c q a g w = refl
 
-  ended-acts : (b : Bool) (r : After) (g : Result) → denies (stepEnds s t (addAt (s .adds) t) r (Ended g) .said) ≡ false
-  ended-acts b r g = let a = addAt (s .adds) t in goes-or-ends (hasAdd a) (r .state) (r .pool) a g (ahead noValue a (Events.reportOf g) (g .answer))
+  ended-acts : (r : After) (g : Result) → denies (stepEnds s t (addAt (s .adds) t) r (Ended g) .said) ≡ false
+  ended-acts r g = let a = addAt (s .adds) t in goes-or-ends (hasAdd a) (r .state) (r .pool) a g (ahead noValue a (Events.reportOf g) (g .answer))
 
   pub step-kept : denies (addingStepped s p t .said) ≡ true → addingStepped s p t ≡ addingAfter s p (addingStepped s p t .said)
   unfolding addingStepped
@@ -202,7 +203,7 @@ module _ (s : AddingState) (p : List ℕ) (t : ℕ) where
       go false o e h = refl
       go true (Refused n) e h = ap (λ (x : After). addingAfter s (x .pool) (Denies n)) (step-untouched (s .cells) p t n e)
       go true Acted e h = absurd (false≢true h)
-      go true (Ended g) e h = absurd (false≢true (sym (ended-acts true (stepped (s .cells) p t) g) ∙ h))
+      go true (Ended g) e h = absurd (false≢true (sym (ended-acts (stepped (s .cells) p t) g) ∙ h))
 
   pub step-below : denies (addingStepped s p t .said) ≡ false → t < 32
   unfolding addingStepped
