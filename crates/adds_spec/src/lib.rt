@@ -1,5 +1,7 @@
 // Lists of actions that hold adds too: what an add is, over any machine that has begins, steps and drops of reads and swaps.
 // Adds on the cells: the state with each task's add, and what the entries answer. What they do is defined in specs/.
+#![tactic(auto)]
+
 use cells_spec::State;
 use figure_lines::Finished;
 

@@ -1,1 +1,2 @@
 // Adds on the cells: no code, the theorems stand in proofs/.
+#![tactic(auto)]

@@ -1,5 +1,7 @@
 // Steps 32 tasks on 16 cells 60,000 times by a fixed random schedule, and prints one line of totals. bench/cells has the
 // same loop in plain Rust.
+#![tactic(auto)]
+
 use cells::opening_state::open_state;
 use cells::{Answer, Finished, Outcome, State};
 use libc::STDOUT_FILENO;

@@ -1,4 +1,6 @@
 // What every tool on a session needs room for.
+#![tactic(auto)]
+
 pub mod clearing;
 pub mod copying;
 

@@ -1,5 +1,7 @@
 // Reads a session from standard input and writes its bus times: bus LL LH SL SH HL HH, the low and high time of a load, a store and a
 // hardware CAS, in tenths of a nanosecond.
+#![tactic(auto)]
+
 use buffers::{file_space, lines_space};
 use libc::{STDIN_FILENO, STDOUT_FILENO};
 

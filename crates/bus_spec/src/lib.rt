@@ -1,1 +1,2 @@
 // What bus prints: definitions, in specs/, and what the printed totals bound, in proofs/.
+#![tactic(auto)]

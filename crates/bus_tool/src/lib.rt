@@ -1,4 +1,6 @@
 // Prints the bus times of a session file.
+#![tactic(auto)]
+
 mod calls;
 mod opened;
 mod play;

@@ -1,4 +1,6 @@
 // The entries that firmware links, and every type that their users name.
+#![tactic(auto)]
+
 mod add_parts;
 mod add_replies;
 pub mod adding;

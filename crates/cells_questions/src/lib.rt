@@ -1,4 +1,6 @@
 // The questions, asked in their order.
+#![tactic(auto)]
+
 mod counting;
 pub mod fitness;
 pub mod open_refusals;

@@ -1,6 +1,8 @@
 // Shared compare-and-swap cells after figure 2 of Luchangco, Moir and Shavit: the types of their state, of what follows a line, of the
 // actions and of the entries' answers. What the questions ask and what the entries do is defined in specs/; each entry promises one equation,
 // whether it is refused or not. The crate `cells` has them.
+#![tactic(auto)]
+
 use figure_lines::{Answer, Finished, Record};
 
 #[derive(Drop)]

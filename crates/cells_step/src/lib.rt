@@ -1,4 +1,6 @@
 // One line of figure 2 on the lent pool, and what follows it.
+#![tactic(auto)]
+
 pub mod blocks;
 mod deciding;
 mod filling;

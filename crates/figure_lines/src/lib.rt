@@ -1,5 +1,7 @@
 // The lines of figure 2 without its memory: a task's record, what its next line accesses, and what follows. What they do is
 // defined in specs/; the figure with a new block each time runs these definitions, and the code of cells_step::runs::run does what they say.
+#![tactic(auto)]
+
 pub mod records;
 
 // What a task's pending call is about to do, and with what. Idle: line 0; an opening and a finished call leave every

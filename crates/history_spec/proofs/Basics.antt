@@ -69,6 +69,7 @@ mem_append (x ∷ l) m a (inr i) = go (mem_append l m a i)
 pub mem_left : {A : Type 0} (l m : List A) (a : A) → a ∈ l → a ∈ (l ++ m)
 mem_left (x ∷ l) m a (inl e) = inl e
 mem_left (x ∷ l) m a (inr i) = inr (mem_left l m a i)
+mem_left {A = A} [] m a x' = elim x' [ ]
 
 pub mem_right : {A : Type 0} (l m : List A) (a : A) → a ∈ m → a ∈ (l ++ m)
 mem_right [] m a i = i
@@ -77,6 +78,7 @@ mem_right (x ∷ l) m a i = inr (mem_right l m a i)
 pub mem_map : {A B : Type 0} (f : A → B) (l : List A) (a : A) → a ∈ l → f a ∈ map f l
 mem_map f (x ∷ l) a (inl e) = inl (ap f e)
 mem_map f (x ∷ l) a (inr i) = inr (mem_map f l a i)
+mem_map {A = A} {B = B} f [] a x' = elim x' [ ]
 
 pub replicate_at : {A : Type 0} (a : A) (n k : ℕ) → get_or (replicate n a) k a ≡ a
 replicate_at a zero k = refl

@@ -94,9 +94,11 @@ within-bounds f h r = record { ended = ended; reported = reported; unended = λ 
   where
     ended : (g : FinishedCall) → g ∈ (f ∷ []) → (g.call.steps ≤ most g.call.start.op) × (attempts g.call ≤ most_hard g.call.start.op)
     ended g (inl q) = rw q h
+    ended g (inr x') = elim x' [ ]
 
     reported : (g : FinishedCall) → g ∈ (f ∷ []) → Reports g.call g.report
     reported g (inl q) = rw q r
+    reported g (inr x') = elim x' [ ]
 
 pub longest-read : Bounds (only (ended 0 0 (read 0) [] 6 6 0 1 (Value 5)))
 longest-read = within-bounds _ (omega arith) (record { kind = refl; cell = refl; steps = refl; won = refl; lost = refl })
@@ -117,6 +119,7 @@ needless_alone op a d n i u q ne = absurd (go (the_calls_lem (calls_of (trying o
   where
     go : d ∈ ((needless op a).call ∷ []) → ⊥
     go (inl q) = ne (ap (λ (c : Call). c.start.at) q)
+    go (inr x') = elim x' [ ]
 
 -- WRONG: a swap does so, alone and on a clear cell
 pub no_hardware_cas_alone : NoHardware (λ l k. Unit {0}) (calls_of (trying (swap 0 5 7) Yes)) → ⊥
@@ -139,6 +142,7 @@ hardware_cas_where_the_block_is_active c n i reads active alone = absurd (go (th
   where
     go : c ∈ ((needless (swap 0 5 7) Yes).call ∷ []) → ⊥
     go (inl q) = let e : ◌≡◌ {A = ℕ} 5 7 = subst (λ (c : Call). Reads c.start.op) q reads in omega arith
+    go (inr x') = elim x' [ ]
 
 -- where the cell is not clear, the swap is right
 pub hardware_cas_on_a_cell_that_is_not_clear : NoHardware (λ l k. ⊥) (calls_of (trying (swap 0 5 7) Yes))
@@ -164,6 +168,7 @@ no_hardware_cas_beside_an_equal_swap h = omega (arith, h beside.call 2 (finished
         go : d ∈ (equal ∷ beside.call ∷ []) → ⊥
         go (inl q) = subst (λ (d : Call). Unequal d.start.op) q u refl
         go (inr (inl q)) = ne (ap (λ (c : Call). c.start.at) q)
+        go (inr (inr x'')) = elim x'' [ ]
 
 -- a swap that begins after the drop of another tries the hardware CAS: a withdrawn call contends until its drop
 abbrev after_a_drop : List (Action × Event)
@@ -186,6 +191,8 @@ no_hardware_cas_after_a_drop h = omega (arith, h after.call 3 (finished after (i
     alone d n (finished f (inl e)) u q ne = absurd (ne (ap (λ (f : FinishedCall). f.call.start.at) e))
     alone d n (pending t c h) u q ne = absurd (clash (none_pending t (either t 0) (either t 1)) h)
     alone d n (withdrawn w (inl e)) u q ne = inl (omega (arith, ap (λ (w : WithdrawnCall). w.end) e))
+    alone d _ (finished _ (inr x20)) u q ne = elim x20 [ ]
+    alone d n (withdrawn _ (inr x9)) u q ne = elim x9 [ ]
 
 -- where the block is active and Y may be true, that swap is right: one was withdrawn before its begin
 pub hardware_cas_after_a_drop : NoHardwareUndropped (λ l k. Unit {0}) (calls_of after_a_drop)
@@ -193,6 +200,8 @@ unfolding upd
 hardware_cas_after_a_drop c n (finished f (inl e)) unwithdrawn active alone = absurd (omega (arith, ap (λ (f : FinishedCall). f.call.start.at) e, unwithdrawn _ (inl refl) (λ z. omega arith) (ap (λ (f : FinishedCall). cell_of f.call.start.op) (sym e))))
 hardware_cas_after_a_drop c n (pending t d h) unwithdrawn active alone = absurd (clash (none_pending t (either t 0) (either t 1)) h)
 hardware_cas_after_a_drop c n (withdrawn w (inl e)) unwithdrawn active alone = ap (λ (w : WithdrawnCall). attempts w.call) e
+hardware_cas_after_a_drop c _ (finished _ (inr x20)) unwithdrawn active alone = elim x20 [ ]
+hardware_cas_after_a_drop c n (withdrawn _ (inr x9)) unwithdrawn active alone = elim x9 [ ]
 
 -- WRONG: a swap does so alone, where the block is active and none was withdrawn before; that it is withdrawn later is no excuse
 abbrev then_dropped : List (Action × Event)
@@ -216,3 +225,4 @@ no_hardware_cas_before_its_own_drop h = omega (arith, h gone.call 2 (withdrawn g
         idle t (inl e) = rw e
         idle t (inr e) = rw (ne_eqb t 0 e)
     alone d n (withdrawn w (inl e)) u q ne = absurd (ne (ap (λ (w : WithdrawnCall). w.call.start.at) e))
+    alone d n (withdrawn _ (inr x8)) u q ne = elim x8 [ ]

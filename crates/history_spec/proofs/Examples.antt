@@ -59,6 +59,7 @@ ats l = map (λ e. e.call.at) l
 to_ats : (l : List Point) (x : Point) → x ∈ l → x.call.at ∈ ats l
 to_ats (y ∷ l) x (inl h) = inl (ap (λ (x : Point). x.call.at) h)
 to_ats (y ∷ l) x (inr h) = inr (to_ats l x h)
+to_ats [] x x3 = elim x3 [ ]
 
 not_again : (xs ys : List Point) (x y : Point) → Once (ats (xs ++ (x ∷ ys))) → y ∈ ys → y.call.at ≡ x.call.at → ⊥
 not_again [] ys x y o i q = o.0 (subst (λ n. n ∈ ats ys) q (to_ats ys y i))
@@ -147,6 +148,7 @@ said k (p ∷ l) = eqb k (code p.0.call.at p.1) || said k l
 in_said : (r : List (Point × Response)) (p : Point × Response) → p ∈ r → T (said (code p.0.call.at p.1) r)
 in_said (q ∷ r) p (inl h) = rw (eq-eqb (code p.0.call.at p.1) (code q.0.call.at q.1) (ap (λ (p : Point × Response). code p.0.call.at p.1) h)) tt
 in_said (q ∷ r) p (inr h) = or_right (eqb (code p.0.call.at p.1) (code q.0.call.at q.1)) (said (code p.0.call.at p.1) r) (in_said r p h)
+in_said [] p x' = elim x' [ ]
 
 abbrev wanted : Calls → List ℕ
 wanted b = map (λ f. code f.call.start.at f.report.answer) b.finished
@@ -157,6 +159,7 @@ must {values} {l = l} r (f ∷ fs) h k (inl e) =
     let a = r.answers f (h f (inl refl)) in
     rw e (subst (λ (s : CallId). T (said (code s.at f.report.answer) (replies values l))) a.1 (in_said (replies values l) (a.0, f.report.answer) a.4))
 must r (f ∷ fs) h k (inr i) = must r fs (λ g j. h g (inr j)) k i
+must {values = values} {b = b} {l = l} r [] h k x'' = elim x'' [ ]
 
 -- the calls cs can be drawn in no order that has the wanted answers: `given` are those of the calls so far
 module _ (cs : List Call) (answers : List ℕ) where
@@ -259,17 +262,21 @@ late_linearizes m low high = record { sorted = ((λ x i. omega (arith, first x i
   where
     first : (x : Point) → x ∈ (point decider 15 ∷ []) → m ≤ x.moment
     first x (inl q) = rw q (omega arith)
+    first x (inr x'') = elim x'' [ ]
 
     other : ◌∈◌ {A = ℕ} 0 (1 ∷ []) → ⊥
     other (inl q) = omega arith
+    other (inr x') = elim x' [ ]
 
     placed : (x : Point) → x ∈ (point halted m ∷ point decider 15 ∷ []) → Placed (calls_of late_swap) x
     placed x (inl q) = rw q (record { call = halted; end = 17; of_history = late_halted; is = refl; after-begin = low; by_last_step = high })
     placed x (inr (inl q)) = rw q (record { call = decider; end = 16; of_history = finished decided (inl refl); is = refl; after-begin = omega arith; by_last_step = omega arith })
+    placed x (inr (inr x3)) = elim x3 [ ]
 
     answers : (f : FinishedCall) → f ∈ (decided ∷ []) →
         (e : Point) × (e.call ≡ f.call.start) × (f.call.start.at < e.moment) × (e.moment ≤ f.call.last) × ((e, f.report.answer) ∈ replies five (point halted m ∷ point decider 15 ∷ []))
     answers f (inl q) = rw q (point decider 15, refl, omega arith, omega arith, inr (inl refl))
+    answers f (inr x') = elim x' [ ]
 
 -- RIGHT: at the action that made the block inactive, where the source puts it; and at its own store
 pub late_swap_at_the_freezing : Linearizes five (calls_of late_swap) (point halted 12 ∷ point decider 15 ∷ [])
@@ -293,13 +300,16 @@ late_swap_meets_demand_3 = record {
   where
     ended : (f : FinishedCall) → f ∈ (decided ∷ []) → (f.call.steps ≤ most f.call.start.op) × (attempts f.call ≤ most_hard f.call.start.op)
     ended f (inl q) = rw q (omega arith)
+    ended f (inr x') = elim x' [ ]
 
     reported : (f : FinishedCall) → f ∈ (decided ∷ []) → Reports f.call f.report
     reported f (inl q) = rw q (record { kind = refl; cell = refl; steps = refl; won = refl; lost = refl })
+    reported f (inr x') = elim x' [ ]
 
     unended : (c : Call) → c ∈ (halted ∷ decider ∷ []) → (c.steps < most c.start.op) × (attempts c ≤ most_hard c.start.op)
     unended c (inl q) = rw q (omega arith)
     unended c (inr (inl q)) = rw q (omega arith)
+    unended c (inr (inr x'')) = elim x'' [ ]
 
     apart : (c : Call) (n : ℕ) → 0 < n → c ≡ decider → Alone (calls_of late_swap) c n → ⊥
     apart c n h q l = contends (calls_of late_swap) decider halted 17 n late_halted (λ e. omega arith) refl (λ e. omega arith) (omega arith) h
@@ -309,6 +319,9 @@ late_swap_meets_demand_3 = record {
     hard c n i l (inl q) = ap attempts q
     hard c n (finished f i) l (inr (inl q)) = absurd (apart f.call f.call.last (rw q (omega arith)) q l)
     hard c n (pending t d h) l (inr (inl q)) = absurd (apart c 17 (omega arith) q l)
+    hard c _ (finished _ i) l (inr (inr x8)) = elim x8 [ ]
+    hard c _ (pending t _ h) l (inr (inr x8)) = elim x8 [ ]
+    hard c n (withdrawn _ x12) l (inr _) = elim x12 [ ]
 
 late_drawn : {l : List Point} → Linearizes five (calls_of late_swap) l → Drawn (halted ∷ decider ∷ []) l
 unfolding upd
@@ -321,6 +334,7 @@ no_effect_after_the_last_step l m h i r = go (late_drawn r (point halted m) i)
     go : (c : Call) × (c ∈ (halted ∷ decider ∷ [])) × Is c (point halted m) → ⊥
     go (c, inl q, d) = omega (arith, d.2, ap (λ (c : Call). c.last) q)
     go (c, inr (inl q), d) = omega (arith, ap (λ (s : CallId). s.at) d.0, ap (λ (c : Call). c.start.at) q)
+    go (c, inr (inr x4), d) = elim x4 [ ]
 
 -- WRONG: the halted swap left out, though the other call saw its value; the finished call left out
 pub no_seen_swap_left_out : (l : List Point) → ((x : Point) → x ∈ l → x.call ≢ halted.start) → Linearizes five (calls_of late_swap) l → ⊥
@@ -338,6 +352,7 @@ no_finished_call_left_out l out r = refuted (halted ∷ []) (λ x i. go x i (lat
     go : (x : Point) → x ∈ l → (c : Call) × (c ∈ (halted ∷ decider ∷ [])) × Is c x → (c : Call) × (c ∈ (halted ∷ [])) × Is c x
     go x i (c, inl q, d) = (c, inl q, d)
     go x i (c, inr (inl q), d) = absurd (out x i (d.0 ∙ ap (λ (c : Call). c.start) q))
+    go x i (c, inr (inr x5), d) = elim x5 [ ]
 
 -- a call of one step or more, finished as reported
 abbrev pub ended : (at task : ℕ) → Op → List Action → (last steps won lost : ℕ) → Response → FinishedCall
@@ -359,10 +374,12 @@ equal_swap_placed = record { sorted = ((λ x i. absurd i), tt); placed = placed;
   where
     placed : (x : Point) → x ∈ (point equal_yes.call 2 ∷ []) → Placed (calls_of equal_swap) x
     placed x (inl q) = rw q (record { call = equal_yes.call; end = 3; of_history = finished equal_yes (inl refl); is = refl; after-begin = omega arith; by_last_step = omega arith })
+    placed x (inr x'') = elim x'' [ ]
 
     answers : (f : FinishedCall) → f ∈ (equal_yes ∷ []) →
         (e : Point) × (e.call ≡ f.call.start) × (f.call.start.at < e.moment) × (e.moment ≤ f.call.last) × ((e, f.report.answer) ∈ replies five (point equal_yes.call 2 ∷ []))
     answers f (inl q) = rw q (point equal_yes.call 2, refl, omega arith, omega arith, inl refl)
+    answers f (inr x') = elim x' [ ]
 
 -- RIGHT: a withdrawn swap is placed before its drop, and a later read sees it
 abbrev seen-withdrawn : List (Action × Event)
@@ -380,17 +397,21 @@ withdrawn_swap_placed = record { sorted = (first, ((λ x i. absurd i), tt)); pla
   where
     first : (x : Point) → x ∈ (point its_reader.call 4 ∷ []) → 1 ≤ x.moment
     first x (inl q) = rw q (omega arith)
+    first x (inr x'') = elim x'' [ ]
 
     other : ◌∈◌ {A = ℕ} 0 (3 ∷ []) → ⊥
     other (inl q) = omega arith
+    other (inr x') = elim x' [ ]
 
     placed : (x : Point) → x ∈ (point dropped-swap.call 1 ∷ point its_reader.call 4 ∷ []) → Placed (calls_of seen-withdrawn) x
     placed x (inl q) = rw q (record { call = dropped-swap.call; end = _; of_history = withdrawn dropped-swap (inl refl); is = refl; after-begin = omega arith; by_last_step = omega arith })
     placed x (inr (inl q)) = rw q (record { call = its_reader.call; end = 4; of_history = finished its_reader (inl refl); is = refl; after-begin = omega arith; by_last_step = omega arith })
+    placed x (inr (inr x3)) = elim x3 [ ]
 
     answers : (f : FinishedCall) → f ∈ (its_reader ∷ []) →
         (e : Point) × (e.call ≡ f.call.start) × (f.call.start.at < e.moment) × (e.moment ≤ f.call.last) × ((e, f.report.answer) ∈ replies five (point dropped-swap.call 1 ∷ point its_reader.call 4 ∷ []))
     answers f (inl q) = rw q (point its_reader.call 4, refl, omega arith, omega arith, inr (inl refl))
+    answers f (inr x') = elim x' [ ]
 
 -- WRONG ANSWERS: no linearization has them
 

@@ -1,4 +1,6 @@
 // Reads a session from standard input and writes when each of its calls took effect.
+#![tactic(auto)]
+
 use buffers::{file_space, lines_space};
 use libc::{STDIN_FILENO, STDOUT_FILENO};
 use moments_tool::run_moments;

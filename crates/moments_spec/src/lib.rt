@@ -1,1 +1,2 @@
 // When each call of a session took effect, as text: definitions in specs/, and the theorem that the printed order is a linearization.
+#![tactic(auto)]

@@ -1,4 +1,6 @@
 // Prints when each call of a session file took effect.
+#![tactic(auto)]
+
 mod calls;
 mod made;
 mod notes;

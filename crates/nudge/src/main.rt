@@ -1,4 +1,6 @@
 // Reads a session from standard input and writes the smallest nudge of a call: nudge TASK FINISHED-BEFORE.
+#![tactic(auto)]
+
 use buffers::file_space;
 use libc::{STDIN_FILENO, STDOUT_FILENO};
 use nudge_tool::run_nudge;

@@ -1,4 +1,6 @@
 // Finds the smallest nudge of a call of a session, and prints it.
+#![tactic(auto)]
+
 mod answer;
 mod calls;
 mod exchange;

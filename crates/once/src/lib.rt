@@ -1,5 +1,7 @@
 // The entries of the once-only cells, and their types. What they do is defined in the crate once_spec;
 // each promises one equation, whether it is refused or not.
+#![tactic(auto)]
+
 mod offers;
 mod opening;
 mod questions;

@@ -1,5 +1,6 @@
 // One-shot consensus after figure 1 of Luchangco, Moir and Shavit: the types of the once-only cells. What is done with them
 // is defined in specs/; the invariant of one cell is proved in proofs/, and so is that tasks agree.
+#![tactic(auto)]
 
 // The figure's words, and who has offered there.
 #[derive(Drop)]

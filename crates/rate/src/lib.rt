@@ -1,4 +1,6 @@
 // The rate of a unit, for the session program and for C: `rt staticlib rate`, include/lisqotay.h.
+#![tactic(auto)]
+
 ghost use Rattle.std.specs.Prelude.{◌≡◌};
 ghost use Rattle.rate.specs.Rate.{rate};
 

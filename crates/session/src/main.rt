@@ -1,4 +1,6 @@
 // Reads a session from standard input and writes what it prints.
+#![tactic(auto)]
+
 use buffers::{file_space, text_space};
 use libc::{STDIN_FILENO, STDOUT_FILENO};
 use session_tool::run_session;

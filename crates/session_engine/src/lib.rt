@@ -1,4 +1,6 @@
 // A session opened, and one action done in place.
+#![tactic(auto)]
+
 pub mod actions;
 pub mod advance;
 mod moves;

@@ -1,4 +1,6 @@
 // Reads a session file: the first of questions 12 to 15 that is answered no, or the session.
+#![tactic(auto)]
+
 mod forms;
 mod items;
 mod keeping;

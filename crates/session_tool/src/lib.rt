@@ -1,4 +1,6 @@
 // Runs a session file and prints its lines.
+#![tactic(auto)]
+
 mod opened;
 mod play;
 mod printing;

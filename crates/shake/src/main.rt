@@ -1,4 +1,6 @@
 // Writes the session that is drawn from a seed: shake SEED N V B LENGTH.
+#![tactic(auto)]
+
 use buffers::session_space;
 use libc::STDOUT_FILENO;
 

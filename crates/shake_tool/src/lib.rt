@@ -1,4 +1,6 @@
 // Sessions drawn from a seed.
+#![tactic(auto)]
+
 mod actions;
 mod drawing;
 mod generator;

@@ -11,6 +11,8 @@
 //   also whether it was answered yes, its steps, and its hardware CAS won and lost
 // - D: so many drops: for each the answer; after one that acted the line of the task's record, 0 if its other fields are 0,
 //   and how many times each block is used
+#![tactic(auto)]
+
 mod drops;
 mod lent_step;
 

@@ -2,6 +2,8 @@
 // (open N V), (offer T K value), (step T); each open starts a list. Prints (no i R) for a refused move, i counted from 0
 // after its open, and (done T K value steps hard) for a finished call. After a refused open, moves are skipped. A line that
 // is no form and a first one that is no open give (bad 14), and end.
+#![tactic(auto)]
+
 ghost use Rattle.std.specs.Prelude.{◌≤◌, length};
 
 use libc::{STDIN_FILENO, STDOUT_FILENO};

@@ -1,5 +1,7 @@
 // Writes the name of each case that an argument names, and what the tool prints of it in whose folder it stands. Where a tool
 // takes numbers, the first lines have one each; a case that has not gives (bad 14), as does a folder of no tool.
+#![tactic(auto)]
+
 ghost use Rattle.io.specs.Counts.{IsPrefixLen};
 
 use buffers::{lines_space, session_space};

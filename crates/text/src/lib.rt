@@ -1,4 +1,6 @@
 // Text at a place of a lent buffer: appended; and what a reader answers.
+#![tactic(auto)]
+
 pub mod arguments;
 pub mod decimals;
 pub mod numbered;
