@@ -11,10 +11,10 @@ use Rattle.cells_step.proofs.blocks.unused_block.Goals as goal
 use Rattle.cells_step.proofs.blocks.unused_block.Goals.{Else-not-blocks-last}
 
 guarded : (c : Else-not-blocks-last) → let a = c.args in leb a.blocks 128 && ltb a.last a.blocks ≡ true
-guarded c = not-false _ c.if-not-blocks-last.false
+guarded c = c.if-not-blocks-last.false
 
 pub returns-then-not-blocks-last : goal.returns-then-not-blocks-last
-returns-then-not-blocks-last c = let a = c.args in sym (finds_none a.counts.now a.blocks a.last (not-true _ c.if-not-blocks-last.true))
+returns-then-not-blocks-last c = let a = c.args in sym (finds_none a.counts.now a.blocks a.last c.if-not-blocks-last.true)
 
 pub block_after-b-requires : goal.block_after-b-requires
 block_after-b-requires c = let a = c.args in (starts a.counts.now a.blocks a.last (guarded (goal.at.block_after-b-requires c).Else-not-blocks-last)).1

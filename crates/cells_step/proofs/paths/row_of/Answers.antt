@@ -12,10 +12,10 @@ loop-i-init c = (search rules, refl)
 
 pub returns-then-count_of-steps : goal.returns-then-count_of-steps
 returns-then-count_of-steps c = let d = c in
-    let l = d.before.before.before.before.loop in
-    let a = d.before.before.before.before.before.args in
-    let e = rw (d.before.before.count_of.ensures, d.before.count-of2.ensures) at d.if1.true in
-    rw (c.count_of-then-count_of-steps.ensures, c.count_of-then-count_of-steps-2.ensures) (row_here l.i a.steps a.hard l.invariant.1 d.before.before.before.loop-test.true e)
+    let l = d.loop-i in
+    let a = d.args in
+    let e = rw (d.count_of.ensures, d.count_of-in-loop-i.ensures) at d.if-count_of-steps.true in
+    rw (c.count_of-then-count_of-steps.ensures, c.count_of-then-count_of-steps-2.ensures) (row_here l.i a.steps a.hard l.invariant.1 d.loop-i-test.true e)
 
 pub loop-i-smaller : goal.loop-i-smaller
 loop-i-smaller c = omega arith
