@@ -1,4 +1,4 @@
-use Rattle.std.proofs.Common.{arith, ◌≡◌, ◌≤◌, ℕ, ap, sym, ◌∙◌, replicate, not}
+use Rattle.std.proofs.Common.{arith, ◌≤◌, ℕ, ap, sym, ◌∙◌, replicate, not}
 use borrow.Author.Tests.{not-true, not-false}
 use Rattle.session_reader.proofs.Verdicts.{is_12, is_13, unopened, unformed, is_15, is-session, alike, written_over}
 use Rattle.session_reader.proofs.Denoting.{kept-actions}

@@ -1,10 +1,8 @@
 use native.Mathlib.Omega.{arith}
 use Rattle.session_spec.proofs.Shapes.{shaped-end, shaped-more, still_8}
-use Rattle.session_spec.specs.Shape.{shaped, shaped_after}
-use lib.ListN.{length, drop, get_or}
+use lib.ListN.{get_or}
 use borrow.Author.Tests.{not-true, not-false}
-use Prim.Native.Nat.{◌-◌, ◌≤◌}
-use mathlib.Core.Path.{◌≡◌, sym, ◌∙◌}
+use mathlib.Core.Path.{sym, ◌∙◌}
 use Rattle.std.proofs.Common.{ap}
 use Rattle.std.proofs.Common.{not}
 use Rattle.std.proofs.Common.{rules}
