@@ -60,18 +60,6 @@ bounds-s-k c = (sound (goal.at.bounds-s-k c).Else-r-eq0).0
 pub take_turn-a-requires : goal.take_turn-a-requires
 take_turn-a-requires c = (sound (goal.at.take_turn-a-requires c).Else-r-eq0).1
 
-pub offset_bounds-s-k-2 : goal.offset_bounds-s-k-2
-offset_bounds-s-k-2 c = omega (arith, (sound (goal.at.offset_bounds-s-k-2 c).Else-r-eq0).0)
-
-pub bounds-s-k-2 : goal.bounds-s-k-2
-bounds-s-k-2 c = (sound (goal.at.bounds-s-k-2 c).Else-r-eq0).0
-
-pub offset_bounds-s-t-2 : goal.offset_bounds-s-t-2
-offset_bounds-s-t-2 c = omega (arith, (known (goal.at.offset_bounds-s-t-2 c).Else-n-ne0).below)
-
-pub bounds-s-t-2 : goal.bounds-s-t-2
-bounds-s-t-2 c = (known (goal.at.bounds-s-t-2 c).Else-n-ne0).below
-
 pub returns : goal.returns
 unfolding once_stepped
 returns c = let e = c.args in
