@@ -10,6 +10,9 @@ use std::env::FillError;
 use std::io::Write;
 use std::rt::Env;
 
+// More than the arguments of any tool take together.
+pub const ARGUMENT_ROOM: usize = 4096;
+
 fn partial(count: usize) -> Input
     ensures { result.count ≡ count }
 {
