@@ -141,7 +141,7 @@ module _ {S N : Type 0} {machine : S → Action → S × Event} {note : N → S 
           b' = enter b (drop t) (accepted y)
 
           go : w ∈ (last-withdrawn b G.dated t y c busy ∷ b.withdrawn) → NoneWithdrawn b' w.call → Alone b' w.call w.end → Finds w.call.start
-          go (inl z) = rw z (was (drops {x = y} c busy) c c b.now b.now (pending t c busy) refl (omega arith))
+          go (inl z) = subst (λ (w : WithdrawnCall). NoneWithdrawn b' w.call → Alone b' w.call w.end → Finds w.call.start) (sym z) (was (drops {x = y} c busy) c c b.now b.now (pending t c busy) refl (omega arith))
           go (inr j) = same (drops {x = y} c busy) d m (withdrawn w j)
 
     -- after all actions

@@ -11,7 +11,7 @@ use std::io::{Error, ErrorKind, Read, Write};
 const PATIENCE: usize = 1000;
 
 // How many bytes stand at the buffer's start, and whether they are all that was to be read: not where a read failed.
-#[derive(Drop)]
+#[derive(Clone, Copy)]
 pub struct Input {
     pub count: usize,
     pub whole: bool,
