@@ -13,7 +13,7 @@ use Rattle.cells.proofs.adding.lent_turn.Goals.{Joined-task-lt32}
 holds : (c : Joined-task-lt32) → let e = c.args in c.if-task-lt32.cells ≡ with_record e.s.cells e.task e.r
 holds c =
     let e = c.args in
-    placed e.s.cells e.task e.r c.if-task-lt32.cells (has_32_records e.s _ c.well_formed.0) (⊎_elim (λ w. inl w.1) (λ w. inr (w.0.left, w.1)) c.if-task-lt32.branch-raw)
+    placed e.s.cells e.task e.r c.if-task-lt32.cells (has_32_records e.s _ c.well_formed.0) (⊎_elim (λ w. inl w.cells-is) (λ w. inr (w.if-task-lt32.false, w.cells-is)) c.if-task-lt32.branch-raw)
 
 pub returns-then-is_denied : goal.returns-then-is_denied
 returns-then-is_denied c = let e = c.args in

@@ -30,7 +30,7 @@ number c =
     c.begin_refusal-n.ensures
     ∙ ap (λ (o : Option ℕ). get_or o 0)
     (asked_of _ (fit s e.pool.now) (ltb e.task s.tasks) _ (record_at s.records e.task) (more s e.q) c.is_fit-fit.ensures
-    (⊎_elim (λ w. inl (w.0.taken, w.2)) (λ w. inr w.0.left) c.if-fit-task.branch-raw))
+    (⊎_elim (λ w. inl (w.if-fit-task.true, w.r-is)) (λ w. inr w.if-fit-task.false) c.if-fit-task.branch-raw))
 
 pub bounds-s-t : goal.bounds-s-t
 bounds-s-t c = let e = c.args in task-below e.s e.pool.now e.task _ c.is_fit-fit.ensures c.if-fit-task.true

@@ -13,7 +13,7 @@ use Rattle.cells.proofs.lent.lent_turn.Goals.{Joined-task-lt32}
 holds : (c : Joined-task-lt32) → let e = c.args in c.if-task-lt32.q ≡ with_record e.s e.task e.r
 holds c =
     let e = c.args in
-    placed e.s e.task e.r c.if-task-lt32.q (has_32 e.s _ c.well_formed.0) (⊎_elim (λ w. inl w.1) (λ w. inr (w.0.left, w.1)) c.if-task-lt32.branch-raw)
+    placed e.s e.task e.r c.if-task-lt32.q (has_32 e.s _ c.well_formed.0) (⊎_elim (λ w. inl w.q-is) (λ w. inr (w.if-task-lt32.false, w.q-is)) c.if-task-lt32.branch-raw)
 
 pub returns-then-is_refused : goal.returns-then-is_refused
 returns-then-is_refused c = let e = c.args in

@@ -27,7 +27,7 @@ loop-k-smaller c = omega arith
 
 pub loop-k-preserved : goal.loop-k-preserved
 loop-k-preserved c = let l = c.loop-k in
-    (omega arith, c.fill.auto.0 ∙ l.invariant.1, rw c.fill.ensures (fill-next l.pool c.args.values.now l.k l.invariant.2 c.loop-k-test.true))
+    (omega arith, c.fill.auto.pool ∙ l.invariant.1, rw c.fill.ensures (fill-next l.pool c.args.values.now l.k l.invariant.2 c.loop-k-test.true))
 
 pub shape_of-pool : goal.shape_of-pool
 shape_of-pool c = c.loop-k.invariant.1

@@ -24,7 +24,7 @@ returns-then-n-ne0 c = let e = c.args in
 pub fill_blocks-requires : goal.fill_blocks-requires
 fill_blocks-requires c = let e = c.args in
     let z = opens e.pool.now e.values.now e.tasks e.cells e.blocks (asked (goal.at.fill_blocks-requires c).Else-n-ne0) in
-    let l = c.clear.auto.0 in
+    let l = c.clear.auto.words in
     (z.1, omega (arith, z.2))
 
 pub open_state-requires : goal.open_state-requires

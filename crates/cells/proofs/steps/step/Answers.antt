@@ -28,10 +28,10 @@ more f q = (11, not (is_idle q)) ∷ (20, not (eqb q.line 4) || is_found f) ∷ 
 
 -- the record is the task's, or nobody has one
 came : (c : Joined-fit-task) → let e = c.args in let x = c.is_fit-fit.result && ltb e.task e.s.tasks in ((x ≡ true) × (c.if-fit-task.r ≡ record_at e.s.records e.task)) ⊎ (x ≡ false)
-came c = ⊎_elim (λ w. inl (w.0.taken, w.2)) (λ w. inr w.0.left) c.if-fit-task.branch-raw
+came c = ⊎_elim (λ w. inl (w.if-fit-task.true, w.r-is)) (λ w. inr w.if-fit-task.false) c.if-fit-task.branch-raw
 
 free : (c : Joined-r-eq4) → Free c.args.s c.if-fit-task.r (found_of c.if-r-eq4.free)
-free c = ⊎_elim (λ w. inl (ap found_of w.4 ∙ w.3.ensures)) (λ w. inr (w.0.left, ap found_of w.1)) c.if-r-eq4.branch-raw
+free c = ⊎_elim (λ w. inl (ap found_of w.free-is ∙ w.unused_block-free.ensures)) (λ w. inr (w.if-r-eq4.false, ap found_of w.free-is)) c.if-r-eq4.branch-raw
 
 number : (c : After-step_refusal-n) → c.step_refusal-n.result ≡ get_or (refusal (let e = c.args in step_asks e.s e.pool.now e.task)) 0
 number c =
