@@ -15,4 +15,4 @@ pub slice_bounds-open-end-2 : goal.slice_bounds-open-end-2
 slice_bounds-open-end-2 c = sym (length-take-le _ _ (omega (arith, new_length c.requires, c.pool_words-words.ensures.1)))
 
 pub returns : goal.returns
-returns c = let a = c.args in let en = c.requires in let w = c.pool_words-words in let o = c.open-first in let eb = c.blank.ensures in record { by_index = λ f k. c.opening_of.ensures.p_value _ f k _ ∙ ap (start_after a.tasks a.cells (map (act_at f) (take a.actions k))) (opens a.tasks a.cells a.blocks a.values.now a.pool.now en w.ensures.0 w.ensures.1 eb o.ensures o.auto.1.0); opens = c.opening_of.ensures.opens _ _ (newly a.tasks a.cells a.blocks a.values.now a.pool.now en w.ensures.0 w.ensures.1 eb o.ensures o.auto.1.0); pool_after = in_pool_lem a.tasks a.cells a.blocks a.values.now a.pool.now en w.ensures.0 w.ensures.1 eb o.ensures o.auto.1.0 }
+returns c = let a = c.args in let en = c.requires in let w = c.pool_words-words in let o = c.open-first in let eb = c.blank.ensures in record { by_index = λ f k. c.opening_of.ensures.p_value _ f k _ ∙ ap (start_after a.tasks a.cells (map (act_at f) (take a.actions k))) (opens a.tasks a.cells a.blocks a.values.now a.pool.now en w.ensures.0 w.ensures.1 eb o.ensures o.auto.pool); opens = c.opening_of.ensures.opens _ _ (newly a.tasks a.cells a.blocks a.values.now a.pool.now en w.ensures.0 w.ensures.1 eb o.ensures o.auto.pool); pool_after = in_pool_lem a.tasks a.cells a.blocks a.values.now a.pool.now en w.ensures.0 w.ensures.1 eb o.ensures o.auto.pool }
