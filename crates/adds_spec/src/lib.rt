@@ -7,7 +7,7 @@ use figure_lines::Finished;
 
 // An add under way: its amount and tries as begun; its swaps that answered no; the counts of its reads and swaps that ended.
 // No add: tries 0; an opening, a begin, a drop and a finished add leave every other field 0 too.
-#[derive(Drop)]
+#[derive(Clone, Copy)]
 pub struct Add {
     pub amount: u32,
     pub tries: u32,
@@ -18,13 +18,13 @@ pub struct Add {
 }
 
 // The cells' state, and beside its records each task's add.
-#[derive(Drop)]
+#[derive(Clone, Copy)]
 pub struct AddingState {
     pub cells: State,
     pub adds: [Add; 32],
 }
 
-#[derive(Drop)]
+#[derive(Clone, Copy)]
 pub enum AddVerdict {
     Added,
     Over,
@@ -32,7 +32,7 @@ pub enum AddVerdict {
 }
 
 // A finished add, with its counts over all its reads and swaps.
-#[derive(Drop)]
+#[derive(Clone, Copy)]
 pub struct AddEnd {
     pub cell: u32,
     pub verdict: AddVerdict,
@@ -42,7 +42,7 @@ pub struct AddEnd {
 }
 
 // What follows an add's read or swap: another read; a swap, with its values; or the add's answer.
-#[derive(Drop)]
+#[derive(Clone, Copy)]
 pub enum AddAhead {
     NextRead(Add),
     NextSwap(u32, u32, Add),
@@ -51,7 +51,7 @@ pub enum AddAhead {
 
 // What an entry answers: the number of the first question answered no; that it acted; that it acted and the task's read or
 // swap is finished; that it acted and the task's add is finished.
-#[derive(Drop)]
+#[derive(Clone, Copy)]
 pub enum AddingOutcome {
     Denied(u32),
     Going,
@@ -60,7 +60,7 @@ pub enum AddingOutcome {
 }
 
 // What an entry hands back; a refused one hands back the state that it was given.
-#[derive(Drop)]
+#[derive(Clone, Copy)]
 pub struct AddingReply {
     pub state: AddingState,
     pub outcome: AddingOutcome,

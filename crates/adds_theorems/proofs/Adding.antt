@@ -2,7 +2,7 @@
 -- all that is proved of the latter is true of the entries.
 use mathlib.Core.Path.{◌≡◌, refl, sym, ap, ◌∙◌, subst}
 use mathlib.Core.Logic.{◌≢◌, ◌⊎◌, inl, inr}
-use mathlib.Core.Bool.{Bool, true, false, ◌&&◌, ◌||◌, not, cond, and_true, false≢true}
+use mathlib.Core.Bool.{Bool, true, false, ◌&&◌, ◌||◌, not, cond, and-true, false≢true}
 use mathlib.Core.Option.{Option, none, some}
 use mathlib.Core.List.{List, [], ◌∷◌, ◌++◌}
 use Prim.Native.Nat.{ℕ, zero, suc, ◌+◌, ◌*◌, ◌≤◌, ◌<◌}
@@ -177,7 +177,7 @@ module _ (x : Pool) (L : List Add) (f : ℕ → Option Add) (h : Holds L f) (fit
     add_after o = unless_denies o s x.1 (adding_after (with_add s (with_record x.0 t (first_read k)) t (fresh_add d n)) x.1 GoesOn)
 
     asked : refusal (add_questions s x.1 t k n) ≡ refusal (first ++ ((23, tries_ok n) ∷ []))
-    asked = ap (λ (b : Bool). refusal ((6, b) ∷ (begin_questions x.0.tasks x.0.cells (record_at x.0.records t) t k ++ ((23, tries_ok n) ∷ [])))) (ap (λ (b : Bool). fit x.0 x.1 && b) fits ∙ and_true (fit x.0 x.1))
+    asked = ap (λ (b : Bool). refusal ((6, b) ∷ (begin_questions x.0.tasks x.0.cells (record_at x.0.records t) t k ++ ((23, tries_ok n) ∷ [])))) (ap (λ (b : Bool). fit x.0 x.1 && b) fits ∙ and-true (fit x.0 x.1))
 
     abbrev layer : After → Handled Pool
     layer r = add_begins no_value pool x (r.state, r.pool) f t k d n (Events.event_of untried r.outcome)

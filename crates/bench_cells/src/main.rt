@@ -7,7 +7,7 @@ use cells::{Answer, Finished, Outcome, State};
 use libc::STDOUT_FILENO;
 use std::num::wrapping_add_u32;
 
-#[derive(Drop)]
+#[derive(Clone, Copy)]
 struct LoopTotals {
     pub finished: u32,
     pub yes: u32,
@@ -70,7 +70,7 @@ fn print_totals(t: LoopTotals) {
 }
 
 // The state and the schedule between two entries.
-#[derive(Drop)]
+#[derive(Clone, Copy)]
 struct Round {
     pub state: State,
     pub totals: LoopTotals,

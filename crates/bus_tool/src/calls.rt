@@ -10,7 +10,7 @@ use cells_step::paths::{Row, row_of};
 use figure_lines::Finished;
 
 // A finished call: its task, how many of the task's calls finished before it, and its two totals before rounding.
-#[derive(Drop)]
+#[derive(Clone, Copy)]
 pub struct CallTime {
     pub task: u32,
     pub earlier: u32,
@@ -19,14 +19,14 @@ pub struct CallTime {
 }
 
 // The call with the greatest total, the first of equals.
-#[derive(Drop)]
+#[derive(Clone, Copy)]
 pub enum Longest {
     NoCall,
     Call(CallTime),
 }
 
 // Of all calls so far.
-#[derive(Drop)]
+#[derive(Clone, Copy)]
 pub struct BusTotals {
     pub least: u64,
     pub greatest: u64,

@@ -22,7 +22,7 @@ use session_engine::actions;
 use session_engine::advance::advance;
 
 // The place after the text, and the totals.
-#[derive(Drop)]
+#[derive(Clone, Copy)]
 pub struct Entered {
     pub at: usize,
     pub totals: BusTotals,

@@ -8,7 +8,7 @@ ghost use Rattle.bus_tool.specs.Structs.{kinds_of, times_of};
 use text::numbered::wide;
 
 // A number for each kind of access.
-#[derive(Drop)]
+#[derive(Clone, Copy)]
 pub struct Kinds {
     pub load: u32,
     pub store: u32,
@@ -16,7 +16,7 @@ pub struct Kinds {
 }
 
 // The range of each kind's time.
-#[derive(Drop)]
+#[derive(Clone, Copy)]
 pub struct Ranges {
     pub low: Kinds,
     pub high: Kinds,

@@ -136,7 +136,7 @@ pub fn step(mut s: AddingState, pool: &mut [u32], task: u32) -> AddingReply
 }
 
 // What a step over a lent record leaves besides the pool.
-#[derive(Drop)]
+#[derive(Clone, Copy)]
 struct AddingTurn {
     reply: AddingReply,
     record: Record,

@@ -19,7 +19,7 @@ pub fn is_refused(outcome: Outcome) -> bool
 }
 
 // What a step over a lent record leaves besides the pool.
-#[derive(Drop)]
+#[derive(Clone, Copy)]
 struct LentTurn {
     reply: Reply,
     record: Record,

@@ -1,6 +1,6 @@
 -- The tests of a fit state, in the groups that the code asks; what a fit state gives.
 use mathlib.Core.Path.{◌≡◌, refl}
-use mathlib.Core.Bool.{Bool, true, false, ◌&&◌, and_true, and-eq-true_iff}
+use mathlib.Core.Bool.{Bool, true, false, ◌&&◌, and-true, and-eq-true_iff}
 use mathlib.Core.List.{List, [], ◌∷◌}
 use Prim.Native.Nat.{ℕ, ◌*◌, ◌≤◌, ◌<◌, ◌+◌}
 use native.Mathlib.Omega.{arith}
@@ -19,7 +19,7 @@ regroup true false c d e f g = refl
 regroup true true false d e f g = refl
 regroup true true true false e f g = refl
 regroup true true true true false f g = refl
-regroup true true true true true f g = rw (and_true g)
+regroup true true true true true f g = rw (and-true g)
 
 -- the k-th test of a busy record that fits
 pub busy_test : (r : Record) (v b : ℕ) → record_fit r v b ≡ true → (r.line ≡ 0 → ⊥) → (k : ℕ) → get_or (busy_tests r v b) k true ≡ true

@@ -1,6 +1,6 @@
 -- Loops that test number after number: what is left from i on decides the whole, w.
 use mathlib.Core.Path.{◌≡◌, refl, sym, ap, ◌∙◌}
-use mathlib.Core.Bool.{Bool, true, false, ◌&&◌, and_true}
+use mathlib.Core.Bool.{Bool, true, false, ◌&&◌, and-true}
 use Prim.Native.Nat.{ℕ, suc, ◌+◌, ◌-◌, ◌≤◌, ◌<◌}
 use native.Mathlib.Omega.{arith}
 use Rattle.figure_lines.specs.Basics.{all_from, any_from}
@@ -32,7 +32,7 @@ module _ (f : ℕ → Bool) (i n : ℕ) (s : Bool) {w : Bool} (left : (s && all_
   all_on l = assoc s (f i) (all_from f (i + 1) (n - (i + 1))) ∙ sym (ap (λ (k : ℕ). s && all_from f i k) (more i n l)) ∙ left
 
   pub all_said : n ≤ i → s ≡ w
-  all_said l = sym (ap (λ (k : ℕ). s && all_from f i k) (done i n l) ∙ and_true s) ∙ left
+  all_said l = sym (ap (λ (k : ℕ). s && all_from f i k) (done i n l) ∙ and-true s) ∙ left
 
 module _ (f : ℕ → Bool) (i n : ℕ) {w : Bool} (left : any_from f i (n - i) ≡ w) where
   pub any_yes : i < n → f i ≡ true → true ≡ w

@@ -1,6 +1,6 @@
 -- The number of a line: a record that is at some line has that line's number.
 use mathlib.Core.Path.{◌≡◌, refl}
-use mathlib.Core.Bool.{Bool, true, false, ◌||◌, not, and-false, or_true, or-false}
+use mathlib.Core.Bool.{Bool, true, false, ◌||◌, not, and-false, or-true, or-false}
 use Prim.Native.Nat.{ℕ, ◌≤◌}
 use native.Mathlib.Omega.{arith}
 use native.Mathlib.Decide.{dec_le}
@@ -62,7 +62,7 @@ module _ (w : ℕ) (a b : Bool) where
       go (yes h) = all-at (λ n. numbered n w a b) 0 31 table n (omega arith) (omega arith)
       go (no h) =
           let past : (b : ℕ) → b ≤ 30 → leb n b ≡ false = λ b l. lt-leb n b (omega arith) in
-          rw (past 3 (lit≤ tt), and-false (leb 1 n), past 8 (lit≤ tt), and-false (leb 4 n), past 12 (lit≤ tt), and-false (leb 10 n), past 24 (lit≤ tt), and-false (leb 15 n), past 30 (lit≤ tt), and-false (leb 26 n), or_true)
+          rw (past 3 (lit≤ tt), and-false (leb 1 n), past 8 (lit≤ tt), and-false (leb 4 n), past 12 (lit≤ tt), and-false (leb 10 n), past 24 (lit≤ tt), and-false (leb 15 n), past 30 (lit≤ tt), and-false (leb 26 n), or-true)
 
 pub at-number : (r : Record) → line_fit r ≡ true → r.line ≡ number (line_of r)
 at-number r e = eqb-true _ _ (rw (e, or-false) at (each r.wanted (reads r) (swaps r) r.line))

@@ -5,7 +5,7 @@
 
 use figure_lines::{Answer, Finished, Record};
 
-#[derive(Drop)]
+#[derive(Clone, Copy)]
 pub struct State {
     pub tasks: u32,
     pub cells: u32,
@@ -21,28 +21,28 @@ pub struct State {
 
 // What follows a line: the record's next line, and one of its words with its new value; or the end of the call, with its
 // hardware CAS attempts won and lost.
-#[derive(Drop)]
+#[derive(Clone, Copy)]
 pub enum Next {
     Go(u32, usize, u32),
     Done(Answer, u32, u32),
 }
 
 // What a line leaves besides the pool; `current` is the block that the task's cell then names.
-#[derive(Drop)]
+#[derive(Clone, Copy)]
 pub struct Ran {
     pub next: Next,
     pub current: u32,
     pub last: u32,
 }
 
-#[derive(Drop)]
+#[derive(Clone, Copy)]
 pub enum Found {
     At(u32),
     Nowhere,
 }
 
 // What a list of actions is made of: a task begins a read or a swap, takes a step, or is dropped.
-#[derive(Drop)]
+#[derive(Clone, Copy)]
 pub enum Action {
     Read(u32, u32),
     Swap(u32, u32, u32, u32),
@@ -52,7 +52,7 @@ pub enum Action {
 
 // What an entry answers: the number of the first question answered no; that it acted; that it acted and
 // the task's call is finished.
-#[derive(Drop)]
+#[derive(Clone, Copy)]
 pub enum Outcome {
     Refused(u32),
     Acted,
@@ -60,14 +60,14 @@ pub enum Outcome {
 }
 
 // What a look answers.
-#[derive(Drop)]
+#[derive(Clone, Copy)]
 pub enum Looked {
     NotShown(u32),
     Shown(u32),
 }
 
 // What an entry hands back; a refused one hands back the state that it was given.
-#[derive(Drop)]
+#[derive(Clone, Copy)]
 pub struct Reply {
     pub state: State,
     pub outcome: Outcome,

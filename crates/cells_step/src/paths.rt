@@ -29,7 +29,7 @@ fn count_of(row: usize, which: usize) -> u32
 }
 
 // What the table says of a finished call besides its steps and hardware CAS attempts: its loads and stores.
-#[derive(Drop)]
+#[derive(Clone, Copy)]
 pub enum Row {
     Counts(u32, u32),
     NoRow,

@@ -14,7 +14,7 @@ use figure_lines::records::idle;
 use figure_lines::{Finished, Record};
 
 // What a turn leaves besides the pool; `current` is the block that the task's cell then names.
-#[derive(Drop)]
+#[derive(Clone, Copy)]
 pub struct Turn {
     pub record: Record,
     pub current: u32,
@@ -23,7 +23,7 @@ pub struct Turn {
 }
 
 // What a turn in its record's place leaves besides pool and record.
-#[derive(Drop)]
+#[derive(Clone, Copy)]
 pub struct TurnInPlace {
     pub current: u32,
     pub last: u32,

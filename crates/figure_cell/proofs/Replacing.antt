@@ -104,6 +104,7 @@ module _ (u : ℕ) (q : Record) (κ : Knowledge) (next : ℕ) (placed : Bool) (L
   holds_nothing ℓ (inl e) x y c v d vL = rw e (search off, search off, search off, search off, search off, search off)
   holds_nothing ℓ (inr (inl e)) x y c v d vL = rw e (search off, search off, search off, search off, search off, search off)
   holds_nothing ℓ (inr (inr (inl e))) x y c v d vL = rw e (search off, search off, search off, search off, search off, search off)
+  holds_nothing ℓ (inr (inr (inr x7))) x y c v d vL = elim x7 [ ]
 
 -- block b, which nobody but the stepper knows, changes, and blocks may have come: everybody else has what it had
 module _ (s : View) (κ : Knowledge) (t : ℕ) (i : Inv s κ) (m' : Cell) (b : ℕ) (same : (a : ℕ) → a ≢ b → (f : Field) → word_of m' a f ≡ word_of s.cell a f)

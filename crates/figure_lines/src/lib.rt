@@ -6,7 +6,7 @@ pub mod records;
 
 // What a task's pending call is about to do, and with what. Idle: line 0; an opening and a finished call leave every
 // other field 0 too.
-#[derive(Drop)]
+#[derive(Clone, Copy)]
 pub struct Record {
     // The figure's line that its next step runs.
     pub line: u32,
@@ -28,14 +28,14 @@ pub struct Record {
     pub lost: u32,
 }
 
-#[derive(Drop)]
+#[derive(Clone, Copy)]
 pub enum Answer {
     Value(u32),
     Yes,
     No,
 }
 
-#[derive(Drop)]
+#[derive(Clone, Copy)]
 pub struct Finished {
     pub kind: u32,
     pub cell: u32,
@@ -46,7 +46,7 @@ pub struct Finished {
 }
 
 // The five words of a block, in their order.
-#[derive(Drop)]
+#[derive(Clone, Copy)]
 pub enum Field {
     X,
     Y,
@@ -56,7 +56,7 @@ pub enum Field {
 }
 
 // What a step asks of memory.
-#[derive(Drop)]
+#[derive(Clone, Copy)]
 pub enum Access {
     // Which block the cell names.
     LoadCell(u32),

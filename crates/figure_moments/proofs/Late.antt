@@ -67,6 +67,7 @@ keeps t x q ℓ (inr (inr (inr (inr (inr (inl e)))))) = rw e (refl, refl, refl)
 keeps t x q ℓ (inr (inr (inr (inr (inr (inr (inl e))))))) = rw e (refl, refl, refl)
 keeps t x q ℓ (inr (inr (inr (inr (inr (inr (inr (inl e)))))))) = rw e (refl, refl, refl)
 keeps t x q ℓ (inr (inr (inr (inr (inr (inr (inr (inr (inl e))))))))) = rw e (by_test (Keeps q) (eqb x 1) _ _ (λ z. tt) (λ z. tt))
+keeps t x q ℓ (inr (inr (inr (inr (inr (inr (inr (inr (inr x10))))))))) = elim x10 [ ]
 
 -- THE DECISION OF A TASK'S BLOCK is the value that it expects
 

@@ -20,6 +20,7 @@ use Rattle.figure_cell.proofs.Classes.{is, figure_line, holding, stored, viewing
 
 pub cond_true : {A : Type 0} (b : Bool) (x y : A) → T b → cond b x y ≡ x
 cond_true true x y h = refl
+cond_true {A = A} false x y h = elim h [ ]
 
 pub cond_false : {A : Type 0} (b : Bool) (x y : A) → (T b → ⊥) → cond b x y ≡ y
 cond_false true x y h = absurd (h tt)
@@ -27,6 +28,7 @@ cond_false false x y h = refl
 
 pub with : (a b : Bool) → T a → T b → T (a && b)
 with true b x y = y
+with false b x y = elim x [ ]
 
 pub equal : (m n : ℕ) → m ≡ n → T (eqb m n)
 equal m n e = rw (eq-eqb m n e) tt
@@ -39,6 +41,7 @@ module _ (r : Record) (fit : line_fit r ≡ true) where
     where
       go : (a b : Bool) → T (not (a || b)) → T (not a && not b)
       go false b h = h
+      go true b h = elim h [ ]
 
   pub figure_line_is : cond (within r.line 1 3) r.wanted r.line ≡ figure_line (line_of r)
   figure_line_is = ap (λ n. cond (within n 1 3) r.wanted n) (at-number r fit) ∙ go (within (number (line_of r)) 1 3) (λ b. wanted_is r refl (lies_in (λ ℓ. within (number ℓ) 1 3) (λ ℓ. not (eqb (wanted_by ℓ) 0)) tt (line_of r) b))
@@ -90,6 +93,12 @@ module _ (w : World) (o : Notes) (t : ℕ) (fit : line_fit (w.records t) ≡ tru
       where
         parts : (a h b i c d : Bool) → T ((a && (h && b)) && (h && (i && (c && d)))) → T b × T c × T d
         parts true true true true true true z = (tt, tt, tt)
+        parts false _ b i c d z = elim z [ ]
+        parts true false b i c d z = elim z [ ]
+        parts true true false i c d z = elim z [ ]
+        parts true true true false c d z = elim z [ ]
+        parts true true true true false d z = elim z [ ]
+        parts true true true true true false z = elim z [ ]
 
     notes_all : T (every (λ ℓ. not (is n ℓ) || holding ℓ) lines) → T (is n ℓ) → T (f m q.held) → Holder u → cond met o.now old ≡ o.now
     notes_all h l b (fit', h', e, e') = cond_true met o.now old (whole (eqb q.line n) (holds_block q) (f m q.held) (holds_block r) (eqb r.cell q.cell) (eqb r.held q.held)
@@ -97,6 +106,12 @@ module _ (w : World) (o : Notes) (t : ℕ) (fit : line_fit (w.records t) ≡ tru
       where
         whole : (a h b i c d : Bool) → T a → T h → T b → T i → T c → T d → T ((a && (h && b)) && (h && (i && (c && d))))
         whole true true true true true true x h y z u v = tt
+        whole false _ _ i c d x h y z u v = elim x [ ]
+        whole true false _ i c d x h y z u v = elim h [ ]
+        whole true true false i c d x h y z u v = elim y [ ]
+        whole true true true false c d x h y z u v = elim z [ ]
+        whole true true true true false d x h y z u v = elim u [ ]
+        whole true true true true true false x h y z u v = elim v [ ]
 
   -- FIELD BY FIELD: a block becomes inactive once, is decided once and replaced once
 

@@ -508,6 +508,7 @@ module _ (n : ℕ) (o : Held) (w : World) (p : Notes) (g : Ghost) (κ : Sim.Know
           at (inl e) = (for13, e)
           at (inr (inl e)) = (for25, e)
           at (inr (inr (inl e))) = (for28, e)
+          at (inr (inr (inr x3))) = elim x3 [ ]
 
       go : (x : Wanted) × (line_of q ≡ l2 x) → ⊥
       go (x, z) = absurd (let h = subst (λ ℓ. let m = access_cell c (access_at ℓ t q) in next_at ℓ t (counted q (attempt (access_at ℓ t q) m.value)) m.value ≡ Done f) z e in let i : ◌≡◌ {A = ℕ} 0 1 = cc in omega arith)

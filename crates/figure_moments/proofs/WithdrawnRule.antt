@@ -140,6 +140,7 @@ matched : (n : ℕ) (w w⁺ : World) (p : Notes) (ys : List Withdrawal) (vs : Li
 matched n w w⁺ p (z ∷ ys) [] h y i = absurd h
 matched n w w⁺ p (z ∷ ys) (v ∷ vs) ((e, m, k), h) y (inl q) = (v, inl refl, ap (λ (y : Withdrawal). y.call) q ∙ e, subst (Kept w w⁺ p (n + v.end)) (sym q) k)
 matched n w w⁺ p (z ∷ ys) (v ∷ vs) (f, h) y (inr i) = let r = matched n w w⁺ p ys vs h y i in (r.0, inr r.1, r.2, r.3)
+matched n w w⁺ p [] vs h y i = elim i [ ]
 
 record Ruled (n : ℕ) (x : Watched) (b : Calls) (r : Trace) (ys : List Withdrawal) : Type 0 where
   past : (t : ℕ) → x.1.0.stored t ≤ x.1.0.now

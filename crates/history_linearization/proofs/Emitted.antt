@@ -20,6 +20,7 @@ use Rattle.history_linearization.proofs.Linearize.{end_marks}
 pub in_drops : (l : List WithdrawnCall) (w : WithdrawnCall) → w ∈ l → w.call.start.at ∈ drop_begins l
 in_drops (v ∷ l) w (inl e) = inl (ap (λ (w : WithdrawnCall). w.call.start.at) e)
 in_drops (v ∷ l) w (inr i) = inr (in_drops l w i)
+in_drops mathlib.Core.List.[] w x' = elim x' [ ]
 
 -- two that begin at the same moment are one
 pub only_one : (l : List WithdrawnCall) → Once (drop_begins l) → (v w : WithdrawnCall) → v ∈ l → w ∈ l → v.call.start.at ≡ w.call.start.at → v ≡ w
@@ -27,6 +28,7 @@ only_one (x ∷ l) o v w (inl e) (inl f) q = e ∙ sym f
 only_one (x ∷ l) o v w (inl e) (inr j) q = absurd (o.0 (subst (λ n. n ∈ drop_begins l) (sym (ap (λ (w : WithdrawnCall). w.call.start.at) (sym e) ∙ q)) (in_drops l w j)))
 only_one (x ∷ l) o v w (inr i) (inl f) q = absurd (o.0 (subst (λ n. n ∈ drop_begins l) (q ∙ ap (λ (w : WithdrawnCall). w.call.start.at) f) (in_drops l v i)))
 only_one (x ∷ l) o v w (inr i) (inr j) q = only_one l o.1 v w i j q
+only_one mathlib.Core.List.[] o v w x4 _ q = elim x4 [ ]
 
 abbrev pub mark_at : Call → Spot → Mark
 mark_at c p = record { spot = p; call = c.start; answer = Yes }

@@ -48,6 +48,8 @@ Marked (f ∷ k) (m ∷ l) = MarkOf f m × Marked k l
 pub same-begins : (k : List FinishedCall) (l : List Mark) → Marked k l → begins l ≡ call_begins k
 same-begins [] [] M = refl
 same-begins (f ∷ k) (m ∷ l) M = ap (λ n. n ∷ begins l) (ap (λ s. s.at) M.0.call) ∙ ap (λ n. f.call.start.at ∷ n) (same-begins k l M.1)
+same-begins [] (m ∷ l) M = elim M [ ]
+same-begins (f ∷ k) [] M = elim M [ ]
 
 -- WHAT IS KEPT
 

@@ -44,11 +44,15 @@ point_begins (m ∷ l) = ap (λ n. m.call.at ∷ n) (point_begins l)
 mark_of : (k : List FinishedCall) (l : List Mark) → Marked k l → (f : FinishedCall) → f ∈ k → (m : Mark) × (m ∈ l) × MarkOf f m
 mark_of (g ∷ k) (m ∷ l) M f (inl e) = (m, inl refl, rw e M.0)
 mark_of (g ∷ k) (m ∷ l) M f (inr i) = let r = mark_of k l M.1 f i in (r.0, inr r.1, r.2)
+mark_of [] l M f x'' = elim x'' [ ]
+mark_of (g ∷ k) [] M f _ = elim M [ ]
 
 of_mark : (k : List FinishedCall) (l : List Mark) → Marked k l → (m : Mark) → m ∈ l → (f : FinishedCall) × (f ∈ k) × MarkOf f m
 of_mark [] (x ∷ l) M m i = absurd M
 of_mark (f ∷ k) (x ∷ l) M m (inl e) = (f, inl refl, rw e M.0)
 of_mark (f ∷ k) (x ∷ l) M m (inr i) = let r = of_mark k l M.1 m i in (r.0, inr r.1, r.2)
+of_mark [] [] M m i = elim i [ ]
+of_mark (f ∷ k) [] M m i = elim M [ ]
 
 -- MARKS OF PENDING SWAPS
 
@@ -354,3 +358,5 @@ module _ {S N : Type 0} {machine : S → Action → S × Event} {note : N → S 
       aligned : (k : List FinishedCall) (l : List Mark) → Marked k l → weight w l ≡ total (λ (f : FinishedCall). w f.call.start.op f.report.answer) k
       aligned [] [] M = refl
       aligned (f ∷ k) (m ∷ l) M = omega (arith, ap₂ (λ (c : CallId) (a : Response). w c.op a) M.0.call M.0.answer, aligned k l M.1)
+      aligned [] (m ∷ l) M = elim M [ ]
+      aligned (f ∷ k) [] M = elim M [ ]

@@ -305,3 +305,7 @@ module _ {values : ℕ → ℕ} (g : Ghost) {b : Calls} {past : ℕ → ℕ → 
       end_onto tallies clock names y e act may (acts p m) = leave_onto (shift g n t c.start.op act) (go_onto act may) (rw (upd_same g.placed t true) tt) p (m ∙ e ∙ sym (upd_same g.when t n))
       end_onto tallies clock names y e still may (acted f p m) = leave_onto g (go_onto still may) f p m
       end_onto tallies clock names y e still may (observes v p r q f unlate) = observe_onto v (subst (λ (c : Call). Seen past was c.start spot.moment v) (some_inj p.1 busy) p.2) r q f unlate
+      end_onto {X = X} tallies clock names y e freeze may x3 = elim x3 [ ]
+      end_onto {X = X} tallies clock names y e store may x4 = elim x4 [ ]
+      end_onto {X = X} tallies clock names y e settle may x5 = elim x5 [ ]
+      end_onto {X = X} tallies clock names y e (land u _) may x7 = elim x7 [ ]

@@ -45,6 +45,8 @@ lex_trans (x ∷ a) (y ∷ b) (z ∷ c) (inl p) (inl q) = inl (omega arith)
 lex_trans (x ∷ a) (y ∷ b) (z ∷ c) (inl p) (inr (q, i)) = inl (omega arith)
 lex_trans (x ∷ a) (y ∷ b) (z ∷ c) (inr (p, h)) (inl q) = inl (omega arith)
 lex_trans (x ∷ a) (y ∷ b) (z ∷ c) (inr (p, h)) (inr (q, i)) = inr (p ∙ q, lex_trans a b c h i)
+lex_trans (x ∷ a) [] c h i = elim h [ ]
+lex_trans (x ∷ a) (y ∷ b) [] h i = elim i [ ]
 
 -- SORTING
 
@@ -82,10 +84,12 @@ sort_in (x ∷ l) y i = go (with_in (inserted x (sort l)) y i) (sort_in l y)
     go : (y ≡ x) ⊎ (y ∈ sort l) → (y ∈ sort l → y ∈ l) → y ∈ (x ∷ l)
     go (inl e) f = inl e
     go (inr j) f = inr (f j)
+sort_in [] y i = elim i [ ]
 
 pub in_sort : (l : List Mark) (y : Mark) → y ∈ l → y ∈ sort l
 in_sort (x ∷ l) y (inl e) = in_with (inserted x (sort l)) y (inl e)
 in_sort (x ∷ l) y (inr i) = in_with (inserted x (sort l)) y (inr (in_sort l y i))
+in_sort [] y x' = elim x' [ ]
 
 -- each key comes before those behind it
 abbrev pub Keyed : List Mark → Type 0
@@ -121,10 +125,12 @@ begins l = map (λ m. m.call.at) l
 pub from_begins : (l : List Mark) (n : ℕ) → n ∈ begins l → (m : Mark) × (m ∈ l) × (n ≡ m.call.at)
 from_begins (x ∷ l) n (inl h) = (x, inl refl, h)
 from_begins (x ∷ l) n (inr h) = let r = from_begins l n h in (r.0, inr r.1, r.2)
+from_begins [] n x' = elim x' [ ]
 
 pub to_begins : (l : List Mark) (m : Mark) → m ∈ l → m.call.at ∈ begins l
 to_begins (y ∷ l) m (inl h) = inl (ap (λ (m : Mark). m.call.at) h)
 to_begins (y ∷ l) m (inr h) = inr (to_begins l m h)
+to_begins [] m x' = elim x' [ ]
 
 with-once : {x : Mark} {l r : List Mark} → With x l r → ¬ (x.call.at ∈ begins l) → Once (begins l) → Once (begins r)
 with-once here n o = (n, o)
@@ -154,6 +160,7 @@ before_change x y sx sy h e c = go h
 
     rank : (b : Bool) → T b → ◌≡◌ {A = ℕ} (cond b 0 1) 0
     rank true z = refl
+    rank false z = elim z [ ]
 
     unrank : (b : Bool) → cond b 0 1 ≤ 0 → T b
     unrank true z = tt

@@ -32,6 +32,7 @@ not_yet (w ∷ l) n m o h = rw (ne_eqb m w.end (λ e. omega (arith, o.0))) (not_
 pub is-there : (l : List WithdrawnCall) (n : ℕ) → Ordered l n → (w : WithdrawnCall) → w ∈ l → (w.end < n) × (withdrawn_at l w.end ≡ some w.call)
 is-there (v ∷ l) n o w (inl e) = rw e (o.0, rw (eq-eqb v.end v.end refl) refl)
 is-there (v ∷ l) n o w (inr i) = let r = is-there l v.end o.1 w i in (omega (arith, r.0, o.0), rw (ne_eqb w.end v.end (λ e. omega (arith, r.0))) r.1)
+is-there [] n o w x'' = elim x'' [ ]
 
 pub was_there : (l : List WithdrawnCall) (n : ℕ) (c : Call) → withdrawn_at l n ≡ some c → (w : WithdrawnCall) × (w ∈ l) × (w.end ≡ n) × (w.call ≡ c)
 was_there [] n c h = absurd (clash refl h)

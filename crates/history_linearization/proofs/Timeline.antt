@@ -201,6 +201,7 @@ module _ (past : ℕ → ℕ → ℕ) where
 pub points_in : (l : List Mark) (e : Point) → e ∈ map point_of l → (m : Mark) × (m ∈ l) × (e ≡ point_of m)
 points_in (x ∷ l) e (inl h) = (x, inl refl, h)
 points_in (x ∷ l) e (inr h) = let r = points_in l e h in (r.0, inr r.1, r.2)
+points_in [] e x' = elim x' [ ]
 
 -- the marks are those of the calls E, each once
 pub record Marks (E : Point → Response → Type 0) (ms : List Mark) : Type 0 where

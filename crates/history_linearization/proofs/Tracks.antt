@@ -96,3 +96,5 @@ module _ {S : Type 0} (doing : S → ℕ → Option Tally) (size : ℕ) (s s' : 
   tracked (drop t) (accepted x) f =
       let c = call_of_lem (b.pending t) f.now (sym (same t) ∙ f.was) in
       record { allowed = (is-busy c.1, f.no_attempt); change = drops c.0 c.1; tracks = changed t none none refl f.rest }
+  tracked (begin t op) (answered x r) f = elim f [ ]
+  tracked (drop t) (answered x r) f = elim f [ ]

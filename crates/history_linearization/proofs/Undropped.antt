@@ -6,7 +6,7 @@ use mathlib.Core.List.{List, [], ◌∷◌}
 use Prim.Native.Nat.{ℕ, suc, ◌≤◌}
 use native.Mathlib.Omega.{arith}
 use Rattle.history_spec.specs.Basics.{upd, ◌∈◌}
-use Rattle.history_spec.specs.History.{Op, cell_of, Action, begin, step, drop, untried, Event, refused, accepted, answered, history, run, CallId, Call, WithdrawnCall, Calls, no_calls, called, advance, advanced, enter, enter_all, calls_of, CallOf, finished, pending, withdrawn}
+use Rattle.history_spec.specs.History.{Op, cell_of, Action, begin, step, drop, untried, Event, refused, accepted, answered, history, run, CallId, Call, FinishedCall, WithdrawnCall, Calls, no_calls, called, advance, advanced, enter, enter_all, calls_of, CallOf, finished, pending, withdrawn}
 use Rattle.history_spec.specs.Demand3.{Unequal, Alone, NoneWithdrawn, NoHardwareUndropped, NoDrops, clear_after}
 use Rattle.history_spec.specs.Moments.{Mark, Names, beside}
 use Rattle.history_spec.proofs.Basics.{upd-cases, clash, some_inj}
@@ -131,7 +131,7 @@ module _ {S N : Type 0} {machine : S → Action → S × Event} {note : N → S 
           b' = enter b (step t) (answered y r)
 
           go : f ∈ (last_one b G.dated t y c busy r ∷ b.finished) → NoneWithdrawn b' f.call → Alone b' f.call f.call.last → Finds f.call.start
-          go (inl z) = rw z (was (ends {x = y} {r = r} c busy p q) c (advance b y c) b.now b.now (pending t c busy) refl (omega arith))
+          go (inl z) = subst (λ (f : FinishedCall). NoneWithdrawn b' f.call → Alone b' f.call f.call.last → Finds f.call.start) (sym z) (was (ends {x = y} {r = r} c busy p q) c (advance b y c) b.now b.now (pending t c busy) refl (omega arith))
           go (inr j) = same (ends {x = y} {r = r} c busy p q) d m (finished f j)
       began_next (drops {x = y} c busy) d m (finished f i) = same (drops {x = y} c busy) d m (finished f i)
       began_next (drops {t} {x = y} c busy) d m (pending u e i) = waits (drops {x = y} c busy) u d (another t u d i)
@@ -141,7 +141,7 @@ module _ {S N : Type 0} {machine : S → Action → S × Event} {note : N → S 
           b' = enter b (drop t) (accepted y)
 
           go : w ∈ (last-withdrawn b G.dated t y c busy ∷ b.withdrawn) → NoneWithdrawn b' w.call → Alone b' w.call w.end → Finds w.call.start
-          go (inl z) = rw z (was (drops {x = y} c busy) c c b.now b.now (pending t c busy) refl (omega arith))
+          go (inl z) = subst (λ (w : WithdrawnCall). NoneWithdrawn b' w.call → Alone b' w.call w.end → Finds w.call.start) (sym z) (was (drops {x = y} c busy) c c b.now b.now (pending t c busy) refl (omega arith))
           go (inr j) = same (drops {x = y} c busy) d m (withdrawn w j)
 
     -- after all actions

@@ -1,6 +1,6 @@
 -- What the code sees of a task's block before a step that is done is what the definition sees; so it notes the same.
 use mathlib.Core.Path.{◌≡◌, refl}
-use mathlib.Core.Bool.{Bool, true, false, ◌&&◌, ◌||◌, cond, false≢true, or_true}
+use mathlib.Core.Bool.{Bool, true, false, ◌&&◌, ◌||◌, cond, false≢true, or-true}
 use mathlib.Core.Option.{Option}
 use mathlib.Core.List.{List}
 use Prim.Native.Nat.{ℕ, suc, ◌≤◌, ◌<◌}
@@ -70,9 +70,9 @@ module _ (s : State) (p : List ℕ) (t : ℕ) where
     -- whoever waits
     pub same_noted : (o : Notes) (f : ℕ → Option Waiting) → with_waiting f (noted o t (sight_of r.line idle x w)) ≡ with_waiting f (noted o t (sees_pool (s, p) t))
     same_noted o f =
-        let g27 = guard at27 (λ e. rw e (or_true at2)) (held (eqb r.line 27) _) in
+        let g27 = guard at27 (λ e. rw e (or-true at2)) (held (eqb r.line 27) _) in
         let g2 = guard at2 (λ e. rw e) (held (eqb r.line 2) _) in
-        let g30 = guard at30 (λ e. rw (e, or_true at27) (or_true at2)) (held (eqb r.line 30) _) in
+        let g30 = guard at30 (λ e. rw (e, or-true at27) (or-true at2)) (held (eqb r.line 30) _) in
         let y = noted o t (sees_pool (s, p) t) in
         λ j. record {
           now = suc o.now;

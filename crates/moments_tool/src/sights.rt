@@ -2,7 +2,7 @@
 use figure_lines::Answer;
 
 // What a task sees of the block that it holds, before its step.
-#[derive(Drop)]
+#[derive(Clone, Copy)]
 pub struct Sight {
     pub active: bool,
     pub undecided: bool,
@@ -12,7 +12,7 @@ pub struct Sight {
 }
 
 // A task's own notes; active is 1 if its store found the block active.
-#[derive(Drop)]
+#[derive(Clone, Copy)]
 pub struct Own {
     pub loaded: u16,
     pub stored: u16,
@@ -23,7 +23,7 @@ pub struct Own {
 }
 
 // Sides and rules by their numbers: before 0, itself 1, after 2; R1 0, R2 1, C1 to C6 2 to 7.
-#[derive(Drop)]
+#[derive(Clone, Copy)]
 pub struct Spot {
     pub moment: u16,
     pub side: u32,
@@ -31,14 +31,14 @@ pub struct Spot {
 }
 
 // The withdrawn swap that waits for the decision of a cell's block: the word of its mark, 0 for nobody; and its new value.
-#[derive(Drop)]
+#[derive(Clone, Copy)]
 pub struct Waiter {
     pub mark: u32,
     pub new: u32,
 }
 
 // What an action did to its task's call.
-#[derive(Drop)]
+#[derive(Clone, Copy)]
 pub enum Deed {
     Nothing,
     Moved,

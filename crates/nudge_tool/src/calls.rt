@@ -19,7 +19,7 @@ use session_engine::actions::{action_at, task_of};
 use session_engine::advance::advance;
 
 // The state but for the records, which stand as words.
-#[derive(Drop)]
+#[derive(Clone, Copy)]
 pub struct Frame {
     pub tasks: u32,
     pub cells: u32,
@@ -45,28 +45,28 @@ pub fn frame_of(s: State) -> Frame
 }
 
 // After an action: where the task's call was begun, or what the call that it ended answers.
-#[derive(Drop)]
+#[derive(Clone, Copy)]
 pub enum Noted {
     Pending(usize),
     Ended(Answer),
 }
 
 // The numbers of its begin and of its last step, and its answer.
-#[derive(Drop)]
+#[derive(Clone, Copy)]
 pub struct CallSummary {
     pub at: usize,
     pub last: usize,
     pub answer: Answer,
 }
 
-#[derive(Drop)]
+#[derive(Clone, Copy)]
 pub enum Sought {
     Nowhere,
     Found(CallSummary),
 }
 
 // The first exchange that changes the answer.
-#[derive(Drop)]
+#[derive(Clone, Copy)]
 pub enum Nudge {
     Nowhere,
     At(usize),

@@ -10,7 +10,7 @@ use cells_spec::Action;
 use cells_step::words::record_of;
 use session_engine::actions::task_of;
 
-#[derive(Drop)]
+#[derive(Clone, Copy)]
 pub enum Touch {
     Nothing,
     Cell(u32),

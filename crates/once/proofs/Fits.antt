@@ -1,6 +1,6 @@
 -- The tests of a fit state, as the code groups them; what a fit state gives.
 use mathlib.Core.Path.{◌≡◌, refl}
-use mathlib.Core.Bool.{Bool, true, false, ◌&&◌, and_true, and-eq-true_iff}
+use mathlib.Core.Bool.{Bool, true, false, ◌&&◌, and-true, and-eq-true_iff}
 use mathlib.Core.List.{List, [], ◌∷◌}
 use Prim.Native.Nat.{ℕ, ◌≤◌, ◌<◌}
 use native.Mathlib.Omega.{arith}
@@ -14,7 +14,7 @@ use Rattle.once_spec.specs.Questions.{offer_at, offer_tests, offer_fit, offers_f
 regroup : (a b c : Bool) → ands (a ∷ b ∷ c ∷ []) ≡ (a && b) && c
 regroup false b c = refl
 regroup true false c = refl
-regroup true true c = and_true c
+regroup true true c = and-true c
 
 module _ (s : OnceState) where
   abbrev pub sizes_ok : Bool

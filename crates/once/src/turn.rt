@@ -20,7 +20,7 @@ pub fn idle() -> Offer
 }
 
 // What a step leaves, and what it answers.
-#[derive(Drop)]
+#[derive(Clone, Copy)]
 pub struct OnceTurn {
     pub cell: OnceCell,
     pub offer: Offer,

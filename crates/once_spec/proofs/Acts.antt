@@ -1,7 +1,7 @@
 -- The machine: from a state of which everything holds, every move gives an event that it may give, and everything holds again.
 use mathlib.Core.Path.{◌≡◌, refl, sym, ap, subst, ◌∙◌, fun_ext}
 use mathlib.Core.Logic.{◌≢◌, ◌⊎◌, inl, inr}
-use mathlib.Core.Bool.{Bool, true, false, not, or_true}
+use mathlib.Core.Bool.{Bool, true, false, not, or-true}
 use mathlib.Core.Option.{Option, none, some}
 use mathlib.Core.List.{List}
 use Prim.Native.Nat.{ℕ, ◌≤◌, ◌<◌}
@@ -62,7 +62,7 @@ module _ (s : OnceState) (b : OnceCalls) (S : Stands s b) where
       let is-busy : T (busy (stage_of r)) = way_busy (stage_of r) c.done P.way in
       let at : stage_of (on (offer_at s) r.cell t) ≡ stage_of r = ap stage_of (on_in (λ (r : Offer). r.cell) idle_offer (offer_at s) r.cell t refl) in
       let some-value : r.value ≢ I.none = subst (λ q. q.value ≢ I.none) (on_in (λ (r : Offer). r.cell) idle_offer (offer_at s) r.cell t refl) (((S.sound.each-cell r.cell).inv.tasks t).values.some-value (rw at is-busy)) in
-      rw (lt-ltb r.cell s.cells P.low-cell, T_true (is_step (stage_of r)) (lies_in busy is_step tt (stage_of r) is-busy), is_not r.value some-value, le-leb r.steps 9 (omega (arith, P.all-steps, way_short (stage_of r) c.done P.way))) (or_true (is_idle_offer r))
+      rw (lt-ltb r.cell s.cells P.low-cell, T_true (is_step (stage_of r)) (lies_in busy is_step tt (stage_of r) is-busy), is_not r.value some-value, le-leb r.steps 9 (omega (arith, P.all-steps, way_short (stage_of r) c.done P.way))) (or-true (is_idle_offer r))
 
   pub is-fit : once_fit s ≡ true
   unfolding once_fit offers_fit

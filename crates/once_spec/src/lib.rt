@@ -3,7 +3,7 @@
 #![tactic(auto)]
 
 // The figure's words, and who has offered there.
-#[derive(Drop)]
+#[derive(Clone, Copy)]
 pub struct OnceCell {
     pub x: u32,
     pub y: u32,
@@ -14,7 +14,7 @@ pub struct OnceCell {
 }
 
 // What a task's pending call is about to do. Idle: line 0; an opening and a finished call leave every other field 0 too.
-#[derive(Drop)]
+#[derive(Clone, Copy)]
 pub struct Offer {
     // The number of its next step (specs/Figure.antt has the table).
     pub line: u32,
@@ -26,7 +26,7 @@ pub struct Offer {
     pub tried: bool,
 }
 
-#[derive(Drop)]
+#[derive(Clone, Copy)]
 pub struct OnceState {
     pub tasks: u32,
     pub cells: u32,
@@ -35,7 +35,7 @@ pub struct OnceState {
 }
 
 // A finished call: the value agreed on its cell, its steps and hardware CAS attempts.
-#[derive(Drop)]
+#[derive(Clone, Copy)]
 pub struct Agreement {
     pub cell: u32,
     pub value: u32,
@@ -45,7 +45,7 @@ pub struct Agreement {
 
 // What an entry answers: the number of the first question answered no; that it acted; that it acted and the task's call is
 // finished.
-#[derive(Drop)]
+#[derive(Clone, Copy)]
 pub enum Progress {
     Declined(u32),
     Proceeds,
@@ -53,7 +53,7 @@ pub enum Progress {
 }
 
 // What an entry hands back; a refused one hands back the state that it was given.
-#[derive(Drop)]
+#[derive(Clone, Copy)]
 pub struct OnceReply {
     pub state: OnceState,
     pub progress: Progress,

@@ -15,7 +15,7 @@ pub fn case_space() -> [u8; 65700]
 }
 
 // A file open for reading, negative where that failed, and how long its name is.
-#[derive(Drop)]
+#[derive(Clone, Copy)]
 pub struct Case {
     pub fd: i32,
     pub length: usize,

@@ -9,7 +9,7 @@ use libc::{EINTR, STDERR_FILENO};
 const PATIENCE: usize = 1000;
 
 // How many bytes stand at the buffer's start, and whether they are all that was to be read: not where a read failed.
-#[derive(Drop)]
+#[derive(Clone, Copy)]
 pub struct Input {
     pub count: usize,
     pub whole: bool,

@@ -2,7 +2,7 @@
 use cells_spec::Outcome;
 
 // What an action leaves besides what is lent.
-#[derive(Drop)]
+#[derive(Clone, Copy)]
 pub struct Advanced {
     pub last: u32,
     pub outcome: Outcome,

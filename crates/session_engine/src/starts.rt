@@ -10,7 +10,7 @@ ghost use Rattle.session_engine.specs.Start.{start_after, start_at, New, Opens};
 use cells_spec::{Outcome, State};
 
 // How many words of the pool are the cells', and how many actions were read.
-#[derive(Drop)]
+#[derive(Clone, Copy)]
 pub enum SessionOpening {
     NoSession(u32),
     NotOpened(u32),
@@ -22,7 +22,7 @@ pub enum SessionOpening {
     },
 }
 
-#[derive(Drop)]
+#[derive(Clone, Copy)]
 pub struct Started {
     pub state: State,
     pub opening: SessionOpening,

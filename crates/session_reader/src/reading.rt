@@ -1,6 +1,6 @@
 // What reading a session file hands back: types, definitions and laws.
 
-#[derive(Drop)]
+#[derive(Clone, Copy)]
 pub enum Reading {
     // The question's number; 0 for buffers of other sizes.
     Bad(u32),
@@ -14,28 +14,28 @@ pub enum Reading {
 }
 
 // How many values, and the place after their bracket.
-#[derive(Drop)]
+#[derive(Clone, Copy)]
 pub enum ValuesRead {
     Wrong,
     Read(usize, usize),
 }
 
 // The three numbers, how many values, and the place after the line.
-#[derive(Drop)]
+#[derive(Clone, Copy)]
 pub enum Opened {
     Wrong,
     Read(u32, u32, u32, usize, usize),
 }
 
 // A kind, how many numbers it has, and the place after its word.
-#[derive(Drop)]
+#[derive(Clone, Copy)]
 pub enum Word {
     Unknown,
     Known(u32, usize, usize),
 }
 
 // A form's kind, and the place after its numbers.
-#[derive(Drop)]
+#[derive(Clone, Copy)]
 pub enum HeadRead {
     Unknown,
     Known(u32, usize),
@@ -43,14 +43,14 @@ pub enum HeadRead {
 
 // The place after what was read, whether there were more actions than fit, and how many forms and actions are kept in
 // the buffers.
-#[derive(Drop)]
+#[derive(Clone, Copy)]
 pub enum Got {
     Bad,
     At(usize, bool, usize, usize),
 }
 
 // The lines after the first: wrong, more actions than fit, or how many actions are kept.
-#[derive(Drop)]
+#[derive(Clone, Copy)]
 pub enum Rest {
     Wrong,
     Many,

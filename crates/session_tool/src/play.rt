@@ -20,7 +20,7 @@ use session_engine::advance::advance;
 use session_engine::whole::with_records;
 
 // Finished calls, and their hardware CAS attempts.
-#[derive(Drop)]
+#[derive(Clone, Copy)]
 pub struct Tally {
     pub finished: u32,
     pub hard: u32,

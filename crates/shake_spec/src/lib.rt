@@ -4,7 +4,7 @@
 use cells_spec::Action;
 
 // An action, and the generator's state after its draws.
-#[derive(Drop)]
+#[derive(Clone, Copy)]
 pub struct Draw {
     pub action: Action,
     pub generator: u32,

@@ -8,7 +8,7 @@ use crate::{Numbers, numbers_of, print, record_sum, sum_of};
 use cells::{Record, Reply, State};
 
 // A reply, and the record that was lent.
-#[derive(Drop)]
+#[derive(Clone, Copy)]
 struct LentKept {
     reply: Reply,
     record: Record,

@@ -35,7 +35,7 @@ fn end_line() {
 }
 
 // An outcome in numbers: 100 acted, 200 ended, else the refusal; of a finished call what it reports.
-#[derive(Drop)]
+#[derive(Clone, Copy)]
 struct Numbers {
     number: u32,
     yes: u32,
@@ -128,7 +128,7 @@ fn print_reply(before: u32, r: Reply, pool: &[u32]) {
 
 // A CASE
 
-#[derive(Drop)]
+#[derive(Clone, Copy)]
 struct EntryCase {
     given: u32,
     block: u32,

@@ -51,7 +51,7 @@ const OPEN: usize = 2;
 const OFFER: usize = 3;
 
 // A line's form, and its numbers.
-#[derive(Drop)]
+#[derive(Clone, Copy)]
 struct CaseLine {
     form: usize,
     first: u32,
@@ -107,7 +107,7 @@ fn read_line(s: &[u8]) -> CaseLine {
 
 // PLAYING
 
-#[derive(Drop)]
+#[derive(Clone, Copy)]
 struct SoFar {
     state: OnceState,
     // Whether there was an open, and whether the last one acted.
@@ -207,7 +207,7 @@ fn play(p: SoFar, l: CaseLine) -> SoFar {
 const ROOM: usize = 64;
 
 // How many bytes of a line are kept.
-#[derive(Drop)]
+#[derive(Clone, Copy)]
 struct Played {
     standing: SoFar,
     held: usize,

@@ -24,7 +24,7 @@ const SHAKEN: u32 = 5;
 const NONE: u32 = 6;
 
 // The tool, and how many numbers it takes.
-#[derive(Drop)]
+#[derive(Clone, Copy)]
 struct Tool {
     number: u32,
     takes: usize,
@@ -60,7 +60,7 @@ fn tool_of(name: [u8; 4096]) -> Tool {
 }
 
 // The numbers that the first lines have, and where the next one begins.
-#[derive(Drop)]
+#[derive(Clone, Copy)]
 struct CaseStart {
     good: bool,
     next: usize,

@@ -1,6 +1,6 @@
 -- Each return by the tests that led to it.
 use mathlib.Core.Path.{◌≡◌}
-use mathlib.Core.Bool.{◌&&◌, cond, and_true}
+use mathlib.Core.Bool.{◌&&◌, cond, and-true}
 use Prim.Native.Nat.{◌+◌, ◌*◌}
 use native.Mathlib.Omega.{arith}
 use lib.Dec.{eqb, leb}
@@ -36,7 +36,7 @@ left : (c : tie.Else4) → let e = c.before.before.before.before.before.before.b
 unfolding add_fit
 left c =
     let a = c.before.before.before.before.before.before.before.before.args.a in
-    rw (ne_eqb _ _ c.before.before.before.before.before.before.if1.false, ne_eqb a.tries 0 c.before.before.before.before.if2.false, le-leb 1 a.tries (omega (arith, c.before.before.before.before.if2.false)), le-leb a.tries 8 c.before.before.if3.false, lt-ltb a.failed a.tries c.if4.false, and_true)
+    rw (ne_eqb _ _ c.before.before.before.before.before.before.if1.false, ne_eqb a.tries 0 c.before.before.before.before.if2.false, le-leb 1 a.tries (omega (arith, c.before.before.before.before.if2.false)), le-leb a.tries 8 c.before.before.if3.false, lt-ltb a.failed a.tries c.if4.false, and-true)
 
 returns-5 : tie.Need-returns-5
 returns-5 c = rw (left c.before.before.before.before.before.before.before, eq-eqb _ _ c.before.before.if5.true)

@@ -1,11 +1,11 @@
-use mathlib.Core.Bool.{or_true}
+use mathlib.Core.Bool.{or-true}
 use borrow.Author.Tests.{lt-ltb, le-ltb}
 use borrow.Author.Rules.{rules}
 use Rattle.cells_questions.proofs.fitness.blocks_fit.Statement.{statement}
 use Rattle.cells_questions.proofs.fitness.blocks_fit.Tie as tie
 
 returns : tie.Need-returns
-returns c = rw (lt-ltb _ _ c.before.if1.true, or_true) c.taken-fit.ensures
+returns c = rw (lt-ltb _ _ c.before.if1.true, or-true) c.taken-fit.ensures
 
 returns-2 : tie.Need-returns-2
 returns-2 c = rw (c.if2.true, le-ltb _ _ c.before.if1.false)

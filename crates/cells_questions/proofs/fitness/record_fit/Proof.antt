@@ -1,6 +1,6 @@
 -- Each return by the tests that led to it.
 use mathlib.Core.Path.{sym, ◌∙◌}
-use mathlib.Core.Bool.{and_true}
+use mathlib.Core.Bool.{and-true}
 use borrow.Author.Tests.{not-true, not-false, lt-ltb, le-ltb, eq-eqb, ne_eqb}
 use Rattle.cells_spec.specs.Questions.{record_fit}
 use borrow.Author.Rules.{rules}
@@ -25,7 +25,7 @@ returns-4 c = rw (ne_eqb _ _ c.before.before.before.before.before.before.if1.fal
 
 returns-5 : tie.Need-returns-5
 unfolding record_fit
-returns-5 c = rw (ne_eqb _ _ c.before.before.before.before.before.before.before.before.before.if1.false, lt-ltb _ _ c.before.before.before.before.before.before.before.if2.false, sym c.before.before.before.before.before.before.line-fit.ensures ∙ not-false _ c.before.before.before.before.before.if3.false, sym c.before.before.before.before.blocks-fit.ensures ∙ not-false _ c.before.before.before.if4.false, and_true, c.before.before.values-fit.ensures, c.few-attempts.ensures)
+returns-5 c = rw (ne_eqb _ _ c.before.before.before.before.before.before.before.before.before.if1.false, lt-ltb _ _ c.before.before.before.before.before.before.before.if2.false, sym c.before.before.before.before.before.before.line-fit.ensures ∙ not-false _ c.before.before.before.before.before.if3.false, sym c.before.before.before.before.blocks-fit.ensures ∙ not-false _ c.before.before.before.if4.false, and-true, c.before.before.values-fit.ensures, c.few-attempts.ensures)
 
 pub record-fit-spec : {M : Type 1} → statement M
 record-fit-spec =
