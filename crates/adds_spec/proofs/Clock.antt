@@ -91,6 +91,7 @@ module _ (φ : ℕ → ℕ) where
   module _ (b b' : Calls) (i : Image φ b b') where
     busy-at : (o : Option Call) → IsBusy o → IsBusy (pending_at φ o)
     busy-at (some c) h = tt
+    busy-at none h = elim h [ ]
 
     idle_too : (t : ℕ) → b.pending t ≡ none → b'.pending t ≡ none
     idle_too t h = i.pending t ∙ ap (pending_at φ) h
@@ -106,6 +107,8 @@ module _ (φ : ℕ → ℕ) where
     allowed_image size (step t) (answered x r) h = busy_too t h
     allowed_image size (drop t) (refused r) h = idle_too t h
     allowed_image size (drop t) (accepted x) h = (busy_too t h.0, h.1)
+    allowed_image size (begin t op) (answered x r) h = elim h [ ]
+    allowed_image size (drop t) (answered x r) h = elim h [ ]
 
 -- THE CALLS' BEGINS: the clock goes on after each
 

@@ -15,6 +15,7 @@ use Rattle.history_linearization.proofs.Timeline.{le_or_lt}
 pub map_out : {A B : Type 0} (f : A → B) (l : List A) (b : B) → b ∈ map f l → (a : A) × (a ∈ l) × (b ≡ f a)
 map_out f (x ∷ l) b (inl e) = (x, inl refl, e)
 map_out f (x ∷ l) b (inr i) = let r = map_out f l b i in (r.0, inr r.1, r.2)
+map_out {A = A} {B = B} f [] b x' = elim x' [ ]
 
 module _ (φ : ℕ → ℕ) where
   abbrev pub begin_at : CallId → CallId
@@ -124,6 +125,7 @@ module _ (φ : ℕ → ℕ) where
     replies-at : (cells : ℕ → ℕ) (l : List Point) (e : Point) (a : Response) → (e, a) ∈ replies cells l → (point_at e, a) ∈ replies cells (map point_at l)
     replies-at cells (x ∷ l) e a (inl q) = inl (ap (λ (p : Point × Response). (point_at p.0, p.1)) q)
     replies-at cells (x ∷ l) e a (inr j) = inr (replies-at (apply cells x.call.op) l e a j)
+    replies-at cells [] e a x' = elim x' [ ]
 
     pub linearizes-at : {values : ℕ → ℕ} {l : List Point} → Linearizes values b l → Linearizes values b' (map point_at l)
     linearizes-at {values} {l} r = record {

@@ -36,6 +36,7 @@ reply_suits v (swap k e n) = go (eqb v e)
 replies_suit : (cells : ℕ → ℕ) (l : List Point) (p : Point × Response) → p ∈ replies cells l → Suits p.0.call.op p.1
 replies_suit cells (e ∷ l) p (inl q) = subst (λ (p : Point × Response). Suits p.0.call.op p.1) (sym q) (reply_suits (cells (cell_of e.call.op)) e.call.op)
 replies_suit cells (e ∷ l) p (inr i) = replies_suit (apply cells e.call.op) l p i
+replies_suit cells [] p x' = elim x' [ ]
 
 -- values below `top`, which is none
 abbrev pub Below : ℕ → Op → Type 0

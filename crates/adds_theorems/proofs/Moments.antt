@@ -231,6 +231,8 @@ module _ (φ : ℕ → ℕ) where
       firsts : ((m : Mark) → m ∈ F → First φ m.spot.moment) → (m : Mark) → (m ≡ x) ⊎ (m ∈ F) → First φ m.spot.moment
       firsts r m (inl e) = rw e (clocked s.0.moment).0
       firsts r m (inr i) = r m i
+  mapped [] (y ∷ R) s z = elim s [ ]
+  mapped (x ∷ F) [] s z = elim s [ ]
 
   same_keys : (x y : Mark) → First φ x.spot.moment → First φ y.spot.moment → not_after (key (mark_at φ x)) (key (mark_at φ y)) ≡ not_after (key x) (key y)
   same_keys x y p q = let o = same_order φ x.spot.moment y.spot.moment p q in rw (o.0, o.1)

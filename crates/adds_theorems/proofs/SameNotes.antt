@@ -99,6 +99,8 @@ module _ (φ : ℕ → ℕ) where
       go : (b : Bool) → SameSpot (rule_at n l) (rule_at n m) → SameSpot (cond b p.1 (rule_at n l)) (cond b q.1 (rule_at n m))
       go true r = h.1
       go false r = r
+  at-rule n [] (q ∷ m) h = elim h [ ]
+  at-rule n (p ∷ l) [] h = elim h [ ]
 
   -- the number of a drop, and where its swap takes effect
   abbrev SameLanding : ℕ × Spot → ℕ × Spot → Type 0
@@ -111,6 +113,8 @@ module _ (φ : ℕ → ℕ) where
       go : (b : Bool) → Both SameLanding (cond b (some (w.drop, spot_at w.inactive C3)) none) (cond b (some (w'.drop, spot_at w'.inactive C3)) none)
       go true = (h.drop, at-spot _ h.inactive)
       go false = tt
+  same-landed none (some w') h v = elim h [ ]
+  same-landed (some w) none h v = elim h [ ]
 
   -- NOTES
 
@@ -235,6 +239,8 @@ module _ (φ : ℕ → ℕ) where
   pub both_marks : (a a' b b'' : List Mark) → SameMarks a a' → SameMarks b b'' → SameMarks (a ++ b) (a' ++ b'')
   both_marks [] [] b b'' h i = i
   both_marks (x ∷ a) (y ∷ a') b b'' h i = (h.0, both_marks a a' b b'' h.1 i)
+  both_marks [] (y ∷ a') b b'' h i = elim h [ ]
+  both_marks (x ∷ a) [] b b'' h i = elim h [ ]
 
   module _ {S : Type 0} (machine : S → Action → S × Event) (see : S → ℕ → Sight) (s : S) (o o' : Notes) (T : Tied o o') (now : Clocked o.now o'.now) (b b'' : Calls) (i : Image φ b b'') (drops : FirstDrops b.withdrawn) where
     same_mark : (p p' : Spot) → SameSpot p p' → (a : Response) (c : Option Call) → SameMarks (mark_of (noting machine see) (names machine see) c a p) (mark_of (noting machine see) (names machine see) (pending_at φ c) a p')
@@ -244,10 +250,14 @@ module _ (φ : ℕ → ℕ) where
     pending_mark : (p p' : Option Spot) → Both SameSpot p p' → (c : Option Call) → SameMarks (mark_of_pending (noting machine see) (names machine see) p c) (mark_of_pending (noting machine see) (names machine see) p' (pending_at φ c))
     pending_mark none none h c = tt
     pending_mark (some p) (some p') h c = same_mark p p' h Yes c
+    pending_mark none (some p') h c = elim h [ ]
+    pending_mark (some p) none h c = elim h [ ]
 
     landed_mark : (x x' : Option (ℕ × Spot)) → Both SameLanding x x' → SameMarks (mark_of_landed (noting machine see) (names machine see) x b.withdrawn) (mark_of_landed (noting machine see) (names machine see) x' b''.withdrawn)
     landed_mark none none h = tt
     landed_mark (some (n, p)) (some (n', p')) h = rw (i.withdrawn, h.0.1, found b.withdrawn drops n h.0.0) (same_mark p p' h.1 Yes (withdrawn_at b.withdrawn n))
+    landed_mark none (some _) h = elim h [ ]
+    landed_mark (some (n , p)) none h = elim h [ ]
 
     pub marked-same : (a : Action) (e : Event) → SameMarks (marked (noting machine see) (names machine see) (s, o) b a e) (marked (noting machine see) (names machine see) (s, o') b'' a e)
     marked-same (begin t op) e = tt

@@ -1,7 +1,7 @@
 -- The arrays of a state with adds have their lengths, by its type.
-use mathlib.Core.Path.{◌≡◌, sym, ◌∙◌}
+use mathlib.Core.Path.{◌≡◌}
 use mathlib.Core.List.{List}
-use lib.ListN.{length, length-map}
+use lib.ListN.{length}
 use mir.Val.{Val}
 use denote.Laws.{Is}
 use denote.Struct.Laws as LL
@@ -12,7 +12,7 @@ use Rattle.adds_spec.proofs.AddingState.TheLaws as S'
 
 module _ (s : AddingState) (vs : List Val) (g : Is S.the_row s vs) where
   pub has_32_adds : length s.adds ≡ 32
-  has_32_adds = sym (length-map s.adds _) ∙ (LL.owed S.the_type S'.the_laws s vs g).1.0.1.0.1
+  has_32_adds = (LL.owed S.the_type S'.the_laws s vs g).1.0.1.0.1
 
   pub has_32_records : length s.cells.records ≡ 32
   has_32_records = has_32 s.cells _ (LL.owed S.the_type S'.the_laws s vs g).0

@@ -168,7 +168,7 @@ fn lent_turn(s: AddingState, pool: &mut [u32], task: u32, r: Record) -> AddingTu
 // A step over the task's record, lent: it takes the place of the state's, and afterwards the two are equal. Refused, it is as
 // before.
 pub fn step_lent(s: AddingState, pool: &mut [u32], task: u32, rec: &mut Record) -> AddingReply
-    ensures { adding_lent (adding_after result.state pool.new (adding_said_of result.outcome)) rec.new ≡ adding_stepped_lent s pool.old task rec.old }
+    ensures { adding_lent (adding_after result.state pool.new (adding_said_of result.outcome)) rec.exit.now ≡ adding_stepped_lent s pool.old task rec.entry.now }
 {
     let r = *rec;
     let n = lent_turn(s, pool, task, r);

@@ -48,7 +48,7 @@ fn lent_turn(s: State, pool: &mut [u32], task: u32, r: Record) -> LentTurn
 // A step over the task's record, lent: it stands in place of the state's, and afterwards the two are equal. Refused,
 // it is as before.
 pub fn step_lent(s: State, pool: &mut [u32], task: u32, rec: &mut Record) -> Reply
-    ensures { lent (leaving result.state pool.new (said result.outcome)) rec.new ≡ stepped_lent s pool.old task rec.old }
+    ensures { lent (leaving result.state pool.new (said result.outcome)) rec.exit.now ≡ stepped_lent s pool.old task rec.entry.now }
 {
     let r = *rec;
     let n = lent_turn(s, pool, task, r);

@@ -71,6 +71,7 @@ module _ (s : State) (p : List ℕ) (t b : ℕ) where
       go (inl e) = (for13, e)
       go (inr (inl e)) = (for25, e)
       go (inr (inr (inl e))) = (for28, e)
+      go (inr (inr (inr x3))) = elim x3 [ ]
 
   -- line 2 won: D was none, and is what the task loaded
   at_2 : (w : Wanted) → wins_of (event_of (tries_at s p t (l2 w)) (ran_at s p t (l2 w)).outcome) ≡ 1 → (word p r.held D ≡ no_value) × ((touched_at s p t (l2 w)).pool ≡ set_word p r.held D r.loaded)

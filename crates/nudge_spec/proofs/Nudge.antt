@@ -37,6 +37,7 @@ of_task_lem t (x ∷ l) f i = go (mem_append (finished_by t l) (cond (eqb x.call
     last : (c : Bool) → eqb x.call.start.task t ≡ c → f ∈ cond c (x ∷ []) [] → (f ∈ (x ∷ l)) × (f.call.start.task ≡ t)
     last true q (inl e) = (inl e, ap (λ (f : FinishedCall). f.call.start.task) e ∙ eqb-true x.call.start.task t q)
     last false q i = absurd i
+    last true q (inr x4) = elim x4 [ ]
 
     go : (f ∈ finished_by t l) ⊎ (f ∈ cond (eqb x.call.start.task t) (x ∷ []) []) → (f ∈ finished_by t l → (f ∈ l) × (f.call.start.task ≡ t)) → (f ∈ (x ∷ l)) × (f.call.start.task ≡ t)
     go (inl i) rec = let (k, q) = rec i in (inr k, q)

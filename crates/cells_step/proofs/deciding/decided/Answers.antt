@@ -18,4 +18,4 @@ pub returns-else-v-rec-2 : goal.returns-else-v-rec-2
 returns-else-v-rec-2 c = (c.answer-else-v-rec-2.ensures.0, λ t. wanted_at c.args.rec.now t c.args.v _ c.in-28.is (rw (ne_eqb _ _ c.if-v-rec-2.false) c.answer-else-v-rec-2.ensures.1))
 
 pub returns-in_default : goal.returns-in_default
-returns-in_default c = (c.goto-in_default.ensures.0, λ t. rw (ne_eqb _ _ c.in-13.rest.0.0.1, ne_eqb _ _ c.in-13.rest.0.1, ne_eqb _ _ c.in-13.rest.1) (c.goto-in_default.ensures.1 _ c.requires))
+returns-in_default c = (c.goto-in_default.ensures.0, λ t. rw (ne_eqb _ _ c.in_default.in_default-own.rest.0.0.1, ne_eqb _ _ c.in_default.in_default-own.rest.0.1, ne_eqb _ _ c.in_default.in_default-own.rest.1) (c.goto-in_default.ensures.1 _ c.requires))

@@ -20,7 +20,7 @@ pub store-requires-in-7 : goal.store-requires-in-7
 store-requires-in-7 c = let w = c.args.rec.now in reaches-at _ w 0 l7 (line-at (record_of w) 7 c.in-7.is) c.requires.0
 
 pub store-requires-in_default : goal.store-requires-in_default
-store-requires-in_default c = let w = c.args.rec.now in let e : get_or w 0 0 ≡ 8 = omega (arith, c.requires.2, c.requires.3, c.in-4.rest) in reaches-at _ w 0 l8 (line-at (record_of w) 8 e) c.requires.0
+store-requires-in_default c = let w = c.args.rec.now in let e : get_or w 0 0 ≡ 8 = omega (arith, c.requires.2, c.requires.3, c.in_default.in_default-own.rest) in reaches-at _ w 0 l8 (line-at (record_of w) 8 e) c.requires.0
 
 pub returns-in-4 : goal.returns-in-4
 returns-in-4 c = (c.allocate.ensures.0, λ t. c.allocate.ensures.1 c.args.rec.now t c.requires.0.size c.in-4.is)
@@ -35,4 +35,4 @@ pub returns-in-7 : goal.returns-in-7
 returns-in-7 c = let w = c.args.rec.now in let r = record_of w in let p = c.args.pool.now in (c.leave-in-7.ensures.0 c.goto-in-7.ensures.0, λ t. c.leave-in-7.ensures.1 _ _ ∙ by-store p t r c.args.current c.args.last (found_of c.args.free) l7 (line-at r 7 c.in-7.is) D refl c.store-in-7.ensures (c.goto-in-7.ensures.1 w c.requires.0.size))
 
 pub returns-in_default : goal.returns-in_default
-returns-in_default c = let w = c.args.rec.now in let r = record_of w in let p = c.args.pool.now in let e : get_or w 0 0 ≡ 8 = omega (arith, c.requires.2, c.requires.3, c.in-4.rest) in (c.leave-in_default.ensures.0 c.goto-in_default.ensures.0, λ t. c.leave-in_default.ensures.1 _ _ ∙ by-store p t r c.args.current c.args.last (found_of c.args.free) l8 (line-at r 8 e) Field.V refl c.store-in_default.ensures (c.goto-in_default.ensures.1 w c.requires.0.size))
+returns-in_default c = let w = c.args.rec.now in let r = record_of w in let p = c.args.pool.now in let e : get_or w 0 0 ≡ 8 = omega (arith, c.requires.2, c.requires.3, c.in_default.in_default-own.rest) in (c.leave-in_default.ensures.0 c.goto-in_default.ensures.0, λ t. c.leave-in_default.ensures.1 _ _ ∙ by-store p t r c.args.current c.args.last (found_of c.args.free) l8 (line-at r 8 e) Field.V refl c.store-in_default.ensures (c.goto-in_default.ensures.1 w c.requires.0.size))

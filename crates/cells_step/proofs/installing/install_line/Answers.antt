@@ -26,4 +26,4 @@ pub returns-in-30 : goal.returns-in-30
 returns-in-30 c = (c.install.ensures.0, c.install.ensures.1 _)
 
 pub returns-in_default : goal.returns-in_default
-returns-in_default c = let w = c.args.rec.now in let r = record_of w in let p = c.args.pool.now in (c.leave-in_default.ensures.0 c.goto.ensures.0, λ t f. c.leave-in_default.ensures.1 _ _ ∙ by_nothing p t r c.args.current c.args.last f (no_end (get_or w 0 0) (get_or w 1 0) (c.requires.1, c.requires.2) c.in-26.rest.0.0.1 c.in-26.rest.0.1 c.in-26.rest.1) (c.goto.ensures.1 w c.requires.0.size))
+returns-in_default c = let w = c.args.rec.now in let r = record_of w in let p = c.args.pool.now in (c.leave-in_default.ensures.0 c.goto.ensures.0, λ t f. c.leave-in_default.ensures.1 _ _ ∙ by_nothing p t r c.args.current c.args.last f (no_end (get_or w 0 0) (get_or w 1 0) (c.requires.1, c.requires.2) c.in_default.in_default-own.rest.0.0.1 c.in_default.in_default-own.rest.0.1 c.in_default.in_default-own.rest.1) (c.goto.ensures.1 w c.requires.0.size))

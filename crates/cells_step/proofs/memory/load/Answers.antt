@@ -1,4 +1,3 @@
-
 use Rattle.cells_step.proofs.memory.load.Goals as goal
 
 pub returns : goal.returns

@@ -30,7 +30,7 @@ pub returns-in-10-to-12 : goal.returns-in-10-to-12
 returns-in-10-to-12 c = let x = c.read_line.ensures c.args.task in (c.leave-in-10-to-12.ensures.0 x.0, c.leave-in-10-to-12.ensures.1 _ _ ∙ x.1 c.args.last (found_of c.args.free))
 
 pub returns-in-15-to-24 : goal.returns-in-15-to-24
-returns-in-15-to-24 c = let x = c.Swap-Line.ensures in (c.leave-in-15-to-24.ensures.0 x.0, c.leave-in-15-to-24.ensures.1 _ _ ∙ x.1 c.args.last (found_of c.args.free))
+returns-in-15-to-24 c = let x = c.swap_line.ensures in (c.leave-in-15-to-24.ensures.0 x.0, c.leave-in-15-to-24.ensures.1 _ _ ∙ x.1 c.args.last (found_of c.args.free))
 
 pub returns-in-26-to-30 : goal.returns-in-26-to-30
 returns-in-26-to-30 c = (c.install_line.ensures.0, c.install_line.ensures.1 c.args.task (found_of c.args.free))

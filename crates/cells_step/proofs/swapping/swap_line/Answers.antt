@@ -33,7 +33,7 @@ pub store-requires-in-23 : goal.store-requires-in-23
 store-requires-in-23 c = let w = c.args.rec.now in reaches-at _ w 0 l23 (line-at (record_of w) 23 c.in-23.is) c.requires.0
 
 pub load-requires-in_default : goal.load-requires-in_default
-load-requires-in_default c = let w = c.args.rec.now in let e = at_24 _ (c.requires.1, c.requires.2) c.in-15.rest in reaches-at _ w 0 l24 (line-at (record_of w) 24 e) c.requires.0
+load-requires-in_default c = let w = c.args.rec.now in let e = at_24 _ (c.requires.1, c.requires.2) c.in_default.in_default-own.rest in reaches-at _ w 0 l24 (line-at (record_of w) 24 e) c.requires.0
 
 pub returns-in-15 : goal.returns-in-15
 returns-in-15 c = let w = c.args.rec.now in let r = record_of w in let p = c.args.pool.now in (c.hold.ensures.0, λ l f. by-cell p c.args.task r c.args.current l f l15 (line-at r 15 c.in-15.is) refl (c.hold.ensures.1 w c.requires.0.size))
@@ -69,7 +69,7 @@ pub returns-in-23 : goal.returns-in-23
 returns-in-23 c = let w = c.args.rec.now in let r = record_of w in let p = c.args.pool.now in (c.goto-in-23.ensures.0, λ l f. by-store p c.args.task r c.args.current l f l23 (line-at r 23 c.in-23.is) Field.V refl c.store-in-23.ensures (c.goto-in-23.ensures.1 w c.requires.0.size))
 
 pub returns-then-load-eq0-2 : goal.returns-then-load-eq0-2
-returns-then-load-eq0-2 c = let w = c.args.rec.now in let r = record_of w in let p = c.args.pool.now in let e = at_24 _ (c.requires.1, c.requires.2) c.in-15.rest in (c.goto-then-load-eq0-2.ensures.0, λ l f. by-load p c.args.task r c.args.current l f l24 (line-at r 24 e) C refl c.load-in_default.ensures (rw (eq-eqb _ _ c.if-load-eq0-2.true) (c.goto-then-load-eq0-2.ensures.1 w c.requires.0.size)))
+returns-then-load-eq0-2 c = let w = c.args.rec.now in let r = record_of w in let p = c.args.pool.now in let e = at_24 _ (c.requires.1, c.requires.2) c.in_default.in_default-own.rest in (c.goto-then-load-eq0-2.ensures.0, λ l f. by-load p c.args.task r c.args.current l f l24 (line-at r 24 e) C refl c.load-in_default.ensures (rw (eq-eqb _ _ c.if-load-eq0-2.true) (c.goto-then-load-eq0-2.ensures.1 w c.requires.0.size)))
 
 pub returns-else-load-eq0-2 : goal.returns-else-load-eq0-2
-returns-else-load-eq0-2 c = let w = c.args.rec.now in let r = record_of w in let p = c.args.pool.now in let e = at_24 _ (c.requires.1, c.requires.2) c.in-15.rest in (c.decide.ensures.0, λ l f. by-load p c.args.task r c.args.current l f l24 (line-at r 24 e) C refl c.load-in_default.ensures (rw (ne_eqb _ _ c.if-load-eq0-2.false) (c.decide.ensures.1 w c.requires.0.size)))
+returns-else-load-eq0-2 c = let w = c.args.rec.now in let r = record_of w in let p = c.args.pool.now in let e = at_24 _ (c.requires.1, c.requires.2) c.in_default.in_default-own.rest in (c.decide.ensures.0, λ l f. by-load p c.args.task r c.args.current l f l24 (line-at r 24 e) C refl c.load-in_default.ensures (rw (ne_eqb _ _ c.if-load-eq0-2.false) (c.decide.ensures.1 w c.requires.0.size)))

@@ -1,0 +1,54 @@
+use mathlib.Core.Path.{◌≡◌, sym, ap, ◌∙◌}
+use mathlib.Core.List.{List}
+use Prim.Native.Nat.{ℕ, suc, ◌≤◌, ◌<◌, ◌-◌, ◌+◌}
+use lib.Dec.{eqb}
+use lib.ListN.{get_or, length, length-set, length-replicate, get_or-replicate}
+use Rattle.cells_spec.specs.Questions.{names_of}
+use Rattle.cells_spec.proofs.Sums.{once, once-most, sum-last, sum-most}
+use Rattle.cells_spec.proofs.Tables.{more-at}
+use native.Mathlib.Omega.{arith}
+use Rattle.std.proofs.Common.{rules}
+use Rattle.cells_questions.proofs.counting.count_cells.Goals as goal
+
+-- at most 16 cells name a block
+few : (l : List ℕ) (b k : ℕ) → k ≤ 16 → names_of l b k ≤ 16
+few l b k h = omega (arith, sum-most (λ k. once (eqb (get_or l k 0) b)) 1 0 k (λ j. once-most (eqb (get_or l j 0) b)))
+
+one_more : (l : List ℕ) (b k : ℕ) → names_of l b (k + 1) ≡ names_of l b k + once (eqb (get_or l k 0) b)
+one_more l b k = ap (names_of l b) (next k) ∙ (sum-last (λ k. once (eqb (get_or l k 0) b)) 0 k ∙ ap (λ (j : ℕ). names_of l b k + once (eqb (get_or l j 0) b)) (here k))
+  where
+    next : (k : ℕ) → k + 1 ≡ suc k
+    next k = omega arith
+
+    here : (k : ℕ) → 0 + k ≡ k
+    here k = omega arith
+
+pub loop-k-init : goal.loop-k-init
+loop-k-init c = (search rules, rw c.requires.2 (length-replicate {A = ℕ} 128 0), λ b m. rw c.requires.2 (get_or-replicate 128 b 0 0 m))
+
+pub count-requires : goal.count-requires
+count-requires c = let l = c.loop-k in
+    let a = c.args in
+    let p = c.requires in
+    let t = c.loop-k-test.true in
+    let h = p.1 l.k t in
+    (h, omega (arith, l.invariant.2 _ h, few a.current.now (get_or a.current.now l.k 0) l.k (omega (arith, p.0))))
+
+pub overflow_add-k : goal.overflow_add-k
+overflow_add-k c = omega arith
+
+pub loop-k-smaller : goal.loop-k-smaller
+loop-k-smaller c = omega arith
+
+pub loop-k-preserved : goal.loop-k-preserved
+loop-k-preserved c = let l = c.loop-k in
+    let a = c.args in (
+      search rules,
+      rw c.count.ensures (length-set l.table (get_or a.current.now l.k 0) _ ∙ l.invariant.1),
+      λ b m. rw c.count.ensures (more-at b l.table (omega (arith, m, l.invariant.1)) (get_or a.current.now l.k 0) ∙ rw (l.invariant.2 b m) (sym (one_more a.current.now b l.k))),
+    )
+
+pub returns : goal.returns
+returns c = let l = c.loop-k in
+    let e : l.k ≡ c.args.cells = omega (arith, l.invariant.0, c.loop-k-test.false) in
+    (l.invariant.1, λ b m. l.invariant.2 b m ∙ rw e)

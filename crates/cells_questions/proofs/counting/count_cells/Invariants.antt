@@ -1,0 +1,17 @@
+use mathlib.Core.Path.{◌≡◌, sym, ap, ◌∙◌}
+use mathlib.Core.List.{List}
+use Prim.Native.Nat.{ℕ, suc, ◌≤◌, ◌<◌, ◌-◌, ◌+◌}
+use lib.Dec.{eqb}
+use lib.ListN.{get_or, length, length-set, length-replicate, get_or-replicate}
+use Rattle.cells_spec.specs.Questions.{names_of}
+use Rattle.cells_spec.proofs.Sums.{once, once-most, sum-last, sum-most}
+use Rattle.cells_spec.proofs.Tables.{more-at}
+use native.Mathlib.Omega.{arith}
+use Rattle.cells_questions.proofs.counting.count_cells.Given as goal
+
+-- The loop: the table holds what the cells so far name.
+abbrev pub invariant-loop-k : goal.invariant-loop-k
+invariant-loop-k l = (l.k ≤ l.n) × (length l.table ≡ 128) × ((b : ℕ) → b < 128 → get_or l.table b 0 ≡ names_of l.current b l.k)
+
+abbrev pub decreases-loop-k : goal.decreases-loop-k
+decreases-loop-k l = l.n - l.k

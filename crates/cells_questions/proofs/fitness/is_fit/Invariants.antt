@@ -1,0 +1,28 @@
+use mathlib.Core.Path.{◌≡◌, refl, sym, ap, ◌∙◌}
+use mathlib.Core.Bool.{Bool, true, false, ◌&&◌, and-eq-true_iff}
+use Prim.Native.Nat.{ℕ, ◌≤◌, ◌<◌, ◌-◌, ◌+◌}
+use native.Mathlib.Nat.{sub-zero}
+use lib.Dec.{ltb}
+use lib.ListN.{get_or}
+use borrow.Author.Tests.{not-true, not-false, ltb-true}
+use Rattle.cells_spec.specs.declared.State.{State}
+use Rattle.figure_lines.specs.Basics.{all_from}
+use Rattle.figure_lines.specs.Record.{record_at}
+use Rattle.cells_spec.specs.Questions.{record_fit, cells_fit, records_fit, counts_true, fit}
+use Rattle.cells_spec.proofs.Tests.{all-at}
+use Rattle.cells_spec.proofs.Loops.{all_no, all_yes, all_end}
+use Rattle.cells_spec.proofs.Fits.{sizes_ok, grouped, sizes_below}
+use Rattle.cells_spec.proofs.Counted.{Counted, has_room, counted_next, compared}
+use native.Mathlib.Omega.{arith}
+use Rattle.cells_questions.proofs.fitness.is_fit.Given as goal
+
+-- The loop: what is left from here on answers for the records, and the table holds what the cells and the tasks so far use.
+abbrev pub test : State → ℕ → Bool
+test s t = record_fit (record_at s.records t) s.cells s.blocks
+
+abbrev pub invariant-loop-t : goal.invariant-loop-t
+invariant-loop-t l =
+    (l.t ≤ l.n) × (l.n ≤ 32) × (all_from (test l.s) l.t (l.n - l.t) ≡ records_fit l.s) × (records_fit l.s && counts_true l.s ≡ fit l.s l.pool) × (l.s.cells ≤ 16) × (l.s.blocks ≤ 128) × Counted l.s l.table l.t
+
+abbrev pub decreases-loop-t : goal.decreases-loop-t
+decreases-loop-t l = l.n - l.t

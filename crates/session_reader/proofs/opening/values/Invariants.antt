@@ -1,0 +1,18 @@
+use native.Mathlib.Omega.{arith}
+use lib.ListN.{length, take, drop, length-set}
+use Rattle.session_reader.proofs.Listed.{values_none, values_wrong, values-first}
+use Rattle.session_reader.proofs.Turns.{Turn, turn-start, turn_end, turn_stop, turn_more}
+use Rattle.session_spec.specs.Session as specs
+use Rattle.text.proofs.Reading.{place_at, place_no, number_at, number_no}
+use Rattle.text.proofs.Appending.{one, later}
+use Rattle.text.specs.Readers.{number}
+use Prim.Native.Nat.{◌+◌, ◌-◌, ◌*◌, ◌≤◌}
+use mathlib.Core.Path.{◌≡◌, refl, ◌∙◌}
+use lib.Seq.{drop-set-lt}
+use Rattle.session_reader.proofs.opening.values.Given as goal
+
+abbrev pub invariant-loop-next : goal.invariant-loop-next
+invariant-loop-next l = (l.at + 1 ≤ l.a) × (2 * l.n ≤ l.i) × (length l.out ≡ length l.initial.out) × (1 ≤ l.n) × (drop l.n l.out ≡ drop l.n l.initial.out) × Turn specs.snoc specs.item specs.close (specs.values (drop l.at l.s)) l.s l.a l.i (take l.n l.out)
+
+abbrev pub decreases-loop-next : goal.decreases-loop-next
+decreases-loop-next l = length l.s - l.i
