@@ -4,7 +4,7 @@
 
 use cells::opening_state::open_state;
 use cells::{Answer, Finished, Outcome, State};
-use libc::STDOUT_FILENO;
+use std::io::Result;
 use std::num::wrapping_add_u32;
 
 #[derive(Clone, Copy)]
@@ -53,20 +53,11 @@ fn with_outcome(t: LoopTotals, o: Outcome) -> LoopTotals {
     }
 }
 
-fn print(n: u32, end: &[u8]) {
-    io::print_decimal(STDOUT_FILENO, n as u64);
-    io::write_all(STDOUT_FILENO, end);
-}
-
-fn print_totals(t: LoopTotals) {
-    let space: &[u8] = b" ";
-    print(t.finished, space);
-    print(t.yes, space);
-    print(t.steps, space);
-    print(t.won, space);
-    print(t.lost, space);
-    print(t.sum, space);
-    print(t.refused, b"\n");
+fn print_totals(rt: &impl Print, t: LoopTotals) -> Result<()> {
+    println!(rt;
+        "{} {} {} {} {} {} {}",
+        t.finished, t.yes, t.steps, t.won, t.lost, t.sum, t.refused
+    )
 }
 
 // The state and the schedule between two entries.
@@ -132,7 +123,7 @@ fn run(pool: &mut [u32], first: Round) -> LoopTotals {
     r.totals
 }
 
-fn main() {
+fn main(rt: HostRuntime) -> Result<()> {
     let mut pool = [0u32; 400];
     let opened = cells::open(open_state(1, 1, 3), &mut pool, 32, 16, 80, &[0; 16]);
     let state = opened.state;
@@ -153,5 +144,5 @@ fn main() {
             seed: 1,
         },
     );
-    print_totals(t);
+    print_totals(&rt, t)
 }

@@ -2,38 +2,45 @@
 #![tactic(auto)]
 
 use buffers::file_space;
-use libc::{STDIN_FILENO, STDOUT_FILENO};
 use nudge_tool::run_nudge;
+use program_io::arguments::{ARGUMENT_ROOM, gather, take};
+use program_io::report::{read_all, write_all};
 
-fn main() {
+fn main(rt: HostRuntime) {
+    let mut output = rt.stdout();
+    let mut errors = rt.stderr();
     let mut call = [0u32; 2];
-    let mut line = io::buffer();
-    let given = program_io::arguments::gather(&mut line);
+    let mut line = [0; ARGUMENT_ROOM];
+    let given = gather(&rt, &mut line);
     let length = given.count;
-    if !program_io::arguments::take(
+    if !take(
         &line[..length],
         given.whole,
         &mut call,
+        &mut output,
         b"usage: nudge TASK FINISHED-BEFORE < SESSION\n",
         b"nudge: cannot write standard output",
+        &mut errors,
     ) {
         return;
     }
     let mut file = file_space();
-    let read = program_io::report::read_all(
-        STDIN_FILENO,
+    let read = read_all(
+        &mut rt.stdin(),
         &mut file,
         b"nudge: cannot read standard input",
+        &mut errors,
     );
     if !read.whole {
         return;
     }
     let n = read.count;
-    let mut out = io::buffer();
+    let mut out = [0; 4096];
     let end = run_nudge(&file[..n], call[0], call[1], &mut out);
-    program_io::report::write_all(
-        STDOUT_FILENO,
+    write_all(
+        &mut output,
         &out[..end],
         b"nudge: cannot write standard output",
+        &mut errors,
     );
 }

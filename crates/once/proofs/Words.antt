@@ -1,9 +1,9 @@
 -- A cell that there is, whatever stands for those beyond the list.
-use mathlib.Core.Path.{◌≡◌, refl, sym, ◌∙◌}
+use mathlib.Core.Path.{◌≡◌, refl}
 use mathlib.Core.List.{List, [], ◌∷◌}
 use Prim.Native.Nat.{ℕ, zero, suc, ◌<◌}
 use native.Mathlib.Omega.{arith}
-use lib.ListN.{get_or, length, length-map}
+use lib.ListN.{get_or, length}
 use mir.Val.{Val}
 use denote.Laws.{Is}
 use denote.Struct.Laws as LL
@@ -19,7 +19,7 @@ zero_cell = record { x = 0; y = 0; c = 0; v = 0; d = 0; offered = [] }
 
 -- by the state's type
 has_16 : (s : OnceState) (vs : List Val) → Is S.the_row s vs → length s.words ≡ 16
-has_16 s vs g = sym (length-map s.words _) ∙ (LL.owed S.the_type S'.the_laws s vs g).1.1.0.1.0.1
+has_16 s vs g = (LL.owed S.the_type S'.the_laws s vs g).1.1.0.1.0.1
 
 any_default : {A : Type 0} (l : List A) (k : ℕ) (d e : A) → k < length l → get_or l k d ≡ get_or l k e
 any_default [] k d e h = absurd (omega (arith, h))

@@ -3,8 +3,15 @@ ghost use Rattle.std.specs.Prelude.{◌≡◌, length};
 ghost use Rattle.io.specs.Counts.{IsPrefixLen};
 ghost use Rattle.buffers.specs.Space.{zeros};
 
-use crate::report::Input;
-use libc::STDOUT_FILENO;
+use crate::report::{Input, read_all, say, write_all};
+use std::env::FillError;
+use std::fs;
+use std::io::{Error, ErrorKind, Result, Write};
+use std::rt::{Env, Files};
+use std::str::from_utf8;
+
+// Room for any path.
+pub const NAME_ROOM: usize = 4096;
 
 // The numbers that a tool takes, and one byte more than a session may have.
 pub fn case_space() -> [u8; 65700]
@@ -14,48 +21,83 @@ pub fn case_space() -> [u8; 65700]
     [0; 65700]
 }
 
-// A file open for reading, negative where that failed, and how long its name is.
-#[derive(Clone, Copy)]
-pub struct Case {
-    pub fd: i32,
+// A file open for reading, none where that failed, and how long its name is.
+#[derive(Drop)]
+pub struct Case<F> {
+    pub file: Option<F>,
     pub length: usize,
 }
 
+fn why_no_argument(error: FillError) -> Error {
+    match error {
+        FillError::NotPresent => Error::from(ErrorKind::InvalidInput),
+        FillError::TooLong => Error::from(ErrorKind::InvalidFilename),
+    }
+}
+
+// A path has to be text.
+fn open<R: Files>(rt: &R, name: &[u8]) -> Result<R::File> {
+    match from_utf8(name) {
+        Ok(path) => fs::open(rt, path),
+        Err(_) => Err(Error::from(ErrorKind::InvalidFilename)),
+    }
+}
+
 // Writes # and the i-th argument, and opens the file of that name. What fails is said on standard error.
-pub fn open_case(i: usize, name: &mut [u8]) -> Case
+pub fn open_case<R: Env + Files>(
+    rt: &R,
+    i: usize,
+    name: &mut [u8],
+    to: &mut impl Write,
+    errors: &mut impl Write,
+) -> Case<R::File>
     ensures { IsPrefixLen result.length name.new }
 {
-    let length = os::arg(i, name);
-    if os::errno() != 0 {
-        os::fail(b"argument");
-        return Case { fd: -1, length };
-    }
+    let length = match rt.arg(i, name) {
+        Ok(length) => length,
+        Err(e) => {
+            say(errors, b"argument", why_no_argument(e));
+            return Case {
+                file: None,
+                length: 0,
+            };
+        }
+    };
     let text = &name[..length];
-    io::write_all(STDOUT_FILENO, b"# ");
-    io::write_all(STDOUT_FILENO, text);
-    io::write_all(STDOUT_FILENO, b"\n");
-    let fd = os::open_read(text);
-    if fd < 0 {
-        os::fail(text);
+    let what = b"output";
+    write_all(to, b"# ", what, errors);
+    write_all(to, text, what, errors);
+    write_all(to, b"\n", what, errors);
+    match open(rt, text) {
+        Ok(file) => Case {
+            file: Some(file),
+            length,
+        },
+        Err(e) => {
+            say(errors, text, e);
+            Case { file: None, length }
+        }
     }
-    Case { fd, length }
 }
 
 // The same, and reads the file.
-pub fn read_case(i: usize, file: &mut [u8]) -> Input
+pub fn read_case<R: Env + Files>(
+    rt: &R,
+    i: usize,
+    file: &mut [u8],
+    to: &mut impl Write,
+    errors: &mut impl Write,
+) -> Input
     ensures { IsPrefixLen result.count file.new }
 {
-    let mut name = io::buffer();
-    let case = open_case(i, &mut name);
-    let fd = case.fd;
+    let mut name = [0; NAME_ROOM];
+    let case = open_case(rt, i, &mut name, to, errors);
     let length = case.length;
-    if fd < 0 {
-        return Input {
+    match case.file {
+        None => Input {
             count: 0,
             whole: false,
-        };
+        },
+        Some(mut from) => read_all(&mut from, file, &name[..length], errors),
     }
-    let read = crate::report::read_all(fd, file, &name[..length]);
-    libc::close(fd);
-    read
 }

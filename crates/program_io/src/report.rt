@@ -1,9 +1,11 @@
 // Reading and writing for programs: a call that fails gives one line on standard error, which says what failed and why.
-// No contract can say which bytes the system's calls read or write.
-ghost use Rattle.std.specs.Prelude.{◌-◌, ◌≤◌};
+// Which bytes the system's calls read or write no contract can say; of a reader and a writer that tell their bytes it can.
+ghost use Rattle.std.specs.Prelude.{◌≡◌, ◌⊎◌, ◌-◌, ◌≤◌, true, length, take};
+ghost use Rattle.std.specs.Io.KnownBytes.{Appends, Consumes, IsAtEnd};
 ghost use Rattle.io.specs.Counts.{IsPrefixLen};
 
-use libc::{EINTR, STDERR_FILENO};
+use std::fmt::Display;
+use std::io::{Error, ErrorKind, Read, Write};
 
 // So many calls may move nothing, as where a signal interrupts them: a program has to end.
 const PATIENCE: usize = 1000;
@@ -15,44 +17,65 @@ pub struct Input {
     pub whole: bool,
 }
 
-// After a call that moved nothing: how many more are worth it. If none is, what failed has been said.
-fn again(answer: isize, left: usize, what: &[u8]) -> usize
+// What failed and why, in a line. Where the line fails too, nobody is left to tell.
+pub fn say<E: Write>(errors: &mut E, what: &[u8], why: impl Display + Drop) {
+    let _ = errors.write_all(what);
+    let _ = write!(errors, ": {why}\n");
+}
+
+// After a call that failed: how many more are worth it. If none is, what failed has been said.
+fn again<E: Write>(error: Error, left: usize, what: &[u8], errors: &mut E) -> usize
     ensures { result ≤ left - 1 }
 {
-    if (answer < 0) & (os::errno() != EINTR) {
-        os::fail(what);
+    if error.kind() != ErrorKind::Interrupted {
+        say(errors, what, error);
         return 0;
     }
+    unmoved(left, what, errors)
+}
+
+// After a call that moved nothing: the same.
+fn unmoved<E: Write>(left: usize, what: &[u8], errors: &mut E) -> usize
+    ensures { result ≤ left - 1 }
+{
     if left <= 1 {
-        io::write_all(STDERR_FILENO, what);
-        io::write_all(STDERR_FILENO, b": no byte was moved\n");
+        say(errors, what, "no byte was moved");
         return 0;
     }
     left - 1
 }
 
 // Reads until the buffer is full or the input ends.
-pub fn read_all(fd: i32, buf: &mut [u8], what: &[u8]) -> Input
-    ensures { IsPrefixLen result.count buf.new }
+pub fn read_all<R: Read, E: Write>(
+    from: &mut R,
+    buf: &mut [u8],
+    what: &[u8],
+    errors: &mut E,
+) -> Input
+    ensures count { IsPrefixLen result.count buf.new }
+    ensures bytes { Consumes (R.remaining from.old) (R.remaining from.new) (take result.count buf.new) }
+    ensures whole { result.whole ≡ true → (result.count ≡ length buf.new) ⊎ IsAtEnd (R.remaining from.new) }
 {
     let mut done = 0;
     let mut left = PATIENCE;
     while done < buf.len() {
-        let answer = libc::read(fd, &mut buf[done..]);
-        if answer == 0 {
-            break;
-        }
-        let more = io::count(answer, &buf[done..]);
-        if more != 0 {
-            done += more;
-            continue;
-        }
-        left = again(answer, left, what);
-        if left == 0 {
-            return Input {
-                count: done,
-                whole: false,
-            };
+        match from.read(&mut buf[done..]) {
+            Ok(0) => {
+                return Input {
+                    count: done,
+                    whole: true,
+                };
+            }
+            Ok(n) => done += n,
+            Err(e) => {
+                left = again(e, left, what, errors);
+                if left == 0 {
+                    return Input {
+                        count: done,
+                        whole: false,
+                    };
+                }
+            }
         }
     }
     Input {
@@ -62,17 +85,17 @@ pub fn read_all(fd: i32, buf: &mut [u8], what: &[u8]) -> Input
 }
 
 // Writes all of a text, and answers whether that went well.
-pub fn write_all(fd: i32, text: &[u8], what: &[u8]) -> bool {
-    let mut done = 0;
+pub fn write_all<W: Write, E: Write>(to: &mut W, text: &[u8], what: &[u8], errors: &mut E) -> bool
+    ensures { result ≡ true → Appends (W.contents to.old) (W.contents to.new) text.now }
+{
+    let mut rest = text;
     let mut left = PATIENCE;
-    while done < text.len() {
-        let answer = libc::write(fd, &text[done..]);
-        let more = io::count(answer, &text[done..]);
-        if more != 0 {
-            done += more;
-            continue;
+    while !rest.is_empty() {
+        match to.write(rest) {
+            Ok(0) => left = unmoved(left, what, errors),
+            Ok(n) => rest = &rest[n..],
+            Err(e) => left = again(e, left, what, errors),
         }
-        left = again(answer, left, what);
         if left == 0 {
             return false;
         }

@@ -2,15 +2,17 @@
 #![tactic(auto)]
 
 use buffers::{file_space, text_space};
-use libc::{STDIN_FILENO, STDOUT_FILENO};
+use program_io::report::{read_all, write_all};
 use session_tool::run_session;
 
-fn main() {
+fn main(rt: HostRuntime) {
+    let mut errors = rt.stderr();
     let mut file = file_space();
-    let read = program_io::report::read_all(
-        STDIN_FILENO,
+    let read = read_all(
+        &mut rt.stdin(),
         &mut file,
         b"session: cannot read standard input",
+        &mut errors,
     );
     if !read.whole {
         return;
@@ -18,9 +20,10 @@ fn main() {
     let n = read.count;
     let mut out = text_space();
     let end = run_session(&file[..n], &mut out);
-    program_io::report::write_all(
-        STDOUT_FILENO,
+    write_all(
+        &mut rt.stdout(),
         &out[..end],
         b"session: cannot write standard output",
+        &mut errors,
     );
 }

@@ -1,6 +1,7 @@
 // Drops of one task, one after the other.
 use crate::{numbers_of, print, print_reply, sum_of};
 use cells::{Record, State};
+use std::io::Result;
 
 // 0 if every field but the line is 0.
 fn other_fields(r: Record) -> u32 {
@@ -11,37 +12,34 @@ fn other_fields(r: Record) -> u32 {
 }
 
 // The task's record, and how many times each block is used.
-fn print_left(s: State, task: u32) {
-    let space: &[u8] = b" ";
+fn print_left(rt: &impl Print, s: State, task: u32) -> Result<()> {
     let t = task as usize;
     if t < 32 {
         let r = s.records[t];
-        print(space, r.line);
-        print(space, other_fields(r));
+        print(rt, " ", r.line)?;
+        print(rt, " ", other_fields(r))?;
     }
     let n = s.blocks as usize;
-    let mut b: usize = 0;
-    while b < 128 {
+    for b in 0..128usize {
         if b < n {
-            print(space, s.counts[b] as u32);
+            print(rt, " ", s.counts[b] as u32)?;
         }
-        b += 1;
     }
+    Ok(())
 }
 
-pub fn drops(s: State, pool: &[u32], task: u32, count: u32) {
+pub fn drops(rt: &impl Print, s: State, pool: &[u32], task: u32, count: u32) -> Result<()> {
     let mut state = s;
-    let mut left = count;
-    while 0 < left {
+    for _ in 0..count {
         let before = sum_of(state, pool);
         let r = cells::drop(state, pool, task);
-        print_reply(before, r, pool);
+        print_reply(rt, before, r, pool)?;
         state = r.state;
         let o = r.outcome;
         let d = numbers_of(o);
         if d.number == 100 {
-            print_left(state, task);
+            print_left(rt, state, task)?;
         }
-        left = left - 1;
     }
+    Ok(())
 }

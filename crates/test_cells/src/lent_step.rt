@@ -6,6 +6,7 @@ ghost use Rattle.cells_spec.specs.Lent.{lent, stepped_lent};
 
 use crate::{Numbers, numbers_of, print, record_sum, sum_of};
 use cells::{Record, Reply, State};
+use std::io::Result;
 
 // A reply, and the record that was lent.
 #[derive(Clone, Copy)]
@@ -24,41 +25,47 @@ fn lend(s: State, pool: &mut [u32], task: u32, r: Record) -> LentKept
 }
 
 // Refused, a step must leave the sum of record, state and pool.
-fn print_step(line: u32, d: Numbers, before: u32, after: u32) {
-    let space: &[u8] = b" ";
-    print(space, line);
-    print(space, d.number);
+fn print_step(rt: &impl Print, line: u32, d: Numbers, before: u32, after: u32) -> Result<()> {
+    print(rt, " ", line)?;
+    print(rt, " ", d.number)?;
     if d.number == 200 {
-        print(space, d.yes);
-        print(space, d.steps);
-        print(space, d.won);
-        print(space, d.lost);
+        print(rt, " ", d.yes)?;
+        print(rt, " ", d.steps)?;
+        print(rt, " ", d.won)?;
+        print(rt, " ", d.lost)?;
     }
     if (d.number < 100) & (before != after) {
-        io::write_all(1, b"!");
+        print!(rt; "!")?;
     }
+    Ok(())
 }
 
-fn step(s: State, pool: &mut [u32], task: u32, r: Record) -> LentKept {
+fn step(rt: &impl Print, s: State, pool: &mut [u32], task: u32, r: Record) -> Result<LentKept> {
     let before = record_sum(sum_of(s, pool), r);
     let k = lend(s, pool, task, r);
     let record = k.record;
     let reply = k.reply;
     let o = reply.outcome;
     let after = record_sum(sum_of(reply.state, pool), record);
-    print_step(record.line, numbers_of(o), before, after);
-    k
+    print_step(rt, record.line, numbers_of(o), before, after)?;
+    Ok(k)
 }
 
-pub fn steps(s: State, pool: &mut [u32], task: u32, r: Record, count: u32) {
+pub fn steps(
+    rt: &impl Print,
+    s: State,
+    pool: &mut [u32],
+    task: u32,
+    r: Record,
+    count: u32,
+) -> Result<()> {
     let mut state = s;
     let mut record = r;
-    let mut left = count;
-    while 0 < left {
-        let k = step(state, pool, task, record);
+    for _ in 0..count {
+        let k = step(rt, state, pool, task, record)?;
         let reply = k.reply;
         state = reply.state;
         record = k.record;
-        left = left - 1;
     }
+    Ok(())
 }

@@ -20,18 +20,14 @@ use cells::opening_state::open_state;
 use cells::{Answer, Finished, Looked, Outcome, Record, Reply, State};
 use cells_step::words::words_of;
 use figure_lines::records;
-use libc::STDOUT_FILENO;
+use program_io::report::read_all;
+use std::io::Result;
 use std::num::wrapping_add_u32;
 
 // PRINTING
 
-fn print(text: &[u8], n: u32) {
-    io::write_all(STDOUT_FILENO, text);
-    io::print_decimal(STDOUT_FILENO, n as u64);
-}
-
-fn end_line() {
-    io::write_all(STDOUT_FILENO, b"\n");
+fn print(rt: &impl Print, text: &str, n: u32) -> Result<()> {
+    print!(rt; "{text}{n}")
 }
 
 // An outcome in numbers: 100 acted, 200 ended, else the refusal; of a finished call what it reports.
@@ -79,10 +75,10 @@ fn numbers_of(o: Outcome) -> Numbers {
     }
 }
 
-fn print_look(l: Looked) {
+fn print_look(rt: &impl Print, l: Looked) -> Result<()> {
     match l {
-        Looked::NotShown(n) => print(b" no ", n),
-        Looked::Shown(v) => print(b" shows ", v),
+        Looked::NotShown(n) => print(rt, " no ", n),
+        Looked::Shown(v) => print(rt, " shows ", v),
     }
 }
 
@@ -117,13 +113,14 @@ fn sum_of(s: State, pool: &[u32]) -> u32 {
 }
 
 // Only a refusal must leave them.
-fn print_reply(before: u32, r: Reply, pool: &[u32]) {
+fn print_reply(rt: &impl Print, before: u32, r: Reply, pool: &[u32]) -> Result<()> {
     let o = r.outcome;
     let d = numbers_of(o);
-    print(b" ", d.number);
+    print(rt, " ", d.number)?;
     if (d.number < 100) & (before != sum_of(r.state, pool)) {
-        io::write_all(STDOUT_FILENO, b"!");
+        print!(rt; "!")?;
     }
+    Ok(())
 }
 
 // A CASE
@@ -197,24 +194,24 @@ fn plain() -> EntryCase {
     }
 }
 
-fn try_begins(s: State, pool: &[u32], c: EntryCase) {
+fn try_begins(rt: &impl Print, s: State, pool: &[u32], c: EntryCase) -> Result<()> {
     let before = sum_of(s, pool);
     let r = cells::begin_read(s, pool, c.task, c.cell);
-    print_reply(before, r, pool);
+    print_reply(rt, before, r, pool)?;
     let q = cells::begin_swap(s, pool, c.task, c.cell, c.expected, c.new);
-    print_reply(before, q, pool);
+    print_reply(rt, before, q, pool)
 }
 
-fn try_step(s: State, pool: &mut [u32], task: u32) {
+fn try_step(rt: &impl Print, s: State, pool: &mut [u32], task: u32) -> Result<()> {
     let before = sum_of(s, pool);
     let r = cells::step(s, pool, task);
-    print_reply(before, r, pool);
+    print_reply(rt, before, r, pool)
 }
 
-fn try_open(s: State, pool: &mut [u32], values: &[u32]) {
+fn try_open(rt: &impl Print, s: State, pool: &mut [u32], values: &[u32]) -> Result<()> {
     let before = sum_of(s, pool);
     let r = cells::open(s, pool, s.tasks, s.cells, s.blocks, values);
-    print_reply(before, r, pool);
+    print_reply(rt, before, r, pool)
 }
 
 fn record_of(c: EntryCase) -> Record {
@@ -255,22 +252,26 @@ fn state_of(c: EntryCase) -> State {
 }
 
 // Of the values only the first so many are given.
-fn try_case(c: EntryCase, pool: &mut [u32]) {
+fn try_case(rt: &impl Print, c: EntryCase, pool: &mut [u32]) -> Result<()> {
     let s = state_of(c);
     let given = c.given as usize;
     if c.lent > 0 {
-        crate::lent_step::steps(s, pool, c.task, record_of(c), c.lent);
-    } else if c.drops > 0 {
-        crate::drops::drops(s, pool, c.task, c.drops);
-    } else if given == 0 {
-        try_begins(s, pool, c);
-        try_step(s, pool, c.task);
-        let looked = cells::look(s, pool, c.cell);
-        print_look(looked);
-    } else if given <= 3 {
-        let values = [5, c.second, 6];
-        try_open(s, pool, &values[..given]);
+        return crate::lent_step::steps(rt, s, pool, c.task, record_of(c), c.lent);
     }
+    if c.drops > 0 {
+        return crate::drops::drops(rt, s, pool, c.task, c.drops);
+    }
+    if given == 0 {
+        try_begins(rt, s, pool, c)?;
+        try_step(rt, s, pool, c.task)?;
+        let looked = cells::look(s, pool, c.cell);
+        return print_look(rt, looked);
+    }
+    if given <= 3 {
+        let values = [5, c.second, 6];
+        return try_open(rt, s, pool, &values[..given]);
+    }
+    Ok(())
 }
 
 // The words of nine blocks, as opening two cells with 5 and 6 leaves them.
@@ -280,13 +281,13 @@ const OPENED: [u32; 45] = [
 ];
 
 // Of the words only the first so many are lent.
-fn run_case(c: EntryCase) {
+fn run_case(rt: &impl Print, c: EntryCase) -> Result<()> {
     let mut all = OPENED;
     let words = c.words as usize;
     if words <= 45 {
-        try_case(c, &mut all[..words]);
+        try_case(rt, c, &mut all[..words])?;
     }
-    end_line();
+    print!(rt; "\n")
 }
 
 // READING
@@ -345,20 +346,19 @@ fn with_word(mut c: EntryCase, letter: u8, n: u32) -> EntryCase {
     c
 }
 
-fn run(text: &[u8]) {
+fn run(rt: &impl Print, text: &[u8]) -> Result<()> {
     let mut c = plain();
     let mut letter = b'\n';
     let mut n = 0;
-    let mut k: usize = 0;
-    while k < text.len() {
-        let byte = text[k];
+    for byte in text {
+        let byte = *byte;
         if letter == b':' {
             if byte == b'\n' {
-                run_case(c);
+                run_case(rt, c)?;
                 c = plain();
                 letter = byte;
             } else {
-                io::write_all(STDOUT_FILENO, &[byte]);
+                rt.write_all(&[byte])?;
             }
         } else if (b'0' <= byte) & (byte <= b'9') {
             n = with_digit(n, byte % 16);
@@ -367,12 +367,18 @@ fn run(text: &[u8]) {
             letter = byte;
             n = 0;
         }
-        k += 1;
     }
+    Ok(())
 }
 
-fn main() {
-    let mut text = io::large_buffer();
-    let n = io::read_full(0, &mut text);
-    run(&text[..n]);
+fn main(rt: HostRuntime) -> Result<()> {
+    let mut text = [0; 65536];
+    let read = read_all(
+        &mut rt.stdin(),
+        &mut text,
+        b"standard input",
+        &mut rt.stderr(),
+    );
+    let n = read.count;
+    run(&rt, &text[..n])
 }

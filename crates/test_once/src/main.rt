@@ -6,38 +6,38 @@
 
 ghost use Rattle.std.specs.Prelude.{◌≤◌, length};
 
-use libc::{STDIN_FILENO, STDOUT_FILENO};
 use once::{Agreement, Offer, OnceCell, OnceReply, OnceState, Progress};
-use program_io::case_files::open_case;
+use program_io::arguments::argument_count;
+use program_io::case_files::{NAME_ROOM, open_case};
+use program_io::report::{read_all, say};
+use std::io::{Read, Result, Write, writer};
 use std::num::wrapping_add_u32;
+use std::rt::{Env, Files};
 use text::Place;
 use text::readers::starts_with;
 
 // PRINTING: false where it failed, which has been said
 
-fn print(text: &[u8], n: u32) {
-    io::write_all(STDOUT_FILENO, text);
-    io::print_decimal(STDOUT_FILENO, n as u64);
+fn printed(line: Result<()>, errors: &mut impl Write) -> bool {
+    match line {
+        Ok(()) => true,
+        Err(e) => {
+            say(errors, b"output", e);
+            false
+        }
+    }
 }
 
-fn end(text: &[u8]) -> bool {
-    program_io::report::write_all(STDOUT_FILENO, text, b"output")
+fn print_agreed(rt: &impl Print, task: u32, a: Agreement, errors: &mut impl Write) -> bool {
+    let line = println!(rt;
+        "(done {task} {} {} {} {})",
+        a.cell, a.value, a.steps, a.hard
+    );
+    printed(line, errors)
 }
 
-fn print_agreed(task: u32, a: Agreement) -> bool {
-    let space: &[u8] = b" ";
-    print(b"(done ", task);
-    print(space, a.cell);
-    print(space, a.value);
-    print(space, a.steps);
-    print(space, a.hard);
-    end(b")\n")
-}
-
-fn print_declined(action: u32, n: u32) -> bool {
-    print(b"(no ", action);
-    print(b" ", n);
-    end(b")\n")
+fn print_declined(rt: &impl Print, action: u32, n: u32, errors: &mut impl Write) -> bool {
+    printed(println!(rt; "(no {action} {n})"), errors)
 }
 
 // READING: a form is known by how many numbers it has
@@ -152,7 +152,15 @@ fn blank() -> SoFar {
 }
 
 // After a move, or an open; refused, the list is open only if it was.
-fn moved(r: OnceReply, was_open: bool, action: u32, task: u32, next: u32) -> SoFar {
+fn moved(
+    rt: &impl Print,
+    r: OnceReply,
+    was_open: bool,
+    action: u32,
+    task: u32,
+    next: u32,
+    errors: &mut impl Write,
+) -> SoFar {
     let state = r.state;
     let progress = r.progress;
     let mut open = true;
@@ -160,11 +168,11 @@ fn moved(r: OnceReply, was_open: bool, action: u32, task: u32, next: u32) -> SoF
     match progress {
         Progress::Declined(n) => {
             open = was_open;
-            goes = print_declined(action, n);
+            goes = print_declined(rt, action, n, errors);
         }
         Progress::Proceeds => {}
         Progress::Agreed(a) => {
-            goes = print_agreed(task, a);
+            goes = print_agreed(rt, task, a, errors);
         }
     }
     SoFar {
@@ -176,16 +184,17 @@ fn moved(r: OnceReply, was_open: bool, action: u32, task: u32, next: u32) -> SoF
     }
 }
 
-fn play(p: SoFar, l: CaseLine) -> SoFar {
+fn play(rt: &impl Print, p: SoFar, l: CaseLine, errors: &mut impl Write) -> SoFar {
     if !p.goes {
         return p;
     }
     if l.form == OPEN {
-        return moved(once::open(p.state, l.first, l.second), false, 0, 0, 0);
+        let opened = once::open(p.state, l.first, l.second);
+        return moved(rt, opened, false, 0, 0, 0, errors);
     }
     if (l.form == BAD) | !p.open_seen {
         let mut q = p;
-        end(b"(bad 14)\n");
+        printed(println!(rt; "(bad 14)"), errors);
         q.goes = false;
         return q;
     }
@@ -194,10 +203,11 @@ fn play(p: SoFar, l: CaseLine) -> SoFar {
     }
     let next = wrapping_add_u32(p.action, 1);
     if l.form == STEP {
-        return moved(once::step(p.state, l.first), true, p.action, l.first, next);
+        let stepped = once::step(p.state, l.first);
+        return moved(rt, stepped, true, p.action, l.first, next, errors);
     }
-    let r = once::begin_offer(p.state, l.first, l.second, l.third);
-    moved(r, true, p.action, l.first, next)
+    let begun = once::begin_offer(p.state, l.first, l.second, l.third);
+    moved(rt, begun, true, p.action, l.first, next, errors)
 }
 
 // INPUT OF ANY LENGTH, a buffer at a time
@@ -225,74 +235,73 @@ fn keep(line: &mut [u8], held: usize, byte: u8) -> usize
 }
 
 // Plays the lines that end in a part of the input.
-fn play_part(s: &[u8], line: &mut [u8], before: SoFar, kept: usize) -> Played
+fn play_part(
+    rt: &impl Print,
+    s: &[u8],
+    line: &mut [u8],
+    before: SoFar,
+    kept: usize,
+    errors: &mut impl Write,
+) -> Played
     requires { kept ≤ length line.old }
     ensures { result.held ≤ length line.new }
 {
     let mut p = before;
     let mut held = kept;
-    let mut k: usize = 0;
-    while k < s.len() {
-        let byte = s[k];
-        k += 1;
+    for byte in s {
+        let byte = *byte;
         held = keep(line, held, byte);
         if byte != b'\n' {
             continue;
         }
-        p = play(p, read_line(&line[..held]));
+        p = play(rt, p, read_line(&line[..held]), errors);
         held = 0;
     }
     Played { standing: p, held }
 }
 
 // A last line may have no end, and is then no form.
-fn end_input(p: SoFar, held: usize) {
+fn end_input(rt: &impl Print, p: SoFar, held: usize, errors: &mut impl Write) {
     if held > 0 {
-        play(p, bad());
+        play(rt, p, bad(), errors);
     }
 }
 
 // A program has to end: so many parts are more than any input has.
-fn run(fd: i32, name: &[u8]) {
-    let mut buf = io::buffer();
+fn run(rt: &impl Print, from: &mut impl Read, name: &[u8], errors: &mut impl Write) {
+    let mut buf = [0; 4096];
     let mut line = [0u8; ROOM];
     let mut p = blank();
     let mut held: usize = 0;
-    let mut parts: usize = usize::MAX;
-    while parts > 0 {
-        let read = program_io::report::read_all(fd, &mut buf, name);
+    for _ in 0..usize::MAX {
+        let read = read_all(from, &mut buf, name, errors);
         let n = read.count;
-        let part = play_part(&buf[..n], &mut line, p, held);
+        let part = play_part(rt, &buf[..n], &mut line, p, held, errors);
         p = part.standing;
         held = part.held;
         if !p.goes | !read.whole {
             return;
         }
         if n < buf.len() {
-            end_input(p, held);
+            end_input(rt, p, held, errors);
             return;
         }
-        parts -= 1;
     }
 }
 
-fn run_case(i: usize) {
-    let mut name = io::buffer();
-    let case = open_case(i, &mut name);
-    let fd = case.fd;
+fn run_case<R: Env + Files + Print>(rt: &R, i: usize, errors: &mut impl Write) {
+    let mut name = [0; NAME_ROOM];
+    let case = open_case(rt, i, &mut name, &mut writer(rt), errors);
     let length = case.length;
-    if fd >= 0 {
-        run(fd, &name[..length]);
-        libc::close(fd);
+    if let Some(mut from) = case.file {
+        run(rt, &mut from, &name[..length], errors);
     }
 }
 
-fn main() {
-    run(STDIN_FILENO, b"standard input");
-    let count = os::arg_count();
-    let mut i: usize = 1;
-    while i < count {
-        run_case(i);
-        i += 1;
+fn main(rt: HostRuntime) {
+    let mut errors = rt.stderr();
+    run(&rt, &mut rt.stdin(), b"standard input", &mut errors);
+    for i in 1..argument_count(&rt) {
+        run_case(&rt, i, &mut errors);
     }
 }

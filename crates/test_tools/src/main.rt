@@ -5,8 +5,11 @@
 ghost use Rattle.io.specs.Counts.{IsPrefixLen};
 
 use buffers::{lines_space, session_space};
-use libc::STDOUT_FILENO;
-use program_io::case_files::{case_space, read_case};
+use program_io::arguments::argument_count;
+use program_io::case_files::{NAME_ROOM, case_space, read_case};
+use program_io::report::write_all;
+use std::io::Write;
+use std::rt::{Env, Files};
 use text::Place;
 
 const SESSION: u32 = 0;
@@ -31,7 +34,7 @@ struct Tool {
 }
 
 // Folders differ by their first letter, those with s by their second and sixth.
-fn tool_of(name: [u8; 4096]) -> Tool {
+fn tool_of(name: [u8; NAME_ROOM]) -> Tool {
     let mut number = NONE;
     let mut takes = 0;
     match name[0] {
@@ -125,40 +128,45 @@ fn run(tool: u32, n: CaseStart, s: &[u8], out: &mut [u8]) -> usize
     shaken(n, out)
 }
 
-fn print(text: &[u8]) {
-    program_io::report::write_all(STDOUT_FILENO, text, b"output");
+fn print(to: &mut impl Write, text: &[u8], errors: &mut impl Write) {
+    write_all(to, text, b"output", errors);
 }
 
-fn run_text(tool: Tool, s: &[u8], out: &mut [u8]) {
+fn run_text(tool: Tool, s: &[u8], out: &mut [u8], to: &mut impl Write, errors: &mut impl Write) {
     let n = read_start(s, tool.takes);
     let from = n.next;
     if (tool.number != NONE) & n.good {
         if from <= s.len() {
             let end = run(tool.number, n, &s[from..], out);
-            print(&out[..end]);
+            print(to, &out[..end], errors);
             return;
         }
     }
-    print(b"(bad 14)\n");
+    print(to, b"(bad 14)\n", errors);
 }
 
-fn run_case(i: usize, out: &mut [u8]) {
+fn run_case<R: Env + Files>(
+    rt: &R,
+    i: usize,
+    out: &mut [u8],
+    to: &mut impl Write,
+    errors: &mut impl Write,
+) {
     let mut file = case_space();
-    let read = read_case(i, &mut file);
+    let read = read_case(rt, i, &mut file, to, errors);
     if read.whole {
-        let mut name = io::buffer();
-        os::arg(i, &mut name);
+        let mut name = [0; NAME_ROOM];
+        let _ = rt.arg(i, &mut name);
         let n = read.count;
-        run_text(tool_of(name), &file[..n], out);
+        run_text(tool_of(name), &file[..n], out, to, errors);
     }
 }
 
-fn main() {
+fn main(rt: HostRuntime) {
+    let mut output = rt.stdout();
+    let mut errors = rt.stderr();
     let mut out = lines_space();
-    let count = os::arg_count();
-    let mut i: usize = 1;
-    while i < count {
-        run_case(i, &mut out);
-        i += 1;
+    for i in 1..argument_count(&rt) {
+        run_case(&rt, i, &mut out, &mut output, &mut errors);
     }
 }

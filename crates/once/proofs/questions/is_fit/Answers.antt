@@ -1,13 +1,8 @@
 use mathlib.Core.Path.{◌≡◌, sym, ◌∙◌}
-use mathlib.Core.Bool.{Bool, true, false}
-use Prim.Native.Nat.{ℕ, ◌≤◌, ◌-◌}
+use mathlib.Core.Bool.{true, false}
 use native.Mathlib.Nat.{sub-zero}
-use native.Mathlib.Omega.{arith}
-use borrow.Author.Tests.{not-true, not-false}
-use Rattle.figure_lines.specs.Basics.{all_from}
 use Rattle.cells_spec.proofs.Loops.{all_no, all_yes, all_end}
-use Rattle.once_spec.specs.declared.OnceState.{OnceState}
-use Rattle.once_spec.specs.Questions.{offer_at, offer_fit, offers_fit, once_fit}
+use Rattle.once_spec.specs.Questions.{offers_fit}
 use Rattle.once.proofs.Fits.{sizes_ok, grouped, tasks-below}
 use Rattle.once.proofs.questions.is_fit.Invariants.{test}
 use Rattle.std.proofs.Common.{rules}
@@ -18,31 +13,16 @@ returns-then-not-tasks_ok-cells_ok c = let s = c.args.s in
     let e : sizes_ok s ≡ false = rw (← c.tasks_ok.ensures, ← c.cells_ok.ensures) c.if-not-tasks_ok-cells_ok.true in
     sym (grouped s ∙ rw e)
 
-pub overflow_cast-n : goal.overflow_cast-n
-overflow_cast-n c = omega arith
-
 pub loop-t-init : goal.loop-t-init
 unfolding offers_fit
 loop-t-init c = let s = c.args.s in
     let e : sizes_ok s ≡ true = rw (← c.tasks_ok.ensures, ← c.cells_ok.ensures) c.if-not-tasks_ok-cells_ok.false in
     (search rules, tasks-below s e, rw sub-zero (sym (grouped s ∙ rw e)))
 
-pub offset_bounds-s-t : goal.offset_bounds-s-t
-offset_bounds-s-t c = omega arith
-
-pub bounds-s-t : goal.bounds-s-t
-bounds-s-t c = omega arith
-
 pub returns-then-not-offer_fit : goal.returns-then-not-offer_fit
 returns-then-not-offer_fit c = let l = c.loop-t in
     let s = c.args.s in
     all_no (test s) l.t s.tasks l.invariant.2 c.loop-t-test.true (sym c.offer_fit.ensures ∙ c.if-not-offer_fit.true)
-
-pub overflow_add-t : goal.overflow_add-t
-overflow_add-t c = omega arith
-
-pub loop-t-smaller : goal.loop-t-smaller
-loop-t-smaller c = omega arith
 
 pub loop-t-preserved : goal.loop-t-preserved
 loop-t-preserved c = let l = c.loop-t in

@@ -1,14 +1,9 @@
-use mathlib.Core.Path.{◌≡◌, sym, ◌∙◌}
-use mathlib.Core.Bool.{Bool, true, false}
+use mathlib.Core.Path.{◌≡◌}
+use mathlib.Core.Bool.{Bool}
 use Prim.Native.Nat.{ℕ, ◌≤◌, ◌-◌}
-use native.Mathlib.Nat.{sub-zero}
-use native.Mathlib.Omega.{arith}
-use borrow.Author.Tests.{not-true, not-false}
 use Rattle.figure_lines.specs.Basics.{all_from}
-use Rattle.cells_spec.proofs.Loops.{all_no, all_yes, all_end}
 use Rattle.once_spec.specs.declared.OnceState.{OnceState}
-use Rattle.once_spec.specs.Questions.{offer_at, offer_fit, offers_fit, once_fit}
-use Rattle.once.proofs.Fits.{sizes_ok, grouped, tasks-below}
+use Rattle.once_spec.specs.Questions.{offer_at, offer_fit, once_fit}
 use Rattle.once.proofs.questions.is_fit.Given as goal
 
 -- The loop: what is left from here on answers for the whole state.

@@ -1,8 +1,5 @@
-use native.Mathlib.Omega.{arith}
-use Rattle.session_reader.proofs.Walks.{got_at, got_no, Walk, walk_start, walk_end, walk_stop, walk_more, finish_no, finish-at}
+use Rattle.session_reader.proofs.Walks.{Walk}
 use Rattle.session_spec.specs.Session as specs
-use Rattle.session_reader.specs.Answers.{of_form, GotIs}
-use Rattle.session_reader.specs.declared.reading.Got.TheVariants as got
 use lib.ListN.{length}
 use Prim.Native.Nat.{◌-◌}
 use Rattle.session_reader.proofs.forms.all_lines.Given as goal

@@ -1,10 +1,7 @@
 use native.Mathlib.Omega.{arith}
 use Rattle.session_reader.proofs.Repeated as repeated
-use Rattle.session_spec.specs.Session.{times}
-use Rattle.text.specs.Append.{Appended}
-use lib.ListN.{length, take, drop}
 use native.Mathlib.Nat.{mul-le-mul_right}
-use Prim.Native.Nat.{◌+◌, ◌-◌, ◌*◌, ◌≤◌}
+use Prim.Native.Nat.{◌+◌, ◌-◌, ◌*◌}
 use mathlib.Core.Path.{◌≡◌}
 use Rattle.std.proofs.Common.{rules}
 use Rattle.session_reader.proofs.forms.repeat.Goals as goal

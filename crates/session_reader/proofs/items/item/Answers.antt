@@ -1,7 +1,6 @@
 use Rattle.session_reader.proofs.Counted.{number-after}
 use Rattle.session_spec.specs.Session.{space}
 use Rattle.text.proofs.Reading.{place_at, place_no}
-use Rattle.text.specs.Readers.{number}
 use Rattle.session_reader.proofs.items.item.Goals as goal
 
 pub returns-in_default : goal.returns-in_default

@@ -1,10 +1,7 @@
 use native.Mathlib.Omega.{arith}
-use Rattle.text.proofs.Several.{Storing, none_stored, one_missing, then_stored, all-stored}
+use Rattle.text.proofs.Several.{none_stored, one_missing, then_stored, all-stored}
 use Rattle.session_spec.specs.Session.{item}
 use Rattle.text.proofs.Reading.{number_at, number_no}
-use lib.ListN.{length}
-use Prim.Native.Nat.{◌-◌, ◌≤◌}
-use mathlib.Core.Path.{◌≡◌}
 use Rattle.std.proofs.Common.{rules}
 use Rattle.session_reader.proofs.items.numbers.Goals as goal
 

@@ -1,7 +1,5 @@
-use native.Mathlib.Omega.{arith}
-use Rattle.text.proofs.Several.{Storing, none_stored, one_missing, then_stored, all-stored}
+use Rattle.text.proofs.Several.{Storing}
 use Rattle.session_spec.specs.Session.{item}
-use Rattle.text.proofs.Reading.{number_at, number_no}
 use lib.ListN.{length}
 use Prim.Native.Nat.{◌-◌, ◌≤◌}
 use mathlib.Core.Path.{◌≡◌}

@@ -1,12 +1,12 @@
 use native.Mathlib.Omega.{arith}
-use lib.ListN.{length, take, drop, length-set}
+use lib.ListN.{length, length-set}
 use Rattle.session_reader.proofs.Listed.{values_none, values_wrong, values-first}
-use Rattle.session_reader.proofs.Turns.{Turn, turn-start, turn_end, turn_stop, turn_more}
+use Rattle.session_reader.proofs.Turns.{turn-start, turn_end, turn_stop, turn_more}
 use Rattle.session_spec.specs.Session as specs
 use Rattle.text.proofs.Reading.{place_at, place_no, number_at, number_no}
 use Rattle.text.proofs.Appending.{one, later}
 use Rattle.text.specs.Readers.{number}
-use Prim.Native.Nat.{◌+◌, ◌-◌, ◌*◌, ◌≤◌}
+use Prim.Native.Nat.{◌+◌}
 use mathlib.Core.Path.{◌≡◌, refl, ◌∙◌}
 use lib.Seq.{drop-set-lt}
 use Rattle.std.proofs.Common.{rules}

@@ -1,14 +1,8 @@
-use native.Mathlib.Omega.{arith}
-use lib.ListN.{length, take, drop, length-set}
-use Rattle.session_reader.proofs.Listed.{values_none, values_wrong, values-first}
-use Rattle.session_reader.proofs.Turns.{Turn, turn-start, turn_end, turn_stop, turn_more}
+use lib.ListN.{length, take, drop}
+use Rattle.session_reader.proofs.Turns.{Turn}
 use Rattle.session_spec.specs.Session as specs
-use Rattle.text.proofs.Reading.{place_at, place_no, number_at, number_no}
-use Rattle.text.proofs.Appending.{one, later}
-use Rattle.text.specs.Readers.{number}
 use Prim.Native.Nat.{◌+◌, ◌-◌, ◌*◌, ◌≤◌}
-use mathlib.Core.Path.{◌≡◌, refl, ◌∙◌}
-use lib.Seq.{drop-set-lt}
+use mathlib.Core.Path.{◌≡◌}
 use Rattle.session_reader.proofs.opening.values.Given as goal
 
 abbrev pub invariant-loop-next : goal.invariant-loop-next

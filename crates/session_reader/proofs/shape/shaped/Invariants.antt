@@ -1,12 +1,7 @@
-use native.Mathlib.Omega.{arith}
-use Rattle.session_spec.proofs.Shapes.{shaped-end, shaped-more, still_8}
 use Rattle.session_spec.specs.Shape.{shaped, shaped_after}
-use lib.ListN.{length, drop, get_or}
-use borrow.Author.Tests.{not-true, not-false}
+use lib.ListN.{length, drop}
 use Prim.Native.Nat.{◌-◌, ◌≤◌}
-use mathlib.Core.Path.{◌≡◌, sym, ◌∙◌}
-use Rattle.std.proofs.Common.{ap}
-use Rattle.std.proofs.Common.{not}
+use mathlib.Core.Path.{◌≡◌}
 use Rattle.session_reader.proofs.shape.shaped.Given as goal
 
 abbrev pub invariant-loop-i : goal.invariant-loop-i

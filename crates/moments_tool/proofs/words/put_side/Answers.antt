@@ -1,0 +1,12 @@
+use native.Mathlib.Omega.{arith}
+use borrow.Author.Tests.{ne_eqb}
+use Rattle.moments_tool.proofs.words.put_side.Goals as goal
+
+pub returns-in-0 : goal.returns-in-0
+returns-in-0 c = (rw c.in-0.is c.put.ensures, omega (arith, c.put.ensures.stored.next))
+
+pub returns-in-1 : goal.returns-in-1
+returns-in-1 c = (rw c.in-1.is c.put-in-1.ensures, omega (arith, c.put-in-1.ensures.stored.next))
+
+pub returns-in_default : goal.returns-in_default
+returns-in_default c = (rw (ne_eqb _ _ c.in_default.in_default-own.rest.0.1, ne_eqb _ _ c.in_default.in_default-own.rest.1) c.put-in_default.ensures, omega (arith, c.put-in_default.ensures.stored.next))

@@ -1,0 +1,13 @@
+use mathlib.Core.Path.{subst⁻¹}
+use Rattle.std.proofs.Common.{ℕ, ◌+◌, ◌*◌, ◌^◌, ◌<◌, lt_of_le_of_lt, le_of_lt, mul-le-mul_left, mul-lt-mul_of_pos_right, pow_pos, pow-add, rules}
+use Rattle.std.proofs.Common.{rules}
+use Rattle.shake_tool.proofs.generator.wrapping_product.Goals as goal
+
+-- the product of two numbers of k bits has at most k + k
+product-below : (k : ℕ) {a b : ℕ} → a < 2 ^ k → b < 2 ^ k → a * b < 2 ^ (k + k)
+product-below k {a} {b} ha hb =
+    subst⁻¹ (λ (n : ℕ). a * b < n) (pow-add 2 k k)
+    (lt_of_le_of_lt (mul-le-mul_left a (le_of_lt hb)) (mul-lt-mul_of_pos_right ha (pow_pos k)))
+
+pub overflow_mul-result : goal.overflow_mul-result
+overflow_mul-result c = record { fits = product-below 32 (search rules) (search rules) }
