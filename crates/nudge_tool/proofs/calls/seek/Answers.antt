@@ -1,23 +1,15 @@
-use mathlib.Core.Path.{◌≡◌, refl, sym, ap, ◌∙◌}
-use mathlib.Core.Logic.{⊎_elim}
-use mathlib.Core.List.{map}
-use Prim.Native.Nat.{◌-◌, ◌≤◌}
+use mathlib.Core.Path.{refl, sym, ap, ◌∙◌}
 use native.Mathlib.Omega.{arith}
-use lib.ListN.{length, drop}
-use Rattle.cells_spec.specs.Machine.{pool as machine}
-use Rattle.history_spec.specs.History.{history}
 use Rattle.session_engine.specs.Places.{state_of}
 use Rattle.cells_spec.specs.Answers.{act_of}
 use Rattle.session_engine.proofs.Turning.{reached_then}
-use Rattle.cells_theorems.specs.Reached.{Reached}
 use Rattle.cells_theorems.proofs.Reaching.{reached-fit, reached_arrays}
 use Rattle.session_reader.specs.Reading.{act_at}
 use Rattle.nudge_spec.specs.Nudge.{at_place}
-use Rattle.nudge_tool.specs.Calls.{calls}
-use Rattle.nudge_tool.specs.Exchange.{state_with}
 use Rattle.nudge_tool.proofs.Steps.{no_calls_lem, then_pending, then_ended, after_first, after_next}
 use Rattle.std.proofs.Common.{rules}
 use Rattle.nudge_tool.proofs.calls.seek.Goals as goal
+use Rattle.nudge_tool.proofs.calls.seek.Goals.{in-Pending, in-Ended+else-left-eq0}
 
 pub loop-i-init : goal.loop-i-init
 loop-i-init c = (refl, search rules, c.requires.reached, refl, refl)
@@ -47,10 +39,10 @@ loop-i-preserved c = let l = c.loop-i in
     let s = state_of a.s.tasks a.s.cells a.s.blocks l.last l.current l.records l.counts in
     let h = c.loop-i-test.true in
     let d = c.advance-done.ensures in (
-      ⊎_elim
-          (λ w. rw (w.3, w.4) (sym (ap (at_place l.left) (then_pending a.task (act_at a.forms.now) a.kept.now l.i l.at s l.pool h c.action_at-a.ensures d c.note-noted.ensures w.1.given.1)) ∙ l.invariant.0))
-          (λ w. rw (w.4, w.5) (sym (ap (at_place l.left) (then_ended a.task (act_at a.forms.now) a.kept.now l.i l.at s l.pool h c.action_at-a.ensures d c.note-noted.ensures w.1.given.1) ∙ after_next l.left _ _ w.3.left) ∙ l.invariant.0))
-          c.match-noted.branch-raw,
+      elim c.match-noted.branch [
+        | in-Pending w ↦ rw (w.left-is, w.at-is) (sym (ap (at_place l.left) (then_pending a.task (act_at a.forms.now) a.kept.now l.i l.at s l.pool h c.action_at-a.ensures d c.note-noted.ensures w.in-Pending.is)) ∙ l.invariant.0)
+        | in-Ended+else-left-eq0 w ↦ rw (w.left-is, w.at-is) (sym (ap (at_place l.left) (then_ended a.task (act_at a.forms.now) a.kept.now l.i l.at s l.pool h c.action_at-a.ensures d c.note-noted.ensures w.in-Ended.is) ∙ after_next l.left _ _ w.if-left-eq0.false) ∙ l.invariant.0)
+      ],
       omega (arith, h),
       reached_then l.invariant.2 (act_of c.action_at-a.result) d,
       search rules,

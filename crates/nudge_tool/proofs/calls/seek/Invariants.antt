@@ -1,21 +1,15 @@
-use mathlib.Core.Path.{◌≡◌, refl, sym, ap, ◌∙◌}
-use mathlib.Core.Logic.{⊎_elim}
+use mathlib.Core.Path.{◌≡◌}
 use mathlib.Core.List.{map}
 use Prim.Native.Nat.{◌-◌, ◌≤◌}
-use native.Mathlib.Omega.{arith}
 use lib.ListN.{length, drop}
 use Rattle.cells_spec.specs.Machine.{pool as machine}
 use Rattle.history_spec.specs.History.{history}
 use Rattle.session_engine.specs.Places.{state_of}
-use Rattle.cells_spec.specs.Answers.{act_of}
-use Rattle.session_engine.proofs.Turning.{reached_then}
 use Rattle.cells_theorems.specs.Reached.{Reached}
-use Rattle.cells_theorems.proofs.Reaching.{reached-fit, reached_arrays}
 use Rattle.session_reader.specs.Reading.{act_at}
 use Rattle.nudge_spec.specs.Nudge.{at_place}
 use Rattle.nudge_tool.specs.Calls.{calls}
 use Rattle.nudge_tool.specs.Exchange.{state_with}
-use Rattle.nudge_tool.proofs.Steps.{no_calls_lem, then_pending, then_ended, after_first, after_next}
 use Rattle.nudge_tool.proofs.calls.seek.Given as goal
 
 abbrev pub invariant-loop-i : goal.invariant-loop-i

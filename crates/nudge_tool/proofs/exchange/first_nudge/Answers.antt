@@ -17,7 +17,12 @@ pub slice_bounds-try_each-end-2 : goal.slice_bounds-try_each-end-2
 slice_bounds-try_each-end-2 c = sym (length-take-le _ _ (omega (arith, c.copied-r.ensures.1, c.requires.records_len.0)))
 
 pub try_each-requires : goal.try_each-requires
-try_each-requires c = let w = rw (c.copied-p.ensures.0, c.copied-r.ensures.0) (c.requires.fresh, (c.requires.records_len, (c.requires.form_numbers, c.requires.summarizes))) in record { fresh = w.0; records_len = w.1.0; form_numbers = w.1.1.0; summarizes = w.1.1.1 }
+try_each-requires c = record {
+  fresh = rw (c.copied-p.ensures.0, c.copied-r.ensures.0) c.requires.fresh;
+  records_len = rw c.copied-r.ensures.0 c.requires.records_len;
+  form_numbers = c.requires.form_numbers;
+  summarizes = rw (c.copied-p.ensures.0, c.copied-r.ensures.0) c.requires.summarizes;
+}
 
 pub returns : goal.returns
 returns c = rw (c.copied-p.ensures.0, c.copied-r.ensures.0) at c.try_each.ensures

@@ -1,19 +1,18 @@
-use mathlib.Core.Path.{◌≡◌, refl, sym, ◌∙◌}
+use mathlib.Core.Path.{refl, sym, ◌∙◌}
 use mathlib.Core.List.{map}
-use Prim.Native.Nat.{◌-◌, ◌≤◌, ◌<◌}
+use Prim.Native.Nat.{◌<◌}
 use native.Mathlib.Nat.{sub-zero}
 use native.Mathlib.Omega.{arith}
 use lib.ListN.{length, length-map}
 use Rattle.cells_spec.specs.Machine.{Pool}
 use Rattle.figure_lines.specs.Answers.{answer_of}
-use Rattle.session_engine.specs.Places.{state_of}
 use Rattle.cells_theorems.proofs.Reaching.{reached-fit, reached_arrays}
 use Rattle.session_reader.specs.Reading.{act_at}
-use Rattle.nudge_spec.specs.Nudge.{nudges, earliest}
+use Rattle.nudge_spec.specs.Nudge.{nudges}
 use Rattle.nudge_tool.specs.Calls.{summary_of}
 use Rattle.nudge_tool.specs.Exchange.{state_with}
 use Rattle.nudge_tool.proofs.Exchanging.{tried-is}
-use Rattle.nudge_tool.proofs.Steps.{Before, before-start, before-next, reached-before, earliest_hit, earliest_skip, none_left, none_later}
+use Rattle.nudge_tool.proofs.Steps.{before-start, before-next, reached-before, earliest_hit, earliest_skip, none_left, none_later}
 use Rattle.std.proofs.Common.{rules}
 use Rattle.nudge_tool.proofs.exchange.try_each.Goals as goal
 

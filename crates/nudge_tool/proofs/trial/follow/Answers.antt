@@ -1,25 +1,21 @@
-use mathlib.Core.Path.{◌≡◌, refl, sym, ap, ◌∙◌}
-use mathlib.Core.Logic.{⊎_elim}
-use mathlib.Core.List.{map}
-use Prim.Native.Nat.{ℕ, suc, ◌-◌, ◌≤◌, ◌<◌}
+use mathlib.Core.Path.{refl, sym, ap, ◌∙◌}
+use Prim.Native.Nat.{ℕ, suc, ◌<◌}
 use native.Mathlib.Omega.{arith}
-use lib.ListN.{length, drop, get_or}
-use Rattle.cells_spec.specs.Machine.{pool as machine}
-use Rattle.history_spec.specs.History.{history}
+use lib.ListN.{length, get_or}
 use Rattle.figure_lines.specs.Answers.{answer_of}
 use Rattle.session_engine.specs.Places.{state_of}
 use Rattle.cells_spec.specs.Answers.{act_of}
 use Rattle.session_engine.proofs.Turning.{reached_then}
-use Rattle.cells_theorems.specs.Reached.{Reached}
 use Rattle.cells_theorems.proofs.Reaching.{reached-fit, reached_arrays}
 use Rattle.session_reader.specs.Reading.{act_at}
 use Rattle.nudge_spec.specs.Exchange.{exchanged}
-use Rattle.nudge_tool.specs.Calls.{calls, answer_of_call}
+use Rattle.nudge_tool.specs.Calls.{answer_of_call}
 use Rattle.nudge_tool.specs.Exchange.{state_with}
 use Rattle.nudge_tool.proofs.Exchanging.{exchanged_length, exchanged-at, moved-below}
 use Rattle.nudge_tool.proofs.Steps.{no_calls_lem, then_pending, then_it, then_other, followed_to}
 use Rattle.std.proofs.Common.{rules}
 use Rattle.nudge_tool.proofs.trial.follow.Goals as goal
+use Rattle.nudge_tool.proofs.trial.follow.Goals.{in-Pending, in-Ended+else-k-target}
 
 pub moved_to-target-requires : goal.moved_to-target-requires
 moved_to-target-requires c = omega (arith, c.requires.records_len.1, c.requires.records_len.2)
@@ -77,10 +73,10 @@ loop-j-preserved c = let l = c.loop-j in
     let ea = c.action_at-a.ensures ∙ (ap (λ (m : ℕ). f (get_or k m 0)) c.moved_to.ensures ∙ ap f (sym (exchanged-at a.i l.j k two))) in
     let h : l.j < length (exchanged a.i k) = omega (arith, exchanged_length a.i k, c.loop-j-test.true) in
     let d = c.advance-done.ensures in (
-      ⊎_elim
-          (λ w. rw w.3 (sym (ap (answer_of_call target) (then_pending a.task f (exchanged a.i k) l.j l.k s l.pool h ea d c.note-noted.ensures w.1.given.1)) ∙ l.invariant.0))
-          (λ w. rw w.4 (sym (then_other a.task f (exchanged a.i k) l.j l.k s l.pool h ea d c.note-noted.ensures target w.1.given.1 w.3.left) ∙ l.invariant.0))
-          c.match-noted.branch-raw,
+      elim c.match-noted.branch [
+        | in-Pending w ↦ rw w.k-is (sym (ap (answer_of_call target) (then_pending a.task f (exchanged a.i k) l.j l.k s l.pool h ea d c.note-noted.ensures w.in-Pending.is)) ∙ l.invariant.0)
+        | in-Ended+else-k-target w ↦ rw w.k-is (sym (then_other a.task f (exchanged a.i k) l.j l.k s l.pool h ea d c.note-noted.ensures target w.in-Ended.is w.if-k-target.false) ∙ l.invariant.0)
+      ],
       omega (arith, c.loop-j-test.true),
       reached_then l.invariant.2 (act_of c.action_at-a.result) d,
       search rules,

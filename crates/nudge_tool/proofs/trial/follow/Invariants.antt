@@ -1,23 +1,15 @@
-use mathlib.Core.Path.{◌≡◌, refl, sym, ap, ◌∙◌}
-use mathlib.Core.Logic.{⊎_elim}
+use mathlib.Core.Path.{◌≡◌}
 use mathlib.Core.List.{map}
-use Prim.Native.Nat.{ℕ, suc, ◌-◌, ◌≤◌, ◌<◌}
-use native.Mathlib.Omega.{arith}
-use lib.ListN.{length, drop, get_or}
+use Prim.Native.Nat.{◌-◌, ◌≤◌}
+use lib.ListN.{length, drop}
 use Rattle.cells_spec.specs.Machine.{pool as machine}
 use Rattle.history_spec.specs.History.{history}
-use Rattle.figure_lines.specs.Answers.{answer_of}
 use Rattle.session_engine.specs.Places.{state_of}
-use Rattle.cells_spec.specs.Answers.{act_of}
-use Rattle.session_engine.proofs.Turning.{reached_then}
 use Rattle.cells_theorems.specs.Reached.{Reached}
-use Rattle.cells_theorems.proofs.Reaching.{reached-fit, reached_arrays}
 use Rattle.session_reader.specs.Reading.{act_at}
 use Rattle.nudge_spec.specs.Exchange.{exchanged}
 use Rattle.nudge_tool.specs.Calls.{calls, answer_of_call}
 use Rattle.nudge_tool.specs.Exchange.{state_with}
-use Rattle.nudge_tool.proofs.Exchanging.{exchanged_length, exchanged-at, moved-below}
-use Rattle.nudge_tool.proofs.Steps.{no_calls_lem, then_pending, then_it, then_other, followed_to}
 use Rattle.nudge_tool.proofs.trial.follow.Given as goal
 
 abbrev pub invariant-loop-j : goal.invariant-loop-j

@@ -37,7 +37,7 @@ pub slice_bounds-follow-end-2 : goal.slice_bounds-follow-end-2
 slice_bounds-follow-end-2 c = sym (length-take-le _ _ (omega (arith, c.copied-r.ensures.1, c.requires.records_len.0)))
 
 pub follow-requires : goal.follow-requires
-follow-requires c = let w = rw (c.copied-p.ensures.0, c.copied-r.ensures.0) (c.requires.reached, (c.requires.records_len, c.requires.form_numbers)) in record { reached = w.0; records_len = w.1.0; form_numbers = w.1.1 }
+follow-requires c = record { reached = rw (c.copied-p.ensures.0, c.copied-r.ensures.0) c.requires.reached; records_len = rw c.copied-r.ensures.0 c.requires.records_len; form_numbers = c.requires.form_numbers }
 
 pub returns : goal.returns
 returns c = let a = c.args in
