@@ -43,6 +43,14 @@ fn open<R: Files>(rt: &R, name: &[u8]) -> Result<R::File> {
     }
 }
 
+// The line of a case's name; whether it was written.
+fn print_name(name: &[u8], to: &mut impl Write, errors: &mut impl Write) -> bool {
+    let what = b"output";
+    write_all(to, b"# ", what, errors)
+        && write_all(to, name, what, errors)
+        && write_all(to, b"\n", what, errors)
+}
+
 // Writes # and the i-th argument, and opens the file of that name. What fails is said on standard error.
 pub fn open_case<R: Env + Files>(
     rt: &R,
@@ -64,10 +72,7 @@ pub fn open_case<R: Env + Files>(
         }
     };
     let text = &name[..length];
-    let what = b"output";
-    write_all(to, b"# ", what, errors);
-    write_all(to, text, what, errors);
-    write_all(to, b"\n", what, errors);
+    print_name(text, to, errors);
     match open(rt, text) {
         Ok(file) => Case {
             file: Some(file),

@@ -1,8 +1,5 @@
-use Rattle.std.proofs.Common.{◌-◌, ◌≤◌}
+use Rattle.std.proofs.Common.{◌-◌}
 use Rattle.test_cells.proofs.sum_of.Given as goal
-
-abbrev pub invariant-loop-b : goal.invariant-loop-b
-invariant-loop-b l = l.b ≤ 128
 
 abbrev pub decreases-loop-b : goal.decreases-loop-b
 decreases-loop-b l = 128 - l.b
