@@ -22,7 +22,7 @@ use Rattle.cells_spec.proofs.Further.{refused-first, asked_further}
 use Rattle.history_spec.specs.Basics.{upd}
 use Rattle.history_spec.specs.History.{Op, read, swap, cell_of, Action, begin, step, drop, Attempt, untried, Response, Value, Yes, No, Report, Event, refused, accepted, answered, history, run, calls_of}
 use Rattle.history_spec.proofs.Basics.{either, upd-at, upd_off, replicate_at}
-use Rattle.cells_spec.specs.Answers.{Said, Refused, Acted, Ended, NotShown, acts}
+use Rattle.cells_spec.specs.Answers.{Said, Refused, Acted, Ended, NotShown}
 use Rattle.cells_spec.specs.Open.{After, leaving, unless, opened}
 use Rattle.cells_spec.specs.Begin.{with_record, started, read_begun, swap_begun}
 use Rattle.cells_spec.specs.Step.{stepped}

@@ -257,7 +257,7 @@ module _ (φ : ℕ → ℕ) where
     landed_mark none none h = tt
     landed_mark (some (n, p)) (some (n', p')) h = rw (i.withdrawn, h.0.1, found b.withdrawn drops n h.0.0) (same_mark p p' h.1 Yes (withdrawn_at b.withdrawn n))
     landed_mark none (some _) h = elim h [ ]
-    landed_mark (some (n , p)) none h = elim h [ ]
+    landed_mark (some (n, p)) none h = elim h [ ]
 
     pub marked-same : (a : Action) (e : Event) → SameMarks (marked (noting machine see) (names machine see) (s, o) b a e) (marked (noting machine see) (names machine see) (s, o') b'' a e)
     marked-same (begin t op) e = tt

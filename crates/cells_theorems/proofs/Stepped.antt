@@ -12,7 +12,7 @@ use Rattle.figure_lines.specs.declared.Record.{Record}
 use Rattle.cells_spec.specs.declared.State.{State}
 use Rattle.cells_spec.specs.Answers.{Refused}
 use Rattle.figure_lines.specs.Answers.{Next}
-use Rattle.figure_lines.specs.Record.{idle, record_at, first_read, first_swap}
+use Rattle.figure_lines.specs.Record.{record_at, first_read, first_swap}
 use Rattle.figure_lines.specs.Lines.{Line, line_of, access_at, attempt, counted, next_at}
 use Rattle.cells_spec.specs.Questions.{refusal, fit, taken_before, has_taken, begin_questions, swap_questions}
 use Rattle.cells_spec.proofs.Tests.{yes_to}

@@ -20,7 +20,7 @@ use Rattle.figure_cell.proofs.LineLaws.{lines}
 use Rattle.figure.proofs.Records.{Pending, AllOnPath, OnPath, Accepted, not_idle}
 use Rattle.figure.proofs.Tallies.{tally, doing}
 use Rattle.figure_cell.proofs.Classes.{busy, lies_in}
-use Rattle.figure_cell.proofs.Invariant.{Knowledge, TaskOf, line, Inv}
+use Rattle.figure_cell.proofs.Invariant.{Knowledge, TaskOf, Inv}
 use Rattle.figure.proofs.Views.{on, on_in, on_it, view, on_idle}
 use Rattle.figure.proofs.Operations.{busy_doing}
 

@@ -1,7 +1,7 @@
 -- A drop. Who has not stored leaves nothing that the invariant asks for. Who has stored is kept, as if it had halted, under a number of its own.
 use mathlib.Core.Path.{◌≡◌, refl, sym, ap, subst, ◌∙◌}
 use mathlib.Core.Logic.{◌≢◌, ◌⊎◌, inl, inr}
-use mathlib.Core.Bool.{Bool, true, false, not, cond}
+use mathlib.Core.Bool.{Bool, true, false, cond}
 use Prim.Native.Nat.{ℕ}
 use lib.Dec.{eqb, T}
 use borrow.Author.Tests.{eq-eqb, ne_eqb}
@@ -12,7 +12,7 @@ use Rattle.history_spec.specs.Basics.{upd}
 use Rattle.history_spec.proofs.Basics.{upd_same, upd_off, upd-cases}
 use Rattle.history_linearization.proofs.Simulation.{Phase, settled, frozen, late, renamed}
 use Rattle.history_linearization.proofs.Parking.{late_before}
-use Rattle.figure_cell.proofs.Classes.{is, holding, racing, won, stored, taking, are_apart}
+use Rattle.figure_cell.proofs.Classes.{is, holding, racing, stored, taking, are_apart}
 use Rattle.figure_cell.proofs.Invariant.{View, Knowledge, TaskOf, Rival, PhaseIs, line, held, Inv}
 use Rattle.figure_cell.proofs.Frame.{moved, Rest, Mine, finish, Grows, grown_task}
 use Rattle.figure_cell.proofs.Looking.{idle-task, idle_mine}

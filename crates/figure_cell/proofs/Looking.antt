@@ -10,7 +10,7 @@ use Rattle.history_spec.specs.History.{Attempt}
 use Rattle.history_spec.proofs.Basics.{no_eq, no-T}
 use Rattle.figure_lines.specs.Lines.{Wanted, for13, for25, for28, Line, l1, l2, l3, l4, l10, l11, l12, l15, l16, l17, l18, l19, l20, l21, l22, l23, l24, l26, l27, nowhere, at, counted}
 use Rattle.history_linearization.proofs.Simulation.{Phase, settled, frozen, late}
-use Rattle.figure_cell.proofs.Classes.{holding, racing, won, loaded, stored, taking}
+use Rattle.figure_cell.proofs.Classes.{holding, racing, won, stored, taking}
 use Rattle.figure_cell.proofs.Invariant.{none, View, Knowledge, Fresh, Owner, TaskOf, Rival, PhaseIs, line, held, Inv}
 use Rattle.figure_cell.proofs.Frame.{Mine, Unheld, undecided, active-undecided, active-current}
 

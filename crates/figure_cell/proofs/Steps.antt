@@ -11,7 +11,7 @@ use Rattle.figure_lines.specs.declared.Field.{Field}
 use Rattle.figure_lines.specs.declared.Field.TheVariants.{C, D}
 use Rattle.figure_lines.specs.Answers.{Next, Go, Done}
 use Rattle.figure_lines.specs.Record.{idle}
-use Rattle.figure_lines.specs.Lines.{Wanted, for13, for25, for28, Line, l1, l2, l3, l4, l5, l6, l7, l8, l10, l11, l12, l15, l16, l17, l18, l19, l20, l21, l22, l23, l24, l26, l27, l30, nowhere, line_at, line_of, access_at, at, attempt, counted, next_at, answer, read_answer}
+use Rattle.figure_lines.specs.Lines.{Wanted, for13, for25, for28, Line, l1, l2, l3, l4, l5, l6, l7, l8, l10, l11, l12, l15, l16, l17, l18, l19, l20, l21, l22, l23, l24, l26, l27, l30, nowhere, line_at, line_of, access_at, at, attempt, counted, next_at, read_answer}
 use Rattle.history_spec.specs.Basics.{upd}
 use Rattle.history_spec.specs.History.{Response, Yes, No, Attempt, success, failure, untried}
 use Rattle.history_spec.proofs.Basics.{either, upd-at, upd_off}

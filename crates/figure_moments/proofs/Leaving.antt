@@ -6,31 +6,27 @@ use mathlib.Core.Option.{Option, none, some}
 use mathlib.Core.List.{List}
 use Prim.Native.Nat.{ℕ, ◌+◌, ◌≤◌, ◌<◌}
 use native.Mathlib.Omega.{arith}
-use lib.Dec.{eqb, T, not_T, eqb→eq}
+use lib.Dec.{T, not_T, eqb→eq}
 use Rattle.figure_lines.specs.declared.Record.{Record}
 use Rattle.figure_lines.specs.Record.{idle}
 use Rattle.figure_lines.specs.Basics.{within}
 use Rattle.figure_lines.specs.Lines.{Line, line_of}
-use Rattle.cells_spec.proofs.Numbers.{number}
 use Rattle.history_spec.specs.Basics.{upd}
 use Rattle.history_spec.proofs.Basics.{either, clash, some_inj, upd-at, upd_same, upd_off}
 use Rattle.history_spec.proofs.ListTests.{both}
 use Rattle.history_linearization.proofs.Simulation.{late, Ghost, renamed, parks}
 use Rattle.history_linearization.proofs.Parking.{late_before}
-use Rattle.figure_cell.specs.Memory.{store}
 use Rattle.figure.specs.Figure.{World}
 use Rattle.figure_moments.specs.Moments.{holds_block, Waiting, Notes, waits, stands, sees}
 use Rattle.figure.proofs.Records.{Pending}
-use Rattle.figure_cell.proofs.Classes.{is, figure_line, busy, holding, stored, lies_in}
+use Rattle.figure_cell.proofs.Classes.{figure_line, busy, holding, stored, lies_in}
 use Rattle.figure_cell.proofs.Invariant.{Knowledge, TaskOf, line, held}
 use Rattle.figure_cell.proofs.Invariant as Local
-use Rattle.figure_cell.proofs.Frame.{undecided}
 use Rattle.figure_cell.proofs.Dropping.{renamed_late, renamed_off, kept}
 use Rattle.figure.proofs.Views.{view}
 use Rattle.figure.proofs.Operations.{busy-line}
-use Rattle.figure.proofs.Worlds.{Good, facts, there}
+use Rattle.figure.proofs.Worlds.{Good, facts}
 use Rattle.figure_moments.proofs.Notes.{cond_true, cond_false, with, equal, holds-block, figure_line_is}
-use Rattle.figure_moments.proofs.Known as Known
 use Rattle.figure_moments.proofs.Known.{known}
 use Rattle.figure_moments.proofs.Drops.{parked_world, parked_notes, kept_either, record_there, record_other}
 use Rattle.figure_moments.proofs.Beyond.{stands_alike, stands-idle}

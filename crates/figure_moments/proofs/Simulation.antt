@@ -39,7 +39,7 @@ use Rattle.figure_moments.specs.Moments.{Waiting, Notes, no_notes, nothing_noted
 use Rattle.figure.proofs.Records.{Pending, OnPath, AllOnPath, Accepted, Begun, starts, begin-cases, Stepped, runs, step-cases, Dropped, leaves, drop-cases, act_on_path, begun_on_path, next_on_path}
 use Rattle.figure.proofs.Tallies.{tally, tally_of, doing, follows, within}
 use Rattle.history_spec.proofs.ListTests.{by_test}
-use Rattle.figure_cell.proofs.Classes.{busy, stored, storing}
+use Rattle.figure_cell.proofs.Classes.{stored, storing}
 use Rattle.figure_cell.proofs.Invariant.{View}
 use Rattle.figure_cell.proofs.Invariant as Local
 use Rattle.figure_cell.proofs.Steps.{Step, Reason, Out}

@@ -11,7 +11,7 @@ use lib.Dec.{eqb, T, T_not, not_T, eqb→eq}
 use borrow.Author.Tests.{eqb-true, eqb-false, eq-eqb}
 use Rattle.figure_lines.specs.declared.Record.{Record}
 use Rattle.figure_lines.specs.declared.Field.TheVariants.{D}
-use Rattle.figure_lines.specs.Record.{no_value, idle}
+use Rattle.figure_lines.specs.Record.{no_value}
 use Rattle.figure_lines.specs.Answers.{Result, Done}
 use Rattle.figure_lines.specs.Lines.{Line, Wanted, for13, for25, for28, l2, line_of, access_at, attempt, counted, next_at}
 use Rattle.cells_spec.proofs.Numbers.{number, at-number}
@@ -25,7 +25,7 @@ use Rattle.history_linearization.proofs.Simulation.{Phase, settled, frozen, late
 use Rattle.history_linearization.proofs.Simulation.{Lands}
 use Rattle.figure_cell.specs.Memory.{Cell, store, access_cell}
 use Rattle.figure.specs.Figure.{World, with_task, first_of}
-use Rattle.figure_moments.specs.Moments.{holds_block, Waiting, Notes, nothing_noted, noted, landed, lands, waits, spot_at, stands, sees}
+use Rattle.figure_moments.specs.Moments.{holds_block, Waiting, Notes, nothing_noted, noted, landed, spot_at, stands, sees}
 use Rattle.figure.proofs.Records.{Pending, OnPath}
 use Rattle.figure.proofs.Tallies.{tally, doing}
 use Rattle.figure_cell.proofs.Classes.{is, busy, holding, swapping, stored, lies_in}
@@ -35,7 +35,6 @@ use Rattle.figure_cell.proofs.Invariant as Local
 use Rattle.figure_cell.proofs.Frame.{undecided}
 use Rattle.figure_cell.proofs.Looking.{settled≢late}
 use Rattle.figure_cell.proofs.Steps.{Change, still, act, freeze, delay, settle, land, phase_after, Can}
-use Rattle.figure_cell.proofs.Dropping.{kept}
 use Rattle.figure.proofs.Views.{on_in, view}
 use Rattle.figure.proofs.Operations.{busy-line, busy_doing}
 use Rattle.figure.proofs.Worlds.{Good, facts, there, cell_after, next_after, step_after}

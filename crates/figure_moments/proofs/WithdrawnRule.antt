@@ -32,7 +32,6 @@ use Rattle.figure_cell.specs.Memory.{Cell, access_cell}
 use Rattle.figure_cell.proofs.LineLaws.{every_line, same, same-is, before}
 use Rattle.figure_cell.proofs.Classes.{is, figure_line, busy, holding, swapping, stored, lies_in}
 use Rattle.figure_cell.proofs.Invariant.{TaskOf}
-use Rattle.figure_cell.proofs.Invariant as Local
 use Rattle.figure_cell.proofs.Dropping.{kept}
 use Rattle.figure.specs.Figure.{World, with_task, with_both, WorldAfter, figure_ran, opening, figure, tried_in, first_of}
 use Rattle.figure.specs.Traces.{Trace, no_trace, did_line, enter_line}

@@ -1,5 +1,4 @@
 use Rattle.shake_tool.proofs.Starting.{starts, whole-session}
-use Rattle.std.proofs.Common.{rules}
 use Rattle.shake_tool.proofs.put_session.Goals as goal
 
 pub returns : goal.returns

@@ -1,4 +1,4 @@
-use Rattle.std.proofs.Common.{Bool, cond, sym, ap, ◌∙◌, rules}
+use Rattle.std.proofs.Common.{Bool, cond, sym, ap, ◌∙◌}
 use Rattle.shake_spec.proofs.Shaking.{asks_first, asks_last}
 use Rattle.shake_tool.proofs.refusal.Goals as goal
 

@@ -1,4 +1,4 @@
-use Rattle.std.proofs.Common.{◌*◌, arith, rules}
+use Rattle.std.proofs.Common.{◌*◌, arith}
 use Rattle.shake_spec.proofs.Zeros.{part-zeros, part_length}
 use Rattle.shake_spec.proofs.Shaking.{none_shaken, all-refused, all-shaken, sizes}
 use Rattle.shake_tool.proofs.shake.Goals as goal

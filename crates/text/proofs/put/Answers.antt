@@ -1,10 +1,6 @@
 use native.Mathlib.Omega.{arith}
-use mathlib.Core.Path.{◌≡◌}
-use Prim.Native.Nat.{◌+◌, ◌-◌, ◌≤◌}
 use native.Mathlib.Nat.{add-zero}
-use lib.ListN.{length, take}
 use lib.Seq.{take_all}
-use Rattle.text.specs.Append.{Appended}
 use Rattle.text.proofs.Appending.{nothing, more}
 use Rattle.std.proofs.Common.{rules}
 use Rattle.text.proofs.put.Goals as goal

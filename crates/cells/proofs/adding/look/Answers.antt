@@ -1,5 +1,4 @@
 use mathlib.Core.Path.{sym, ◌∙◌}
-use borrow.Author.Tests.{not-true, not-false}
 use Rattle.adds_spec.specs.Adding.{adding_looked}
 use Rattle.cells.proofs.adding.look.Goals as goal
 

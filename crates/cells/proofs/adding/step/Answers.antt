@@ -1,6 +1,5 @@
 use mathlib.Core.Path.{◌≡◌, sym, ap, ◌∙◌}
 use mathlib.Core.Bool.{true}
-use borrow.Author.Tests.{not-true, not-false}
 use Rattle.cells_spec.specs.Answers.{said}
 use Rattle.cells_spec.specs.Open.{After}
 use Rattle.adds_spec.specs.Adding.{adds_fit}

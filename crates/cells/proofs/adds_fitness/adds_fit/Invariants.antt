@@ -1,16 +1,10 @@
-use mathlib.Core.Path.{◌≡◌, sym, ◌∙◌}
+use mathlib.Core.Path.{◌≡◌}
 use mathlib.Core.Bool.{Bool}
 use Prim.Native.Nat.{ℕ, ◌≤◌, ◌-◌}
-use native.Mathlib.Nat.{sub-zero}
-use native.Mathlib.Omega.{arith}
-use borrow.Author.Tests.{not-true, not-false}
 use Rattle.figure_lines.specs.Basics.{all_from}
 use Rattle.figure_lines.specs.Record.{record_at}
-use Rattle.cells_spec.proofs.Loops.{all_no, all_yes, all_end}
 use Rattle.adds_spec.specs.declared.AddingState.{AddingState}
 use Rattle.adds_spec.specs.Adding.{add_at, add_fit, adds_fit}
-use Rattle.adds_spec.proofs.Entries.{beyond_fits}
-use Rattle.cells.proofs.AddArrays.{has_32_adds}
 use Rattle.cells.proofs.adds_fitness.adds_fit.Given as goal
 
 -- The loop: what is left from here on answers for all tasks. Beyond the records nobody has an add.

@@ -1,5 +1,5 @@
 use mathlib.Core.Path.{sym, ◌∙◌}
-use borrow.Author.Tests.{not-true, not-false, lt-ltb, le-ltb}
+use borrow.Author.Tests.{lt-ltb, le-ltb}
 use Rattle.cells_spec.specs.Look.{looked}
 use Rattle.cells_spec.proofs.Fits.{current-below}
 use Rattle.cells.proofs.looks.look.Goals as goal

@@ -1,7 +1,4 @@
-use mathlib.Core.Path.{◌≡◌, refl, ◌∙◌}
-use Prim.Native.Nat.{◌≤◌, ◌-◌}
-use lib.ListN.{length, drop}
-use Rattle.cells_spec.specs.Open.{filled}
+use mathlib.Core.Path.{refl, ◌∙◌}
 use Rattle.cells_spec.proofs.Filling.{fill-next, fill_end}
 use native.Mathlib.Omega.{arith}
 use Rattle.std.proofs.Common.{rules}

@@ -1,9 +1,7 @@
-use mathlib.Core.Path.{◌≡◌, refl, ◌∙◌}
+use mathlib.Core.Path.{◌≡◌}
 use Prim.Native.Nat.{◌≤◌, ◌-◌}
 use lib.ListN.{length, drop}
 use Rattle.cells_spec.specs.Open.{filled}
-use Rattle.cells_spec.proofs.Filling.{fill-next, fill_end}
-use native.Mathlib.Omega.{arith}
 use Rattle.cells.proofs.opening.fill_blocks.Given as goal
 
 -- The loop: what is left to fill from here on gives the whole pool.

@@ -1,9 +1,7 @@
-use mathlib.Core.Path.{◌≡◌, refl, ◌∙◌}
+use mathlib.Core.Path.{◌≡◌}
 use mathlib.Core.List.{◌++◌}
-use Prim.Native.Nat.{ℕ, zero, suc, ◌≤◌, ◌-◌}
-use lib.ListN.{drop, replicate, length-replicate}
-use borrow.Author.Fill.{fill_more}
-use native.Mathlib.Omega.{arith}
+use Prim.Native.Nat.{◌≤◌, ◌-◌}
+use lib.ListN.{drop, replicate}
 use Rattle.cells.proofs.opening_state.open_counts.Given as goal
 
 -- The loop: ones up to here, the rest zeros.

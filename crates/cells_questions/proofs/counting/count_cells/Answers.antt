@@ -1,8 +1,8 @@
 use mathlib.Core.Path.{◌≡◌, sym, ap, ◌∙◌}
 use mathlib.Core.List.{List}
-use Prim.Native.Nat.{ℕ, suc, ◌≤◌, ◌<◌, ◌-◌, ◌+◌}
+use Prim.Native.Nat.{ℕ, suc, ◌≤◌, ◌+◌}
 use lib.Dec.{eqb}
-use lib.ListN.{get_or, length, length-set, length-replicate, get_or-replicate}
+use lib.ListN.{get_or, length-set, length-replicate, get_or-replicate}
 use Rattle.cells_spec.specs.Questions.{names_of}
 use Rattle.cells_spec.proofs.Sums.{once, once-most, sum-last, sum-most}
 use Rattle.cells_spec.proofs.Tables.{more-at}

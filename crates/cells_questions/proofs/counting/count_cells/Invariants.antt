@@ -1,12 +1,7 @@
-use mathlib.Core.Path.{◌≡◌, sym, ap, ◌∙◌}
-use mathlib.Core.List.{List}
-use Prim.Native.Nat.{ℕ, suc, ◌≤◌, ◌<◌, ◌-◌, ◌+◌}
-use lib.Dec.{eqb}
-use lib.ListN.{get_or, length, length-set, length-replicate, get_or-replicate}
+use mathlib.Core.Path.{◌≡◌}
+use Prim.Native.Nat.{ℕ, ◌≤◌, ◌<◌, ◌-◌}
+use lib.ListN.{get_or, length}
 use Rattle.cells_spec.specs.Questions.{names_of}
-use Rattle.cells_spec.proofs.Sums.{once, once-most, sum-last, sum-most}
-use Rattle.cells_spec.proofs.Tables.{more-at}
-use native.Mathlib.Omega.{arith}
 use Rattle.cells_questions.proofs.counting.count_cells.Given as goal
 
 -- The loop: the table holds what the cells so far name.

@@ -1,12 +1,5 @@
-use mathlib.Core.Path.{◌≡◌}
-use mathlib.Core.Bool.{Bool, ◌&&◌}
-use mathlib.Core.List.{List}
-use Prim.Native.Nat.{ℕ, ◌≤◌, ◌-◌}
 use native.Mathlib.Nat.{sub-zero}
 use native.Mathlib.Omega.{arith}
-use lib.Dec.{eqb}
-use lib.ListN.{get_or}
-use Rattle.figure_lines.specs.Basics.{all_from}
 use Rattle.cells_spec.proofs.Loops.{all_on, all_said}
 use Rattle.cells_questions.proofs.counting.same_counts.Invariants.{test}
 use Rattle.std.proofs.Common.{rules}

@@ -2,13 +2,9 @@ use mathlib.Core.Path.{◌≡◌}
 use mathlib.Core.Bool.{Bool}
 use mathlib.Core.List.{List}
 use Prim.Native.Nat.{ℕ, ◌≤◌, ◌-◌}
-use native.Mathlib.Nat.{sub-zero}
 use lib.Dec.{ltb}
 use lib.ListN.{get_or}
-use borrow.Author.Tests.{le-ltb, lt-ltb}
 use Rattle.figure_lines.specs.Basics.{all_from}
-use Rattle.cells_spec.proofs.Loops.{all_no, all_yes, all_end}
-use native.Mathlib.Omega.{arith}
 use Rattle.cells_questions.proofs.fitness.cells_fit.Given as goal
 
 -- The loop: what is left from here on answers for the whole.

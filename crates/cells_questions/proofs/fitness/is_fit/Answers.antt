@@ -1,18 +1,18 @@
 use mathlib.Core.Path.{◌≡◌, refl, sym, ap, ◌∙◌}
 use mathlib.Core.Bool.{Bool, true, false, ◌&&◌, and-eq-true_iff}
-use Prim.Native.Nat.{ℕ, ◌≤◌, ◌<◌, ◌-◌, ◌+◌}
+use Prim.Native.Nat.{ℕ, ◌≤◌, ◌<◌, ◌+◌}
 use native.Mathlib.Nat.{sub-zero}
 use lib.Dec.{ltb}
 use lib.ListN.{get_or}
-use borrow.Author.Tests.{not-true, not-false, ltb-true}
+use borrow.Author.Tests.{ltb-true}
 use Rattle.cells_spec.specs.declared.State.{State}
 use Rattle.figure_lines.specs.Basics.{all_from}
 use Rattle.figure_lines.specs.Record.{record_at}
-use Rattle.cells_spec.specs.Questions.{record_fit, cells_fit, records_fit, counts_true, fit}
+use Rattle.cells_spec.specs.Questions.{cells_fit, records_fit, counts_true}
 use Rattle.cells_spec.proofs.Tests.{all-at}
 use Rattle.cells_spec.proofs.Loops.{all_no, all_yes, all_end}
 use Rattle.cells_spec.proofs.Fits.{sizes_ok, grouped, sizes_below}
-use Rattle.cells_spec.proofs.Counted.{Counted, has_room, counted_next, compared}
+use Rattle.cells_spec.proofs.Counted.{has_room, counted_next, compared}
 use native.Mathlib.Omega.{arith}
 use Rattle.cells_questions.proofs.fitness.is_fit.Invariants.{test}
 use Rattle.std.proofs.Common.{rules}

@@ -2,15 +2,10 @@ use mathlib.Core.Path.{◌≡◌}
 use mathlib.Core.Bool.{Bool}
 use mathlib.Core.List.{List}
 use Prim.Native.Nat.{ℕ, ◌≤◌, ◌-◌}
-use native.Mathlib.Nat.{sub-zero}
 use lib.Dec.{eqb}
 use lib.ListN.{get_or, length}
-use borrow.Author.Tests.{eq-eqb, ne_eqb}
 use Rattle.figure_lines.specs.Basics.{any_from}
 use Rattle.figure_lines.specs.Record.{no_value}
-use Rattle.cells_spec.specs.Questions.{has_none}
-use Rattle.cells_spec.proofs.Loops.{any_no, any_yes, any_end}
-use native.Mathlib.Omega.{arith}
 use Rattle.cells_questions.proofs.open_refusals.has_none.Given as goal
 
 -- The loop: what is left from here on answers for the whole.

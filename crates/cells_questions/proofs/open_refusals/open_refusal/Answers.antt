@@ -1,5 +1,5 @@
 use mathlib.Core.Path.{sym, ◌∙◌}
-use borrow.Author.Tests.{not-true, not-false, eq-eqb, ne_eqb}
+use borrow.Author.Tests.{eq-eqb, ne_eqb}
 use Rattle.cells_spec.specs.Questions.{open_questions}
 use Rattle.cells_questions.proofs.open_refusals.open_refusal.Goals as goal
 

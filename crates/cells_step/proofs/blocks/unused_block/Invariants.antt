@@ -1,12 +1,6 @@
-use mathlib.Core.Path.{◌≡◌, sym}
-use mathlib.Core.Bool.{true, ◌&&◌}
+use mathlib.Core.Path.{◌≡◌}
 use Prim.Native.Nat.{◌≤◌, ◌<◌}
-use lib.Dec.{leb, ltb}
-use borrow.Author.Tests.{not-true, not-false}
 use Rattle.cells_spec.specs.Blocks.{unused_from, first_unused}
-use Rattle.cells_spec.proofs.Unused.{after-below}
-use Rattle.cells_spec.proofs.Search.{starts, finds, finds_none, here, onward, nowhere}
-use native.Mathlib.Omega.{arith}
 use Rattle.cells_step.proofs.blocks.unused_block.Given as goal
 
 -- The loop: what is left from this block on answers for all.

@@ -1,6 +1,5 @@
-use mathlib.Core.Path.{◌≡◌, refl}
-use Prim.Native.Nat.{◌≤◌}
-use Rattle.figure_lines.specs.Paths.{row_below, row_of}
+use mathlib.Core.Path.{refl}
+use Rattle.figure_lines.specs.Paths.{row_of}
 use Rattle.cells_step.proofs.Search.{row_here, row-after, row_none}
 use native.Mathlib.Omega.{arith}
 use Rattle.std.proofs.Common.{rules}

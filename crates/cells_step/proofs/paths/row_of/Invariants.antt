@@ -1,8 +1,6 @@
-use mathlib.Core.Path.{◌≡◌, refl}
+use mathlib.Core.Path.{◌≡◌}
 use Prim.Native.Nat.{◌≤◌}
 use Rattle.figure_lines.specs.Paths.{row_below, row_of}
-use Rattle.cells_step.proofs.Search.{row_here, row-after, row_none}
-use native.Mathlib.Omega.{arith}
 use Rattle.cells_step.proofs.paths.row_of.Given as goal
 
 -- The loop: what is left below finds what the whole search finds.

@@ -1,15 +1,9 @@
-use native.Mathlib.Omega.{arith}
-use mathlib.Core.Path.{◌≡◌, refl, sym, ap, subst, ◌∙◌}
-use Prim.Native.Nat.{ℕ, ◌+◌, ◌-◌, ◌≤◌}
-use mathlib.Core.List.{List}
+use mathlib.Core.Path.{◌≡◌}
+use Prim.Native.Nat.{◌+◌, ◌-◌, ◌≤◌}
 use lib.ListN.{length, take, drop}
-use lib.Seq.{drop-drop}
-use Rattle.cells_spec.specs.Machine.{Pool}
-use Rattle.moments_tool.specs.Words.{entered, IsWord, SortedWords}
+use Rattle.moments_tool.specs.Words.{SortedWords}
 use Rattle.moments_tool.specs.Notes.{notes_of}
-use Rattle.moments_tool.specs.Loop.{pending_word, closing, Closing}
-use Rattle.moments_tool.proofs.Sorting.{entered-sorted}
-use Rattle.moments_tool.proofs.Ruling.{closing-next, fits_next, pending-at}
+use Rattle.moments_tool.specs.Loop.{closing, Closing}
 use Rattle.moments_tool.proofs.calls.close.Given as goal
 
 abbrev pub invariant-loop-t : goal.invariant-loop-t

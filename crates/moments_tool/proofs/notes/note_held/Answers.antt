@@ -1,13 +1,10 @@
 use native.Mathlib.Omega.{arith}
 use mathlib.Core.Logic.{⊎_elim}
 use mathlib.Core.Path.{◌∙◌}
-use Prim.Native.Nat.{◌-◌, ◌≤◌}
 use lib.Dec.{eqb}
 use lib.ListN.{get_or, get_or-eq_default}
-use borrow.Author.Tests.{eq-eqb, ne_eqb, not-true, not-false}
-use Rattle.moments_tool.proofs.Noting.{Spread, none_noted, spread_start, spread_yes, spread_no, spread_end}
-use Rattle.std.proofs.Common.{ap}
-use Rattle.std.proofs.Common.{not}
+use borrow.Author.Tests.{eq-eqb, ne_eqb}
+use Rattle.moments_tool.proofs.Noting.{none_noted, spread_start, spread_yes, spread_no, spread_end}
 use Rattle.std.proofs.Common.{rules}
 use Rattle.moments_tool.proofs.notes.note_held.Goals as goal
 

@@ -1,6 +1,6 @@
 use mathlib.Core.Path.{◌≡◌, refl, sym, ap, subst, ◌∙◌}
 use mathlib.Core.List.{List, [], ◌∷◌, map}
-use Prim.Native.Nat.{ℕ, ◌+◌, ◌-◌, ◌≤◌, ◌<◌}
+use Prim.Native.Nat.{ℕ, ◌+◌, ◌<◌}
 use native.Mathlib.Omega.{arith}
 use lib.ListN.{length, take, drop, replicate, length-replicate}
 use Rattle.figure_lines.specs.declared.Record.{Record}
@@ -9,7 +9,6 @@ use Rattle.cells_spec.specs.Words.{records_of}
 use Rattle.cells_spec.specs.declared.State.{State}
 use Rattle.cells_spec.specs.Answers.{act_of}
 use Rattle.history_spec.specs.History.{Action}
-use Rattle.history_spec.specs.Moments.{Mark}
 use Rattle.figure_moments.specs.Moments.{Notes}
 use Rattle.cells_theorems.specs.Reached.{Reached}
 use Rattle.cells_theorems.proofs.Reaching.{reached-fit, reached_arrays}
@@ -19,8 +18,8 @@ use Rattle.session_engine.proofs.Placing.{records_length, idle_places}
 use Rattle.session_engine.proofs.Turning.{reached-small, reached_then}
 use Rattle.session_engine.proofs.Listed.{action_then, no_action}
 use Rattle.moments_tool.specs.Words.{Listed}
-use Rattle.moments_tool.specs.Notes.{slot, notes_of, Sized, nobody}
-use Rattle.moments_tool.specs.Loop.{deed_meant, all_marks}
+use Rattle.moments_tool.specs.Notes.{slot, notes_of, nobody}
+use Rattle.moments_tool.specs.Loop.{deed_meant}
 use Rattle.moments_tool.proofs.Marking.{Marking, marks-start, coded, marks_on, marks-end}
 use Rattle.moments_tool.proofs.Starting.{reached-cell, reached_sizes, task-below, task-small}
 use Rattle.moments_tool.proofs.play.list_marks.Invariants.{whole}
@@ -31,7 +30,7 @@ abbrev noNotesYet : Notes
 noNotesYet = notes_of 0 (replicate 32 0) (replicate 32 0) (replicate 32 0) (replicate 32 0) (replicate 32 0) (replicate 32 0)
 
 pub loop-i-init : goal.loop-i-init
-loop-i-init c =    let a = c.args in let p = c.requires in let f = a.first in
+loop-i-init c = let a = c.args in let p = c.requires in let f = a.first in
     let idles : f.records ≡ records_of 32 a.records.now = p.records_value.1 ∙ sym idle_places ∙ ap (records_of 32) (sym p.records_value.0) in
     let e : f ≡ whole_of f f.last f.current a.records.now f.counts =
     ap (λ (x : List Record). record { tasks = f.tasks; cells = f.cells; blocks = f.blocks; last = f.last; current = f.current; records = x; counts = f.counts }) idles
@@ -63,43 +62,43 @@ pub advance-y-requires : goal.advance-y-requires
 advance-y-requires c = let l = c.loop-i in let r = l.invariant.6 in (l.invariant.7, reached-fit r, (reached_arrays r).0, (reached_arrays r).2)
 
 pub own_notes-o-requires : goal.own_notes-o-requires
-own_notes-o-requires c =    let y = c in
+own_notes-o-requires c = let y = c in
     task-below y.loop-i.invariant.6 y.task_of.result y.slot-t.ensures
 
 pub overflow_cast-at : goal.overflow_cast-at
-overflow_cast-at c =    let y = c in
+overflow_cast-at c = let y = c in
     record { fits = omega (arith, y.loop-i-test.true, y.requires.kept_len_bound) }
 
 pub overflow_cast-task : goal.overflow_cast-task
-overflow_cast-task c =    let y = c in
+overflow_cast-task c = let y = c in
     record { fits = omega (arith, task-below y.loop-i.invariant.6 y.task_of.result y.slot-t.ensures) }
 
 pub offset_bounds-waiting-k : goal.offset_bounds-waiting-k
-offset_bounds-waiting-k c =    let y = c in
+offset_bounds-waiting-k c = let y = c in
     omega (arith, (task-small y.loop-i.invariant.6 y.task_of.result y.slot-t.ensures y.record_at-r.ensures).1)
 
 pub bounds-waiting-k : goal.bounds-waiting-k
-bounds-waiting-k c =    let y = c in
+bounds-waiting-k c = let y = c in
     let l = y.loop-i in
     omega (arith, l.invariant.0.kept.sixteen, (task-small l.invariant.6 y.task_of.result y.slot-t.ensures y.record_at-r.ensures).1)
 
 pub made_word-requires : goal.made_word-requires
-made_word-requires c =    let y = c in
+made_word-requires c = let y = c in
     task-small y.loop-i.invariant.6 y.task_of.result y.slot-t.ensures y.record_at-r.ensures
 
 pub enter-n-requires : goal.enter-n-requires
 enter-n-requires c = let y = c in let l = y.loop-i in let p = y.requires in record { n_in_bounds = omega (arith, l.invariant.3, l.invariant.4, y.loop-i-test.true, p.kept_len_bound, p.in_bounds); sorted_words = l.invariant.0.listed.sorted }
 
 pub next_waiter-requires : goal.next_waiter-requires
-next_waiter-requires c =    let y = c in
+next_waiter-requires c = let y = c in
     task-small y.loop-i.invariant.6 y.task_of.result y.slot-t.ensures y.record_at-r.ensures
 
 pub offset_bounds-waiting-k-in-loop-i : goal.offset_bounds-waiting-k-in-loop-i
-offset_bounds-waiting-k-in-loop-i c =    let y = c in
+offset_bounds-waiting-k-in-loop-i c = let y = c in
     omega (arith, (task-small y.loop-i.invariant.6 y.task_of.result y.slot-t.ensures y.record_at-r.ensures).1)
 
 pub bounds-waiting-k-in-loop-i : goal.bounds-waiting-k-in-loop-i
-bounds-waiting-k-in-loop-i c =    let y = c in
+bounds-waiting-k-in-loop-i c = let y = c in
     let l = y.loop-i in
     omega (arith, l.invariant.0.kept.sixteen, (task-small l.invariant.6 y.task_of.result y.slot-t.ensures y.record_at-r.ensures).1)
 
@@ -107,15 +106,15 @@ pub note-requires : goal.note-requires
 note-requires c = let v = c in let y = v in let l = y.loop-i in record { t_bound = (task-below l.invariant.6 y.task_of.result y.slot-t.ensures, v.holders-who.ensures.result_len); sized = l.invariant.1 }
 
 pub overflow_add-i : goal.overflow_add-i
-overflow_add-i c =    let y = c in
+overflow_add-i c = let y = c in
     record { fits = omega (arith, y.loop-i-test.true, y.requires.kept_len_bound) }
 
 pub loop-i-smaller : goal.loop-i-smaller
-loop-i-smaller c =    let y = c in
+loop-i-smaller c = let y = c in
     omega (arith, y.loop-i-test.true)
 
 pub loop-i-preserved : goal.loop-i-preserved
-loop-i-preserved c =    let v = c in
+loop-i-preserved c = let v = c in
     let w = v in
     let y = w in
     let a = y.args in

@@ -1,9 +1,8 @@
 use native.Mathlib.Omega.{arith}
-use Prim.Native.Nat.{◌+◌, ◌≤◌}
-use mathlib.Core.Path.{◌≡◌, refl, ◌∙◌}
-use lib.ListN.{length, take, drop}
+use Prim.Native.Nat.{◌+◌}
+use mathlib.Core.Path.{refl, ◌∙◌}
 use lib.Seq.{length-take-le, drop-set-lt}
-use Rattle.moments_tool.proofs.Sorting.{Opened, opened, goes_behind, goes_down, goes_first}
+use Rattle.moments_tool.proofs.Sorting.{opened, goes_behind, goes_down, goes_first}
 use Rattle.std.proofs.Common.{rules}
 use Rattle.moments_tool.proofs.words.insert.Goals as goal
 

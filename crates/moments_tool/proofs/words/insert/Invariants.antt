@@ -1,9 +1,7 @@
-use native.Mathlib.Omega.{arith}
 use Prim.Native.Nat.{◌+◌, ◌≤◌}
-use mathlib.Core.Path.{◌≡◌, refl, ◌∙◌}
+use mathlib.Core.Path.{◌≡◌}
 use lib.ListN.{length, take, drop}
-use lib.Seq.{length-take-le, drop-set-lt}
-use Rattle.moments_tool.proofs.Sorting.{Opened, opened, goes_behind, goes_down, goes_first}
+use Rattle.moments_tool.proofs.Sorting.{Opened}
 use Rattle.moments_tool.proofs.words.insert.Given as goal
 
 abbrev pub invariant-loop-j : goal.invariant-loop-j

@@ -1,8 +1,5 @@
 use native.Mathlib.Omega.{arith}
-use Prim.Native.Nat.{◌-◌, ◌*◌, ◌≤◌}
-use lib.ListN.{take, drop}
-use Rattle.text.proofs.Toward.{Toward, toward_start, toward_more, toward_end}
-use Rattle.moments_tool.specs.Words.{word_lines}
+use Rattle.text.proofs.Toward.{toward_start, toward_more, toward_end}
 use Rattle.moments_tool.proofs.Printing.{word_at, word_end}
 use Rattle.std.proofs.Common.{rules}
 use Rattle.moments_tool.proofs.words.put_marks.Goals as goal

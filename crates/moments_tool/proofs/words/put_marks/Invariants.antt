@@ -1,9 +1,7 @@
-use native.Mathlib.Omega.{arith}
 use Prim.Native.Nat.{◌-◌, ◌*◌, ◌≤◌}
 use lib.ListN.{take, drop}
-use Rattle.text.proofs.Toward.{Toward, toward_start, toward_more, toward_end}
+use Rattle.text.proofs.Toward.{Toward}
 use Rattle.moments_tool.specs.Words.{word_lines}
-use Rattle.moments_tool.proofs.Printing.{word_at, word_end}
 use Rattle.moments_tool.proofs.words.put_marks.Given as goal
 
 abbrev pub invariant-loop-i : goal.invariant-loop-i

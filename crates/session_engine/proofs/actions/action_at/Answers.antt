@@ -1,5 +1,4 @@
 use Rattle.session_engine.proofs.Acting as acting
-use Rattle.session_engine.proofs.actions.action_at.Reads as reads
 use Rattle.session_engine.proofs.actions.action_at.Goals as goal
 
 pub returns-in-1 : goal.returns-in-1

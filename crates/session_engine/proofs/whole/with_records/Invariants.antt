@@ -1,14 +1,10 @@
-use mathlib.Core.Path.{◌≡◌, refl, ap, ◌∙◌}
-use native.Mathlib.Omega.{arith}
+use mathlib.Core.Path.{◌≡◌}
 use Prim.Native.Nat.{◌-◌, ◌≤◌}
-use lib.ListN.{length, take, set, length-set}
+use lib.ListN.{length, take}
 use mathlib.Core.List.{List}
 use Rattle.figure_lines.specs.declared.Record.{Record}
-use Rattle.figure_lines.specs.Record.{idle}
 use Rattle.cells_spec.specs.Words.{records_of}
 use Rattle.cells_spec.specs.declared.State.{State}
-use Rattle.buffers.proofs.Copied.{one_more}
-use Rattle.session_engine.proofs.Placing.{records_length, all_copied}
 use Rattle.session_engine.proofs.whole.with_records.Given as goal
 
 abbrev pub with : State → List Record → State

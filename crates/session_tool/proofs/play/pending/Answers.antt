@@ -1,10 +1,8 @@
 use native.Mathlib.Omega.{arith}
 use mathlib.Core.Logic.{⊎_elim}
-use Prim.Native.Nat.{◌+◌, ◌-◌, ◌≤◌, ◌<◌}
+use Prim.Native.Nat.{◌<◌}
 use Rattle.session_tool.proofs.Loops.{task-end, task-busy, task-idle}
 use native.Mathlib.Nat.{zero-add, sub-zero}
-use mathlib.Core.Path.{◌≡◌}
-use Rattle.session_spec.specs.Printed.{pending_tasks}
 use Rattle.std.proofs.Common.{rules}
 use Rattle.session_tool.proofs.play.pending.Goals as goal
 

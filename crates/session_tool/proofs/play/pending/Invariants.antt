@@ -1,8 +1,4 @@
-use native.Mathlib.Omega.{arith}
-use mathlib.Core.Logic.{⊎_elim}
-use Prim.Native.Nat.{◌+◌, ◌-◌, ◌≤◌, ◌<◌}
-use Rattle.session_tool.proofs.Loops.{task-end, task-busy, task-idle}
-use native.Mathlib.Nat.{zero-add, sub-zero}
+use Prim.Native.Nat.{◌+◌, ◌-◌, ◌≤◌}
 use mathlib.Core.Path.{◌≡◌}
 use Rattle.session_spec.specs.Printed.{pending_tasks}
 use Rattle.session_tool.proofs.play.pending.Given as goal

@@ -1,8 +1,8 @@
 use mathlib.Core.Path.{◌≡◌, sym, ap, subst, ◌∙◌}
 use native.Mathlib.Omega.{arith}
 use mathlib.Core.List.{List, map}
-use Prim.Native.Nat.{ℕ, ◌+◌, ◌-◌, ◌*◌, ◌≤◌, ◌<◌}
-use lib.ListN.{length, drop, length-replicate}
+use Prim.Native.Nat.{ℕ, ◌<◌}
+use lib.ListN.{length, length-replicate}
 use Rattle.figure_lines.specs.declared.Record.{Record}
 use Rattle.figure_lines.specs.Record.{idle}
 use Rattle.cells_spec.specs.Words.{records_of}
@@ -23,7 +23,7 @@ use Rattle.cells_spec.specs.Events.{event_of}
 use Rattle.history_spec.specs.History.{untried}
 use Rattle.session_spec.specs.Lines.{FewDigits}
 use Rattle.session_tool.proofs.Outcomes.{small}
-use Rattle.session_tool.proofs.Room.{weights, all_at_most, Paid, paid}
+use Rattle.session_tool.proofs.Room.{all_at_most, Paid, paid}
 use Rattle.session_tool.proofs.Counting.{few}
 use Rattle.session_engine.proofs.Turning.{reached-small, reached_then}
 use Rattle.std.proofs.Common.{rules}

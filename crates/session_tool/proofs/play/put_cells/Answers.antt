@@ -1,8 +1,8 @@
 use native.Mathlib.Omega.{arith}
-use Prim.Native.Nat.{◌+◌, ◌-◌, ◌*◌, ◌≤◌, ◌<◌}
+use Prim.Native.Nat.{◌<◌}
 use native.Mathlib.Nat.{sub-zero}
 use Rattle.session_spec.specs.Printed.{cell_lines}
-use Rattle.text.proofs.Toward.{Toward, toward_start, toward_more, toward_end}
+use Rattle.text.proofs.Toward.{toward_start, toward_more, toward_end}
 use Rattle.session_tool.proofs.Loops.{cell_at, cell-end}
 use Rattle.std.proofs.Common.{rules}
 use Rattle.session_tool.proofs.play.put_cells.Goals as goal

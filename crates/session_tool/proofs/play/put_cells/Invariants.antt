@@ -1,9 +1,6 @@
-use native.Mathlib.Omega.{arith}
-use Prim.Native.Nat.{◌+◌, ◌-◌, ◌*◌, ◌≤◌, ◌<◌}
-use native.Mathlib.Nat.{sub-zero}
+use Prim.Native.Nat.{◌+◌, ◌-◌, ◌*◌, ◌≤◌}
 use Rattle.session_spec.specs.Printed.{cell_lines}
-use Rattle.text.proofs.Toward.{Toward, toward_start, toward_more, toward_end}
-use Rattle.session_tool.proofs.Loops.{cell_at, cell-end}
+use Rattle.text.proofs.Toward.{Toward}
 use Rattle.session_tool.proofs.play.put_cells.Given as goal
 
 abbrev pub invariant-loop-k : goal.invariant-loop-k

@@ -1,5 +1,4 @@
 use Rattle.shake_tool.proofs.Acting.{moves}
-use Rattle.std.proofs.Common.{rules}
 use Rattle.shake_tool.proofs.actions.act.Goals as goal
 
 pub returns-in-Read : goal.returns-in-Read

@@ -1,12 +1,9 @@
-use Rattle.std.proofs.Common.{◌≡◌, ◌+◌, ◌-◌, ◌*◌, ◌≤◌, map, length, sym, ap, ◌∙◌, subst, arith, rules}
+use Rattle.std.proofs.Common.{sym, ap, ◌∙◌, subst, arith, rules}
 use native.Mathlib.Nat.{sub-zero}
-use Rattle.cells_spec.specs.Machine.{Pool, pool as machine}
-use Rattle.history_spec.specs.History.{run}
-use Rattle.text.proofs.Toward.{Toward, toward_start, toward_more, toward_end}
-use Rattle.session_spec.specs.Session.{act}
-use Rattle.session_spec.specs.Written.{form_lines}
+use Rattle.cells_spec.specs.Machine.{Pool}
+use Rattle.text.proofs.Toward.{toward_start, toward_more, toward_end}
 use Rattle.shake_spec.specs.Drawn.{Drawn}
-use Rattle.shake_spec.specs.Actions.{drawn_actions, Short}
+use Rattle.shake_spec.specs.Actions.{Short}
 use Rattle.shake_spec.proofs.Writing.{short-drawn, one_line, no_line_lem, one_done, none_done}
 use Rattle.std.proofs.Common.{rules}
 use Rattle.shake_tool.proofs.actions.put_actions.Goals as goal

@@ -1,13 +1,10 @@
-use Rattle.std.proofs.Common.{◌≡◌, ◌+◌, ◌-◌, ◌*◌, ◌≤◌, map, length, sym, ap, ◌∙◌, subst, arith, rules}
-use native.Mathlib.Nat.{sub-zero}
-use Rattle.cells_spec.specs.Machine.{Pool, pool as machine}
+use Rattle.std.proofs.Common.{◌≡◌, ◌+◌, ◌-◌, ◌*◌, ◌≤◌, map, length}
+use Rattle.cells_spec.specs.Machine.{pool as machine}
 use Rattle.history_spec.specs.History.{run}
-use Rattle.text.proofs.Toward.{Toward, toward_start, toward_more, toward_end}
+use Rattle.text.proofs.Toward.{Toward}
 use Rattle.session_spec.specs.Session.{act}
 use Rattle.session_spec.specs.Written.{form_lines}
-use Rattle.shake_spec.specs.Drawn.{Drawn}
-use Rattle.shake_spec.specs.Actions.{drawn_actions, Short}
-use Rattle.shake_spec.proofs.Writing.{short-drawn, one_line, no_line_lem, one_done, none_done}
+use Rattle.shake_spec.specs.Actions.{drawn_actions}
 use Rattle.shake_tool.proofs.actions.put_actions.Given as goal
 
 abbrev pub invariant-loop-i : goal.invariant-loop-i

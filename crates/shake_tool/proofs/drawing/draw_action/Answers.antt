@@ -1,5 +1,4 @@
 use Rattle.shake_spec.proofs.Draws.{draws-begin, draws-step}
-use Rattle.std.proofs.Common.{rules}
 use Rattle.shake_tool.proofs.drawing.draw_action.Goals as goal
 
 pub returns-then-r-eq0 : goal.returns-then-r-eq0

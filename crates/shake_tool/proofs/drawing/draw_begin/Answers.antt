@@ -1,5 +1,4 @@
 use Rattle.shake_spec.proofs.Draws.{begins-read, begins-swap}
-use Rattle.std.proofs.Common.{rules}
 use Rattle.shake_tool.proofs.drawing.draw_begin.Goals as goal
 
 pub returns-then-kind-eq0 : goal.returns-then-kind-eq0

@@ -1,4 +1,4 @@
-use Rattle.std.proofs.Common.{◌/◌, refl, mod-lt, rules}
+use Rattle.std.proofs.Common.{◌/◌, refl, mod-lt}
 use Rattle.shake_spec.specs.Generator.{below}
 use Rattle.shake_tool.proofs.generator.below.Goals as goal
 

@@ -1,4 +1,4 @@
-use Rattle.std.proofs.Common.{ℕ, ◌-◌, List, length, ap, arith, rules}
+use Rattle.std.proofs.Common.{ℕ, ◌-◌, List, length, ap, arith}
 use Rattle.text.specs.Lines.{numbers}
 use Rattle.text.proofs.Appending.{then}
 use Rattle.text.proofs.Spaced.{numbers_3}

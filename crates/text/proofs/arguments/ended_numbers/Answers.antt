@@ -1,9 +1,7 @@
-use mathlib.Core.Path.{◌≡◌}
-use Prim.Native.Nat.{◌-◌, ◌≤◌}
 use native.Mathlib.Omega.{arith}
 use lib.ListN.{length}
 use Rattle.text.proofs.Reading.{number_at, number_no}
-use Rattle.text.proofs.Several.{Storing, none_stored, one_missing, then_stored, all-stored}
+use Rattle.text.proofs.Several.{none_stored, one_missing, then_stored, all-stored}
 use Rattle.text.specs.Arguments.{ended_by}
 use Rattle.std.proofs.Common.{rules}
 use Rattle.text.proofs.arguments.ended_numbers.Goals as goal

@@ -2,7 +2,7 @@ use native.Mathlib.Omega.{arith}
 use Rattle.text.proofs.Decimal.{digits_none, digits_one, digits_more, digits-room}
 use lib.ListN.{length}
 use mathlib.Core.Path.{ap}
-use Prim.Native.Nat.{◌+◌, ◌-◌, ◌%◌}
+use Prim.Native.Nat.{◌+◌, ◌%◌}
 use Rattle.text.proofs.Appending.{nothing, one, then}
 use Rattle.text.proofs.decimals.+digits.Goals as goal
 

@@ -1,9 +1,8 @@
 use native.Mathlib.Omega.{arith}
 use Rattle.text.proofs.Appending.{then}
-use Prim.Native.Nat.{◌+◌, ◌-◌, ◌≤◌, ◌<◌}
-use lib.ListN.{length, drop}
-use Rattle.text.specs.Lines.{numbers}
-use Rattle.text.proofs.Toward.{Toward, toward_start, toward_more, toward_end}
+use Prim.Native.Nat.{◌<◌}
+use lib.ListN.{length}
+use Rattle.text.proofs.Toward.{toward_start, toward_more, toward_end}
 use Rattle.text.proofs.Spaced.{numbers-at, numbers-room, numbers-end}
 use Rattle.std.proofs.Common.{rules}
 use Rattle.text.proofs.numbered.put_numbers.Goals as goal

@@ -1,10 +1,7 @@
-use native.Mathlib.Omega.{arith}
-use Rattle.text.proofs.Appending.{then}
-use Prim.Native.Nat.{◌+◌, ◌-◌, ◌≤◌, ◌<◌}
+use Prim.Native.Nat.{◌+◌, ◌-◌, ◌≤◌}
 use lib.ListN.{length, drop}
 use Rattle.text.specs.Lines.{numbers}
-use Rattle.text.proofs.Toward.{Toward, toward_start, toward_more, toward_end}
-use Rattle.text.proofs.Spaced.{numbers-at, numbers-room, numbers-end}
+use Rattle.text.proofs.Toward.{Toward}
 use Rattle.text.proofs.numbered.put_numbers.Given as goal
 
 abbrev pub invariant-loop-i : goal.invariant-loop-i

@@ -1,8 +1,6 @@
 use native.Mathlib.Omega.{arith}
-use mathlib.Core.Path.{◌≡◌, sym, ◌∙◌}
-use Prim.Native.Nat.{◌-◌, ◌≤◌, ◌<◌}
-use lib.ListN.{length, drop, get_or}
-use Rattle.text.specs.Readers.{number, digits_after}
+use mathlib.Core.Path.{sym, ◌∙◌}
+use lib.ListN.{get_or}
 use Rattle.text.proofs.Reading as reading
 use Rattle.std.proofs.Common.{rules}
 use Rattle.text.proofs.numerals.number.Goals as goal

@@ -1,9 +1,7 @@
-use native.Mathlib.Omega.{arith}
-use mathlib.Core.Path.{◌≡◌, sym, ◌∙◌}
+use mathlib.Core.Path.{◌≡◌}
 use Prim.Native.Nat.{◌-◌, ◌≤◌, ◌<◌}
-use lib.ListN.{length, drop, get_or}
+use lib.ListN.{length, drop}
 use Rattle.text.specs.Readers.{number, digits_after}
-use Rattle.text.proofs.Reading as reading
 use Rattle.text.proofs.numerals.number.Given as goal
 
 abbrev pub invariant-loop-i : goal.invariant-loop-i

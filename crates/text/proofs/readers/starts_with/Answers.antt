@@ -1,8 +1,5 @@
 use native.Mathlib.Omega.{arith}
-use mathlib.Core.Path.{◌≡◌, sym, ◌∙◌}
-use Prim.Native.Nat.{◌+◌, ◌-◌, ◌≤◌}
-use lib.ListN.{length, drop}
-use Rattle.text.specs.Readers as readers
+use mathlib.Core.Path.{sym, ◌∙◌}
 use Rattle.text.proofs.Reading.{word_end, word-short, word_other, word_more}
 use Rattle.std.proofs.Common.{rules}
 use Rattle.text.proofs.readers.starts_with.Goals as goal

@@ -1,9 +1,7 @@
-use native.Mathlib.Omega.{arith}
-use mathlib.Core.Path.{◌≡◌, sym, ◌∙◌}
+use mathlib.Core.Path.{◌≡◌}
 use Prim.Native.Nat.{◌+◌, ◌-◌, ◌≤◌}
 use lib.ListN.{length, drop}
 use Rattle.text.specs.Readers as readers
-use Rattle.text.proofs.Reading.{word_end, word-short, word_other, word_more}
 use Rattle.text.proofs.readers.starts_with.Given as goal
 
 abbrev pub invariant-loop-j : goal.invariant-loop-j
