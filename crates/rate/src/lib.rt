@@ -1,4 +1,4 @@
-// The rate of a unit, for the session program and for C: `rt staticlib rate`, include/lisqotay.h.
+// The rate of a unit. The crate rate_c exports it to C.
 #![tactic(auto)]
 
 ghost use Rattle.std.specs.Prelude.{◌≡◌};
@@ -6,8 +6,7 @@ ghost use Rattle.rate.specs.Rate.{rate};
 
 // Hardware CAS attempts for each thousand finished calls, to the nearest whole number, an exact half to the even one; 0 where
 // no call is finished.
-#[unsafe(no_mangle)]
-pub extern "C" fn lisqotay_rate(hardware_swaps: u32, finished_calls: u32) -> u64
+pub fn lisqotay_rate(hardware_swaps: u32, finished_calls: u32) -> u64
     ensures { result ≡ rate hardware_swaps finished_calls }
 {
     if finished_calls == 0 {

@@ -27,7 +27,7 @@ loop-u-init c = (spread_start _ _ _, search rules)
 pub loop-u-preserved : goal.loop-u-preserved
 loop-u-preserved c = let l = c.loop-u in
     let q = c.record_at-q.ensures in
-    (⊎_elim (λ w. rw w.1 (spread_yes l.invariant.0 (omega (arith, c.loop-u-test.true)) (rw (← q, ← c.is_holding.ensures) w.0.taken))) (λ w. rw w.1 (spread_no l.invariant.0 (rw (← q, ← c.is_holding.ensures) w.0.left))) c.if-is_holding-q.branch-raw, search rules)
+    (⊎_elim (λ w. rw w.w-is (spread_yes l.invariant.0 (omega (arith, c.loop-u-test.true)) (rw (← q, ← c.is_holding.ensures) w.if-is_holding-q.true))) (λ w. rw w.w-is (spread_no l.invariant.0 (rw (← q, ← c.is_holding.ensures) w.if-is_holding-q.false))) c.if-is_holding-q.branch-raw, search rules)
 
 pub returns : goal.returns
 returns c = let l = c.loop-u in let a = c.args in record { u_value = λ e u h. ap (λ (n : ℕ). eqb n 1) (spread_below l.invariant.0 u (omega (arith, h, c.loop-u-test.false)) ∙ ap (λ (z : ℕ). cond (held a.records.now a.r u) 1 z) (replicate_at {A = ℕ} 0 32 u)) ∙ is_flag (held a.records.now a.r u); result_len = l.invariant.0.same ∙ refl; by_index = λ u h. spread_below l.invariant.0 u (omega (arith, h, c.loop-u-test.false)) ∙ ap (λ (z : ℕ). cond (held a.records.now a.r u) 1 z) (replicate_at {A = ℕ} 0 32 u) ∙ asked_noted a.asked (held a.records.now a.r u) 1 0 (ap not c.if-not-asked.false) }

@@ -7,7 +7,6 @@ use Prim.Native.Nat.{ℕ}
 use Rattle.figure_lines.specs.Answers.{answer_of}
 use Rattle.figure_moments.specs.Moments.{rules, rule_at}
 use Rattle.moments_tool.specs.Notes.{sight_of, own_notes, numbered}
-use Rattle.std.proofs.Common.{rules}
 use Rattle.moments_tool.proofs.spots.ending.Goals as goal
 
 pub returns-in-12 : goal.returns-in-12

@@ -5,7 +5,7 @@ use Rattle.session_tool.proofs.play.report.Goals as goal
 
 pub returns-in-Refused : goal.returns-in-Refused
 unfolding event_line
-returns-in-Refused c = let w = rw c.in-Refused.is (c.put_no.ensures.appended, λ _. c.put_no.ensures.upper_bound) in record { appended = w.0; upper_bound = w.1 }
+returns-in-Refused c = record { appended = rw c.in-Refused.is c.put_no.ensures.appended; upper_bound = λ _. c.put_no.ensures.upper_bound }
 
 pub returns-in-Acted : goal.returns-in-Acted
 unfolding event_line
@@ -13,4 +13,4 @@ returns-in-Acted c = record { appended = rw c.in-Acted.is (nothing _ _); upper_b
 
 pub returns-in-Ended : goal.returns-in-Ended
 unfolding event_line
-returns-in-Ended c = let w = rw c.in-Ended.is (c.put_done.ensures.appended, c.put_done.ensures.few_digits) in record { appended = w.0; upper_bound = w.1 }
+returns-in-Ended c = record { appended = rw c.in-Ended.is c.put_done.ensures.appended; upper_bound = rw c.in-Ended.is c.put_done.ensures.few_digits }

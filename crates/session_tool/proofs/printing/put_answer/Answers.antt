@@ -2,7 +2,7 @@ use native.Mathlib.Omega.{arith}
 use Rattle.session_tool.proofs.printing.put_answer.Goals as goal
 
 pub returns-in-Value : goal.returns-in-Value
-returns-in-Value c = let w = rw c.in-Value.is (c.put_small.ensures.appended, c.put_small.ensures.upper_bound) in record { appended = w.0; upper_bound = w.1 }
+returns-in-Value c = record { appended = rw c.in-Value.is c.put_small.ensures.appended; upper_bound = c.put_small.ensures.upper_bound }
 
 pub returns-in-Yes : goal.returns-in-Yes
 returns-in-Yes c = let p = c.put in record { appended = rw c.in-Yes.is p.ensures; upper_bound = omega (arith, p.ensures.stored.next) }
