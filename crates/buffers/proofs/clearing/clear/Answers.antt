@@ -21,7 +21,7 @@ pub loop-i-smaller : goal.loop-i-smaller
 loop-i-smaller c = omega arith
 
 pub loop-i-preserved : goal.loop-i-preserved
-loop-i-preserved c =    let l = c.loop-i in
+loop-i-preserved c = let l = c.loop-i in
     let p = c.args.words.now in
     let h : l.i < length p = omega arith in
     (omega arith, simp length-set l.invariant.1, rw l.invariant.2 (fill_more l.i 0 p h))
@@ -30,6 +30,6 @@ pub shape_of-words : goal.shape_of-words
 shape_of-words c = c.loop-i.invariant.1
 
 pub returns : goal.returns
-returns c =    let l = c.loop-i in
+returns c = let l = c.loop-i in
     let e : l.i ≡ length c.args.words.now = omega arith in
     l.invariant.2 ∙ rw (e, drop-length, append-nil)

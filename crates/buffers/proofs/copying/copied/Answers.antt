@@ -18,13 +18,13 @@ pub loop-i-init : goal.loop-i-init
 loop-i-init c = (search rules, refl, refl, refl)
 
 pub loop-i-preserved : goal.loop-i-preserved
-loop-i-preserved c =    let l = c.loop-i in
+loop-i-preserved c = let l = c.loop-i in
     let from = c.args.from.now in
     let h = c.loop-i-test.true in
     (omega (arith, h), length-set l.to l.i _ ∙ l.invariant.1, one_more 0 l.to from l.i _ (omega (arith, h, l.invariant.1, c.requires)) h l.invariant.2 refl, zeros-behind l.to l.i 640 _ (omega (arith, h, c.requires)) l.invariant.3)
 
 pub returns : goal.returns
-returns c =    let l = c.loop-i in
+returns c = let l = c.loop-i in
     let from = c.args.from.now in
     let e : l.i ≡ length from = omega (arith, c.loop-i-test.false, l.invariant.0) in
     (subst (λ (n : ℕ). take n l.to ≡ from) e (l.invariant.2 ∙ take_all l.i from (omega (arith, e))), sym l.invariant.1, subst (λ (n : ℕ). drop n l.to ≡ replicate (640 - n) 0) e l.invariant.3)
