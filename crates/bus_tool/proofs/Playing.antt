@@ -116,7 +116,8 @@ module _ {i : ℕ} {l : List ℕ} {z : Sums} {before : List (ℕ × Report)} (c 
           let d = timed w (get_or l (task_of a) 0) (task_of a, report_of f) in
           let m = timed_from w ((task_of a, report_of f) ∷ before) (finished_calls h) in
           let y = add_calls (add_call z d) m in
-          rw (← (c.numbered (task_of a) k.0)) (append_assoc (call_line d) (call_lines m) (all_line y y.longest))
+          let same : List ℕ = call_line d ++ (call_lines m ++ all_line y y.longest) in
+          subst (λ (n : ℕ). let d' = timed w n (task_of a, report_of f) in let y' = add_calls (add_call z d') m in (call_line d' ++ call_lines m) ++ all_line y' y'.longest ≡ same) (c.numbered (task_of a) k.0) (append_assoc (call_line d) (call_lines m) (all_line y y.longest))
 
   pub one_action : (f : ℕ → Action) (kept : List ℕ) {z' : Sums} {s' : State} {p' : List ℕ} {o : Said} {a : Action} → i < length kept → a ≡ f (get_or kept i 0) → leaving s' p' o ≡ does s p a
       → EndsWithin l a (event_of untried o) → let e = event_of untried o in let x = added w l z a e in z' ≡ x.sums →
