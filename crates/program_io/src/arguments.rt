@@ -1,11 +1,13 @@
 // The numbers that a program is started with, for every tool that takes numbers.
-ghost use Rattle.std.specs.Prelude.{◌≡◌, cond, length};
+ghost use Rattle.std.specs.Prelude.{◌≡◌, ℕ, ◌-◌, ◌<◌, true, cond, length, take, slice_index};
 ghost use Rattle.std.proofs.Math.Option.{none};
+ghost use Rattle.std.specs.Io.KnownBytes.{Appends, Keeps};
 ghost use Rattle.io.specs.Counts.{IsPrefixLen};
+ghost use Rattle.text.specs.Bytes.{bytes};
 ghost use Rattle.text.specs.Readers.{stored};
 ghost use Rattle.text.specs.Arguments.{argument, numbers_given, numbers_or};
 
-use crate::report::Input;
+use crate::report::{Input, write_all};
 use std::env::FillError;
 use std::io::Write;
 use std::rt::Env;
@@ -35,7 +37,8 @@ pub fn argument_count(rt: &impl Env) -> usize {
 // Every argument that the program was started with, each ended by byte 0, at the start of a buffer; not whole where one does
 // not fit. Which bytes the system hands over no contract can say.
 pub fn gather(rt: &impl Env, buf: &mut [u8]) -> Input
-    ensures { IsPrefixLen result.count buf.new }
+    ensures count { IsPrefixLen result.count buf.new }
+    ensures ended { 0 < result.count → slice_index buf.new (result.count - 1) ≡ 0 }
 {
     let mut at = 0;
     for i in 1..usize::MAX {
@@ -60,24 +63,29 @@ pub fn gather(rt: &impl Env, buf: &mut [u8]) -> Input
     partial(at)
 }
 
-fn refuse(to: &mut impl Write, usage: &[u8], what: &[u8], errors: &mut impl Write) {
-    crate::report::write_all(to, b"(bad 14)\n", what, errors);
+// Writes (bad 14), and how the program is used on standard error.
+fn refuse<W: Write>(to: &mut W, usage: &[u8], what: &[u8], errors: &mut impl Write)
+    ensures { (k : ℕ) × Appends (W.contents to.old) (W.contents to.new) (take k (bytes "(bad 14)\n")) }
+{
+    write_all(to, b"(bad 14)\n", what, errors);
     let _ = errors.write_all(usage);
 }
 
 // Stores the numbers of the arguments that were gathered, if all of them were; whether there are as many as places, and all
-// are numbers. Where not, writes (bad 14), and how the program is used on standard error; of what is written no contract can speak.
-pub fn take(
+// are numbers. Where not, writes (bad 14), and how the program is used on standard error.
+pub fn take<W: Write>(
     line: &[u8],
     whole: bool,
     out: &mut [u32],
-    to: &mut impl Write,
+    to: &mut W,
     usage: &[u8],
     what: &[u8],
     errors: &mut impl Write,
 ) -> bool
     ensures out_after { numbers_or result out.new ≡ cond whole (numbers_given (length out.old) line.now) none }
     ensures out_after_2 { out.new ≡ cond whole (stored argument (length out.old) line.now out.old) out.old }
+    ensures quiet { result ≡ true → Keeps (W.contents to.old) (W.contents to.new) }
+    ensures written { (k : ℕ) × Appends (W.contents to.old) (W.contents to.new) (take k (bytes "(bad 14)\n")) }
 {
     if !whole {
         refuse(to, usage, what, errors);

@@ -1,6 +1,6 @@
 // Reading and writing for programs: a call that fails gives one line on standard error, which says what failed and why.
 // Which bytes the system's calls read or write no contract can say; of a reader and a writer that tell their bytes it can.
-ghost use Rattle.std.specs.Prelude.{◌≡◌, ◌⊎◌, ◌-◌, ◌≤◌, true, length, take};
+ghost use Rattle.std.specs.Prelude.{◌≡◌, ◌⊎◌, ℕ, ◌-◌, ◌≤◌, true, length, take};
 ghost use Rattle.std.specs.Io.KnownBytes.{Appends, Consumes, IsAtEnd};
 ghost use Rattle.io.specs.Counts.{IsPrefixLen};
 
@@ -84,9 +84,10 @@ pub fn read_all<R: Read, E: Write>(
     }
 }
 
-// Writes all of a text, and answers whether that went well.
+// Writes all of a text, and answers whether that went well: where not, a part of it from its start was written.
 pub fn write_all<W: Write, E: Write>(to: &mut W, text: &[u8], what: &[u8], errors: &mut E) -> bool
-    ensures { result ≡ true → Appends (W.contents to.old) (W.contents to.new) text.now }
+    ensures whole { result ≡ true → Appends (W.contents to.old) (W.contents to.new) text.now }
+    ensures part { (k : ℕ) × Appends (W.contents to.old) (W.contents to.new) (take k text.now) }
 {
     let mut rest = text;
     let mut left = PATIENCE;
