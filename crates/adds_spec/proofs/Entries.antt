@@ -1,14 +1,17 @@
 -- What the entries with adds come to, by what the cells' own entries came to.
-use mathlib.Core.Path.{◌≡◌, refl, sym, ap, ◌∙◌}
-use mathlib.Core.Bool.{Bool, true, false, ◌&&◌, ◌||◌, cond, false≢true}
+use mathlib.Core.Path.{◌≡◌, refl, sym, ap, ap₂, ◌∙◌}
+use mathlib.Core.Logic.{inr}
+use mathlib.Core.Bool.{Bool, true, false, ◌&&◌, ◌||◌, not, cond, false≢true}
 use mathlib.Core.List.{List, [], ◌∷◌, ◌++◌}
 use Prim.Native.Nat.{ℕ, zero, suc, ◌+◌, ◌≤◌, ◌<◌}
+use native.Mathlib.Numerals.{unary_clauses}
 use native.Mathlib.Omega.{arith}
-use lib.Dec.{ltb}
-use lib.ListN.{get_or, length, replicate}
-use lib.Seq.{set-get_or}
-use borrow.Author.Tests.{lt-ltb, le-ltb}
-use Rattle.history_spec.specs.History.{read, swap, Report, Value, No}
+use lib.Dec.{eqb, ltb}
+use lib.ListN.{get_or, length, replicate, set, take}
+use lib.Seq.{set-get_or, set-set}
+use Rattle.std.specs.List.{list_all, zip}
+use Rattle.std.specs.Prelude as Std
+use Rattle.std.specs.Prelude.{Some, None, Ok}
 use Rattle.figure_lines.specs.declared.Record.{Record}
 use Rattle.figure_lines.specs.Basics.{ands, all_from}
 use Rattle.figure_lines.specs.Record.{no_value, idle, is_idle, record_at, first_read}
@@ -17,17 +20,20 @@ use Rattle.cells_spec.specs.declared.State.{State}
 use Rattle.cells_spec.specs.Questions.{Question, refusal, answers, fit, begin_questions}
 use Rattle.cells_spec.specs.Answers.{Said, Refused, Acted, Ended, acts}
 use Rattle.cells_spec.specs.Open.{After, leaving, unless, Untouched, opened}
-use Rattle.cells_spec.specs.Begin.{with_record, started, read_begun}
+use Rattle.cells_spec.specs.Begin.{with_record, started, read_begun, swap_begun}
 use Rattle.cells_spec.specs.Step.{stepped}
+use Rattle.cells_spec.specs.Drop.{dropped}
 use Rattle.cells_spec.specs.Events as Events
 use Rattle.cells_spec.proofs.Tests.{all_from_lem}
 use Rattle.cells_spec.proofs.Replies.{asked_below}
-use Rattle.cells_spec.proofs.Acts.{acts_iff, open_untouched, step_untouched}
-use Rattle.cells_spec.proofs.LentLaw.{below_32}
+use Rattle.cells_spec.proofs.Acts.{acts_iff, read-acts, swap-acts, drop-acts, open_untouched, step_untouched}
+use Rattle.cells_spec.proofs.LentLaw.{placed, below_32}
 use Rattle.adds_spec.specs.declared.Add.{Add}
 use Rattle.adds_spec.specs.declared.AddingState.{AddingState}
-use Rattle.adds_spec.specs.Requests.{Over, Spent, Ahead, part, end, ahead, fresh_add, with_part, tries_ok}
-use Rattle.adds_spec.specs.Adding.{AddingSaid, Denies, GoesOn, FinishesCall, denies, AddingAfter, adding_after, unless_denies, no_add, add_at, has_add, with_add, with_cells, add_fit, adds_fit, lifted, adding_opened, then_add, add_begun, add_onwards, step_ends, adding_stepped, adding_lent, lending, adding_stepped_lent}
+use Rattle.adds_spec.specs.declared.AddingEnd.{AddingEnd}
+use Rattle.adds_spec.specs.declared.AddingEnd.TheVariants as finish
+use Rattle.adds_spec.specs.Requests.{Ahead, part, end, ahead, fresh_add, tries_ok}
+use Rattle.adds_spec.specs.Adding.{AddingSaid, Denies, GoesOn, FinishesCall, FinishesAdd, adding_said_of, denies, AddingAfter, adding_after, unless_denies, no_add, add_at, has_add, with_add, with_cells, add_fit, adds_fit, lifted, adding_opened, then_add, add_begun, add_onwards, step_ends, adding_stepped, adding_lent, lending, adding_stepped_lent}
 
 or_true : (x : Bool) → (x || true) ≡ true
 or_true true = refl
@@ -41,48 +47,68 @@ beyond (a ∷ l) zero h = absurd (omega arith)
 beyond (a ∷ l) (suc i) h = beyond l i (omega arith)
 
 -- a task beyond the adds has none
-pub beyond_fits : (l : List Add) (r : ℕ → Record) (i k : ℕ) → length l ≤ i → all_from (λ t. add_fit (add_at l t) (r t)) i k ≡ true
+beyond_fits : (l : List Add) (r : ℕ → Record) (i k : ℕ) → length l ≤ i → all_from (λ t. add_fit (add_at l t) (r t)) i k ≡ true
 unfolding add_fit
 beyond_fits l r i k h = all_from_lem (λ t. add_fit (add_at l t) (r t)) i k (λ j b c. rw (beyond l j (omega arith)) (or_true (is_idle (r j))))
 
--- OPENING
+next : {A : Type 0} (x : A) (l : List A) (d : A) (j : ℕ) → get_or (x ∷ l) (j + 1) d ≡ get_or l j d
+next x l d j = simp unary_clauses refl
 
--- a refused entry leaves the pool
-pool-kept : (s : State) (p : List ℕ) (a : After) → Untouched s p a → acts a.outcome ≡ false → a.pool ≡ p
-pool-kept s p a u h = go a.outcome refl h
-  where
-    go : (o : Said) → a.outcome ≡ o → acts o ≡ false → a.pool ≡ p
-    go (Refused n) e h = ap (λ (x : After). x.pool) (u n e)
-    go Acted e h = absurd (false≢true (sym h))
-    go (Ended f) e h = absurd (false≢true (sym h))
+later : (f g : ℕ → Bool) → ((j : ℕ) → f (j + 1) ≡ g j) → (i k : ℕ) → all_from f (i + 1) k ≡ all_from g i k
+later f g e i zero = refl
+later f g e i (suc k) = rw (e i) (ap (λ b. g i && b) (later f g e (i + 1) k))
 
-module _ (s : AddingState) (p : List ℕ) (n v b : ℕ) (vs : List ℕ) (a : After) (e : a ≡ opened s.cells p n v b vs) (z : AddingSaid) (w : z ≡ lifted a.outcome) where
-  pub open_refused : acts a.outcome ≡ false → adding_after s a.pool z ≡ adding_opened s p n v b vs
+-- adds and records in pairs
+pub pairs_fit : (l : List Add) (r : List Record) → length l ≡ length r → (n : ℕ) → list_all (λ x. add_fit x.0 x.1) (take n (zip l r)) ≡ all_from (λ t. add_fit (add_at l t) (record_at r t)) 0 n
+pairs_fit l r e zero = refl
+pairs_fit [] [] e (suc n) = sym (beyond_fits [] (record_at []) 0 (suc n) (omega arith))
+pairs_fit [] (x ∷ r) e (suc n) = absurd (omega arith)
+pairs_fit (a ∷ l) [] e (suc n) = absurd (omega arith)
+pairs_fit (a ∷ l) (x ∷ r) e (suc n) = ap (λ b. add_fit a x && b) (pairs_fit l r (omega arith) n ∙ sym (later _ _ (λ j. ap₂ add_fit (next a l no_add j) (next x r idle j)) 0 n))
+
+-- WHAT THE CELLS' OWN ENTRY LEFT, r
+
+-- a refused one left state and pool
+kept : (s : State) (p : List ℕ) {c : State} {q : List ℕ} {n : ℕ} {r : After} → Untouched s p r → leaving c q (Refused n) ≡ r → leaving c q (Refused n) ≡ leaving s p (Refused n)
+kept s p {c} {q} {n} {r} u e = e ∙ u n (ap (λ (x : After). x.outcome) (sym e))
+
+refused_kept : (s : AddingState) (p : List ℕ) {c : State} {q : List ℕ} {n : ℕ} {r : After} → Untouched s.cells p r → leaving c q (Refused n) ≡ r → adding_after (with_cells s c) q (Denies n) ≡ adding_after s p (Denies n)
+refused_kept s p {c} {q} {n} {r} u e = ap (λ (x : After). adding_after (with_cells s x.state) x.pool (Denies n)) (kept s.cells p u e)
+
+module _ (s : AddingState) (p : List ℕ) (n v b : ℕ) (vs : List ℕ) {c : State} {q : List ℕ} where
+  pub open_refused : {m : ℕ} → leaving c q (Refused m) ≡ opened s.cells p n v b vs → adding_after (with_cells s c) q (Denies m) ≡ adding_opened s p n v b vs
   unfolding adding_opened
-  open_refused h = rw (← e, h, w, pool-kept s.cells p a (rw e (open_untouched s.cells p n v b vs)) h)
+  open_refused e = refused_kept s p (open_untouched s.cells p n v b vs) e ∙ rw (← e)
 
-  pub open_acted : acts a.outcome ≡ true → adding_after (record { cells = a.state; adds = replicate 32 no_add }) a.pool z ≡ adding_opened s p n v b vs
+  pub open_acted : leaving c q Acted ≡ opened s.cells p n v b vs → adding_after (record { cells = c; adds = replicate 32 no_add }) q GoesOn ≡ adding_opened s p n v b vs
   unfolding adding_opened
-  open_acted h = rw (← e, h, w)
+  open_acted e = rw (← e)
 
--- AN ENTRY THAT GIVES THE TASK AN ADD, OR NONE
+-- an entry that gives the task an add, or none: its adds are asked about first
+module _ (s : AddingState) (p : List ℕ) (t : ℕ) (a : Add) where
+  module _ (fits : true ≡ adds_fit s) {c : State} {q : List ℕ} {r : After} where
+    pub then_refused : {n : ℕ} → leaving c q (Refused n) ≡ r → adding_after s p (Denies n) ≡ then_add s p t a r
+    then_refused e = rw (← fits, ← e)
 
--- by whether the adds are fit, and the cells' own entry acts
-abbrev then_came : AddingState → List ℕ → (task : ℕ) → Add → State → Said → (f g : Bool) → AddingAfter
-then_came s p t a c o f g = cond f (cond g (adding_after (with_add s c t a) p (lifted o)) (adding_after s p (lifted o))) (adding_after s p (Denies 6))
+    pub then_kept : {n : ℕ} → Untouched s.cells p r → leaving c q (Refused n) ≡ r → adding_after (with_cells s c) q (Denies n) ≡ then_add s p t a r
+    then_kept u e = refused_kept s p u e ∙ then_refused e
 
--- it leaves the pool alone, and does not look at it
-pub then_pool : (s : AddingState) (p : List ℕ) (t : ℕ) {a b : Add} {c : State} {o : Said} {y : AddingState} {z : AddingSaid} {r : After} → adding_after y [] z ≡ then_add s [] t a (leaving c [] o) → a ≡ b → leaving c p o ≡ r → adding_after y p z ≡ then_add s p t b r
-then_pool s p t {a} {b} {c} {o} {y} {z} {r} w h e = ap (λ (x : AddingAfter). adding_after x.state p x.said) w ∙ go (adds_fit s) (acts o) ∙ rw h (ap (then_add s p t b) e)
-  where
-    go : (f g : Bool) → let x = then_came s [] t a c o f g in adding_after x.state p x.said ≡ then_came s p t a c o f g
-    go true true = refl
-    go true false = refl
-    go false g = refl
+    pub then_acted : leaving c q Acted ≡ r → adding_after (with_add s c t a) q GoesOn ≡ then_add s p t a r
+    then_acted e = rw (← fits, ← e)
 
 -- the task of an entry that acts is below 32
-pub acted-below : (c : State) (p : List ℕ) (t : ℕ) (l : List Question) {a r : After} → a ≡ r → acts r.outcome ≡ ands (answers ((6, fit c p) ∷ (7, ltb t c.tasks) ∷ l)) → acts a.outcome ≡ true → t < 32
-acted-below c p t l e q h = asked_below c p t l ((acts_iff ((6, fit c p) ∷ (7, ltb t c.tasks) ∷ l)).1 (sym q ∙ ap (λ (x : After). acts x.outcome) (sym e) ∙ h))
+module _ (s : State) (p : List ℕ) (t : ℕ) {c : State} {q : List ℕ} where
+  below : (l : List Question) {r : After} → acts r.outcome ≡ ands (answers ((6, fit s p) ∷ (7, ltb t s.tasks) ∷ l)) → leaving c q Acted ≡ r → t < 32
+  below l h e = asked_below s p t l ((acts_iff ((6, fit s p) ∷ (7, ltb t s.tasks) ∷ l)).1 (sym h ∙ ap (λ (x : After). acts x.outcome) (sym e)))
+
+  pub read-below : (k : ℕ) → leaving c q Acted ≡ read_begun s p t k → t < 32
+  read-below k e = below ((8, ltb k s.cells) ∷ (9, is_idle (record_at s.records t)) ∷ []) (read-acts s p t k) e
+
+  pub swap-below : (k v n : ℕ) → leaving c q Acted ≡ swap_begun s p t k v n → t < 32
+  swap-below k v n e = below ((8, ltb k s.cells) ∷ (9, is_idle (record_at s.records t)) ∷ (10, not (eqb v no_value) && not (eqb n no_value)) ∷ []) (swap-acts s p t k v n) e
+
+  pub drop-below : leaving c q Acted ≡ dropped s p t → t < 32
+  drop-below e = below ((11, not (is_idle (record_at s.records t))) ∷ []) (drop-acts s p t) e
 
 -- THE BEGIN OF AN ADD: that of its first read; then question 23
 
@@ -120,67 +146,40 @@ module _ (s : AddingState) (p : List ℕ) (t k d m : ℕ) where
       go false false = rw (or_true (tries_ok m))
 
   -- by what the read's begin with the add came to
-  module _ {y : AddingAfter} (e : y ≡ then_add s p t (fresh_add d m) (read_begun s.cells p t k)) {b : Bool} (i : b ≡ denies y.said) where
-    tried : cond (tries_ok m || b) y (adding_after s p (Denies 23)) ≡ add_begun s p t k d m
-    tried = ap (λ (x : Bool). cond (tries_ok m || x) y (adding_after s p (Denies 23))) i ∙ ap then_23 e ∙ begun-by
+  tried : (y : AddingAfter) (b : Bool) → (tries_ok m || denies y.said) ≡ b → y ≡ then_add s p t (fresh_add d m) (read_begun s.cells p t k) → cond b y (adding_after s p (Denies 23)) ≡ add_begun s p t k d m
+  tried y b h e = ap (λ (x : Bool). cond x y (adding_after s p (Denies 23))) (sym h) ∙ ap then_23 e ∙ begun-by
 
-    pub begun_on : (tries_ok m || b) ≡ true → y ≡ add_begun s p t k d m
-    begun_on h = sym (ap (λ (x : Bool). cond x y (adding_after s p (Denies 23))) h) ∙ tried
+  pub add_unfit : false ≡ adds_fit s → adding_after s p (Denies 6) ≡ add_begun s p t k d m
+  add_unfit h = tried (adding_after s p (Denies 6)) true (or_true (tries_ok m)) (rw (← h))
 
-    pub begun_23 : (tries_ok m || b) ≡ false → adding_after s p (Denies 23) ≡ add_begun s p t k d m
-    begun_23 h = sym (ap (λ (x : Bool). cond x y (adding_after s p (Denies 23))) h) ∙ tried
+  module _ (fits : true ≡ adds_fit s) {c : State} where
+    pub add_refused : {n : ℕ} → leaving c p (Refused n) ≡ read_begun s.cells p t k → adding_after s p (Denies n) ≡ add_begun s p t k d m
+    add_refused {n} e = tried (adding_after s p (Denies n)) true (or_true (tries_ok m)) (then_refused s p t (fresh_add d m) fits e)
 
--- WHAT FOLLOWS A PART, by its answer and a comparison
+    module _ (e : leaving c p Acted ≡ read_begun s.cells p t k) where
+      abbrev added : AddingAfter
+      added = adding_after (with_add s c t (fresh_add d m)) p GoesOn
 
-module _ (a : Add) (r : Report) where
-  pub ahead-swaps : (v : ℕ) → v + a.amount < no_value → part (swap r.cell v (v + a.amount)) (with_part a r 0) ≡ ahead no_value a r (Value v)
-  ahead-swaps v h = rw (lt-ltb (v + a.amount) no_value h)
+      pub add_acted : true ≡ tries_ok m → added ≡ add_begun s p t k d m
+      add_acted h = tried added true (rw (← h)) (then_acted s p t (fresh_add d m) fits e)
 
-  pub ahead-over : (v : ℕ) → no_value ≤ v + a.amount → end Over ≡ ahead no_value a r (Value v)
-  ahead-over v h = rw (le-ltb (v + a.amount) no_value h)
-
-  pub ahead-reads : a.failed + 1 < a.tries → part (read r.cell) (with_part a r 1) ≡ ahead no_value a r No
-  ahead-reads h = rw (lt-ltb (suc a.failed) a.tries (omega arith))
-
-  pub ahead-spent : a.tries ≤ a.failed + 1 → end Spent ≡ ahead no_value a r No
-  ahead-spent h = rw (le-ltb (suc a.failed) a.tries (omega arith))
+      pub add_23 : false ≡ tries_ok m → adding_after s p (Denies 23) ≡ add_begun s p t k d m
+      add_23 h = tried added false (rw (← h)) (then_acted s p t (fresh_add d m) fits e)
 
 -- THE STEP
 
--- the next part of an add, or its end
-pub goes_on : (s : AddingState) (c : State) (t : ℕ) (a : Add) (g : Result) (w : Ahead) → has_add a ≡ true → w ≡ ahead no_value a (Events.report_of g) g.answer
-    → add_onwards s c [] t a g w ≡ step_ends s t a (leaving c [] (Ended g)) (Ended g)
-goes_on s c t a g w e z =
-    ap (add_onwards s c [] t a g) z
-    ∙ sym (ap (λ (b : Bool). cond b (add_onwards s c [] t a g (ahead no_value a (Events.report_of g) g.answer)) (adding_after (with_cells s c) [] (FinishesCall g))) e)
-
 module _ (s : AddingState) (p : List ℕ) (t : ℕ) where
-  pub unfit_step : adds_fit s ≡ false → adding_stepped s p t ≡ adding_after s p (Denies 6)
+  pub unfit_step : false ≡ adds_fit s → adding_after s p (Denies 6) ≡ adding_stepped s p t
   unfolding adding_stepped
-  unfit_step e = rw e
+  unfit_step e = rw (← e)
 
-  module _ (fits : adds_fit s ≡ true) where
-    pub stepped_by : (r : After) → r ≡ stepped s.cells p t → (o : Said) → r.outcome ≡ o → step_ends s t (add_at s.adds t) r o ≡ adding_stepped s p t
+  module _ (fits : true ≡ adds_fit s) (c : State) (q : List ℕ) where
+    pub stepped_by : (o : Said) → leaving c q o ≡ stepped s.cells p t → step_ends s t (add_at s.adds t) (leaving c q o) o ≡ adding_stepped s p t
     unfolding adding_stepped
-    stepped_by r z o w =
-        sym (ap (λ (b : Bool). cond b (step_ends s t (add_at s.adds t) (stepped s.cells p t) (stepped s.cells p t).outcome) (adding_after s p (Denies 6))) fits
-        ∙ ap (λ (r : After). step_ends s t (add_at s.adds t) r r.outcome) (sym z) ∙ ap (step_ends s t (add_at s.adds t) r) w)
+    stepped_by o e = rw (← fits, ← e)
 
-    -- what is ended does not look at the pool
-    with-pool : (c : State) (q : List ℕ) (a : Add) (g : Result) → let x = step_ends s t a (leaving c [] (Ended g)) (Ended g) in adding_after x.state q x.said ≡ step_ends s t a (leaving c q (Ended g)) (Ended g)
-    with-pool c q a g = go (has_add a) (ahead no_value a (Events.report_of g) g.answer)
-      where
-        go : (b : Bool) (w : Ahead) → let x = cond b (add_onwards s c [] t a g w) (adding_after (with_cells s c) [] (FinishesCall g)) in adding_after x.state q x.said ≡ cond b (add_onwards s c q t a g w) (adding_after (with_cells s c) q (FinishesCall g))
-        go true (part op n) = refl
-        go true (end z) = refl
-        go false w = refl
-
-    pub ended_by_lem : (c : State) (q : List ℕ) (o : Said) (g : Result) → leaving c q o ≡ stepped s.cells p t → o ≡ Ended g → (y : AddingState) (z : AddingSaid)
-        → adding_after y [] z ≡ step_ends s t (add_at s.adds t) (leaving c [] (Ended g)) (Ended g) → adding_after y q z ≡ adding_stepped s p t
-    ended_by_lem c q o g r e y z w =
-        ap (λ (x : AddingAfter). adding_after x.state q x.said) w
-        ∙ with-pool c q (add_at s.adds t) g
-        ∙ stepped_by (leaving c q (Ended g)) (sym (ap (leaving c q) e) ∙ r) (Ended g) refl
+    pub step_refused : (n : ℕ) → leaving c q (Refused n) ≡ stepped s.cells p t → adding_after (with_cells s c) q (Denies n) ≡ adding_stepped s p t
+    step_refused n e = ap (λ (x : After). adding_after (with_cells s x.state) q (Denies n)) (kept s.cells p (step_untouched s.cells p t) e) ∙ stepped_by (Refused n) e
 
 -- A REFUSED STEP leaves all as it was; the task of one that acts is below 32
 module _ (s : AddingState) (p : List ℕ) (t : ℕ) where
@@ -217,14 +216,65 @@ module _ (s : AddingState) (p : List ℕ) (t : ℕ) where
 
 -- THE STEP OVER A LENT RECORD, from the step of the state that holds it
 
-module _ (s : AddingState) (p : List ℕ) (t : ℕ) (r : Record) (q : AddingState) (a : AddingAfter) (i : q ≡ lending s t r) (e : a ≡ adding_stepped q p t) where
-  pub lent-refused : denies a.said ≡ true → adding_lent (adding_after s a.pool a.said) r ≡ adding_stepped_lent s p t r
-  unfolding adding_stepped_lent
-  lent-refused h = rw (← i, ← e, h) (ap (λ (x : List ℕ). adding_lent (adding_after s x a.said) r) (ap (λ (x : AddingAfter). x.pool) (e ∙ step_kept q p t (rw e at h))))
+goes_or_finishes : (x : Std.Option AddingEnd) → denies (adding_said_of (Ok x)) ≡ false
+goes_or_finishes None = refl
+goes_or_finishes (Some (finish.Call f)) = refl
+goes_or_finishes (Some (finish.Add f)) = refl
 
-  pub lent-acted : denies a.said ≡ false → adding_lent a (record_at a.state.cells.records t) ≡ adding_stepped_lent s p t r
+module _ (s : AddingState) (p : List ℕ) (t : ℕ) (r : Record) where
+  -- the state that is stepped
+  abbrev held : AddingState
+  held = lending s t r
+
+  handed : (a : AddingAfter) → a ≡ adding_stepped held p t → denies a.said ≡ false → adding_lent a (record_at a.state.cells.records t) ≡ adding_stepped_lent s p t r
   unfolding adding_stepped_lent
-  lent-acted h = rw (← i, ← e, h)
+  handed a e h = rw (← e, h)
+
+  pub acted_lent : (s' : AddingState) (p' : List ℕ) (x : Std.Option AddingEnd) → adding_after s' p' (adding_said_of (Ok x)) ≡ adding_stepped held p t
+      → adding_lent (adding_after s' p' (adding_said_of (Ok x))) (record_at s'.cells.records t) ≡ adding_stepped_lent s p t r
+  acted_lent s' p' x e = handed (adding_after s' p' (adding_said_of (Ok x))) e (goes_or_finishes x)
+
+  refused : (n : ℕ) → adding_after held p (Denies n) ≡ adding_stepped held p t → adding_lent (adding_after s p (Denies n)) r ≡ adding_stepped_lent s p t r
+  unfolding adding_stepped_lent
+  refused n e = rw (← e)
+
+  untouched : (s' : AddingState) (p' : List ℕ) (n : ℕ) → adding_after s' p' (Denies n) ≡ adding_stepped held p t → adding_after s' p' (Denies n) ≡ adding_after held p (Denies n)
+  untouched s' p' n e = e ∙ step_kept held p t (ap (λ (a : AddingAfter). denies a.said) (sym e)) ∙ ap (λ (a : AddingAfter). adding_after held p a.said) (sym e)
+
+  -- the state's own record is put back
+  put_back : set (set s.cells.records t r) t (record_at s.cells.records t) ≡ s.cells.records
+  put_back = set-set s.cells.records t r _ ∙ set-get_or s.cells.records t idle
+
+  with_records : List Record → AddingState
+  with_records l = let c = s.cells in with_cells s (record { tasks = c.tasks; cells = c.cells; blocks = c.blocks; last = c.last; current = c.current; records = l; counts = c.counts })
+
+  pub refused_lent : (s' : AddingState) (p' : List ℕ) (n : ℕ) → adding_after s' p' (Denies n) ≡ adding_stepped held p t
+      → adding_lent (adding_after (lending s' t (record_at s.cells.records t)) p' (Denies n)) r ≡ adding_stepped_lent s p t r
+  unfolding with_records
+  refused_lent s' p' n e =
+      let z = untouched s' p' n e in
+      ap (λ (a : AddingAfter). adding_lent (adding_after (lending a.state t (record_at s.cells.records t)) a.pool (Denies n)) r) z
+      ∙ ap (λ (l : List Record). adding_lent (adding_after (with_records l) p (Denies n)) r) put_back
+      ∙ refused n (sym z ∙ e)
+
+  -- a task beyond the records has none that could be lent
+  pub beyond_lent : length s.cells.records ≡ 32 → 32 ≤ t → (s' : AddingState) (p' : List ℕ) (z : AddingSaid) → adding_after s' p' z ≡ adding_stepped s p t → adding_lent (adding_after s' p' z) r ≡ adding_stepped_lent s p t r
+  beyond_lent l h s' p' z e = go z e
+    where
+      same : s ≡ held
+      same = ap (with_cells s) (placed s.cells t r s.cells l (inr (h, refl)))
+
+      stays : (z : AddingSaid) → adding_after s' p' z ≡ adding_stepped s p t → denies z ≡ false → adding_lent (adding_after s' p' z) r ≡ adding_stepped_lent s p t r
+      stays z e d = let b = step-below s p t (ap (λ (a : AddingAfter). denies a.said) (sym e) ∙ d) in absurd (omega arith)
+
+      go : (z : AddingSaid) → adding_after s' p' z ≡ adding_stepped s p t → adding_lent (adding_after s' p' z) r ≡ adding_stepped_lent s p t r
+      go (Denies n) e =
+          let w = e ∙ ap (λ (x : AddingState). adding_stepped x p t) same in
+          let z = untouched s' p' n w in
+          ap (λ (a : AddingAfter). adding_lent a r) (z ∙ ap (λ (x : AddingState). adding_after x p (Denies n)) (sym same)) ∙ refused n (sym z ∙ w)
+      go GoesOn e = stays GoesOn e refl
+      go (FinishesCall f) e = stays (FinishesCall f) e refl
+      go (FinishesAdd f) e = stays (FinishesAdd f) e refl
 
 -- a step that is lent the task's own record is the step
 module _ (s : AddingState) (p : List ℕ) (t : ℕ) where

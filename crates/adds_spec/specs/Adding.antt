@@ -1,5 +1,8 @@
 -- The entries with adds: questions, what they leave and answer, and the machine that they are.
 use Rattle.std.specs.Prelude.{Bool, true, false, ◌&&◌, ◌||◌, not, cond, List, [], ◌∷◌, ◌++◌, ℕ, ◌+◌, ◌*◌, ◌≤◌, eqb, leb, ltb, get_or, set, replicate}
+use Rattle.std.specs.Prelude.{None, Some, Ok, Err, ⊤}
+use Rattle.std.specs.Prelude as Std
+use Rattle.std.specs.declared.result.Result as Rust
 use Rattle.std.proofs.Math.Option.{Option, none, some}
 use Rattle.figure_lines.specs.declared.Record.{Record}
 use Rattle.figure_lines.specs.Basics.{ands, all_from, within}
@@ -8,7 +11,8 @@ use Rattle.figure_lines.specs.Answers.{Result, result_of}
 use Rattle.cells_spec.specs.declared.State.{State}
 use Rattle.cells_spec.specs.Questions.{Question, refusal, fit, begin_questions}
 use Rattle.history_spec.specs.History.{Op, read, swap, begin, step, drop, Attempt, untried}
-use Rattle.cells_spec.specs.Answers.{Said, Refused, Acted, Ended, Seen, NotShown, acts}
+use Rattle.cells_spec.specs.declared.refusal.Refusal.{Refusal}
+use Rattle.cells_spec.specs.Answers.{Said, Refused, Acted, Ended, Seen, NotShown, acts, number}
 use Rattle.cells_spec.specs.Open.{After, blank, opened}
 use Rattle.cells_spec.specs.Begin.{with_record}
 use Rattle.cells_spec.specs.Step.{stepped}
@@ -23,8 +27,8 @@ use Rattle.adds_spec.specs.declared.AddVerdict.{AddVerdict}
 use Rattle.adds_spec.specs.declared.AddVerdict.TheVariants as verdict
 use Rattle.adds_spec.specs.declared.AddAhead.{AddAhead}
 use Rattle.adds_spec.specs.declared.AddAhead.TheVariants as next
-use Rattle.adds_spec.specs.declared.AddingOutcome.{AddingOutcome}
-use Rattle.adds_spec.specs.declared.AddingOutcome.TheVariants as outcome
+use Rattle.adds_spec.specs.declared.AddingEnd.{AddingEnd}
+use Rattle.adds_spec.specs.declared.AddingEnd.TheVariants as finish
 
 -- WHAT AN ENTRY ANSWERS
 
@@ -51,11 +55,23 @@ ahead_of k (next.NextRead a) = part (read k) a
 ahead_of k (next.NextSwap e n a) = part (swap k e n) a
 ahead_of k (next.LastPart v) = end (add_answer_of v)
 
-abbrev pub adding_said_of : AddingOutcome → AddingSaid
-adding_said_of (outcome.Denied n) = Denies n
-adding_said_of outcome.Going = GoesOn
-adding_said_of (outcome.Finished f) = FinishesCall (result_of f)
-adding_said_of (outcome.Summed f) = FinishesAdd (record { cell = f.cell; answer = add_answer_of f.verdict; steps = f.steps; won = f.won; lost = f.lost })
+abbrev pub finish_of : AddingEnd → AddingSaid
+finish_of (finish.Call f) = FinishesCall (result_of f)
+finish_of (finish.Add f) = FinishesAdd (record { cell = f.cell; answer = add_answer_of f.verdict; steps = f.steps; won = f.won; lost = f.lost })
+
+abbrev pub going_or_finish_of : Std.Option AddingEnd → AddingSaid
+going_or_finish_of None = GoesOn
+going_or_finish_of (Some f) = finish_of f
+
+-- a step
+abbrev pub adding_said_of : Rust.Result (Std.Option AddingEnd) Refusal → AddingSaid
+adding_said_of (Err e) = Denies (number e)
+adding_said_of (Ok o) = going_or_finish_of o
+
+-- an entry that ends neither a call nor an add
+abbrev pub adding_acted_of : Rust.Result ⊤ Refusal → AddingSaid
+adding_acted_of (Err e) = Denies (number e)
+adding_acted_of (Ok u) = GoesOn
 
 pub record AddingAfter : Type 0 where
   pub state : AddingState

@@ -2,12 +2,17 @@
 // Adds on the cells: the state with each task's add, and what the entries answer. What they do is defined in specs/.
 #![tactic(auto)]
 
+ghost use Rattle.std.specs.Prelude.{◌≡◌};
+ghost use Rattle.adds_spec.specs.Adding.{no_add, has_add};
+ghost use Rattle.adds_spec.specs.Requests.{fresh_add};
+
 use cells_spec::State;
 use figure_lines::Finished;
 
 // An add under way: its amount and tries as begun; its swaps that answered no; the counts of its reads and swaps that ended.
 // No add: tries 0; an opening, a begin, a drop and a finished add leave every other field 0 too.
-#[derive(Clone, Copy)]
+// Stays (1): users hand in the state, and question 6 asks tries 0 for no add: `has_add` in specs/Adding.antt. An Option excludes states.
+#[derive(Clone, Copy, Debug, PartialEq, Eq)]
 pub struct Add {
     pub amount: u32,
     pub tries: u32,
@@ -17,14 +22,42 @@ pub struct Add {
     pub lost: u32,
 }
 
+impl Add {
+    pub fn none() -> Add
+        ensures { result ≡ no_add }
+    {
+        Add::begun(0, 0)
+    }
+
+    // Of which no read or swap has ended.
+    pub fn begun(amount: u32, tries: u32) -> Add
+        ensures { result ≡ fresh_add amount tries }
+    {
+        Add {
+            amount,
+            tries,
+            failed: 0,
+            steps: 0,
+            won: 0,
+            lost: 0,
+        }
+    }
+
+    pub fn is_under_way(&self) -> bool
+        ensures { result ≡ has_add self.now }
+    {
+        self.tries != 0
+    }
+}
+
 // The cells' state, and beside its records each task's add.
-#[derive(Clone, Copy)]
+#[derive(Clone, Copy, Debug, PartialEq, Eq)]
 pub struct AddingState {
     pub cells: State,
     pub adds: [Add; 32],
 }
 
-#[derive(Clone, Copy)]
+#[derive(Clone, Copy, Debug, PartialEq, Eq)]
 pub enum AddVerdict {
     Added,
     Over,
@@ -32,7 +65,7 @@ pub enum AddVerdict {
 }
 
 // A finished add, with its counts over all its reads and swaps.
-#[derive(Clone, Copy)]
+#[derive(Clone, Copy, Debug, PartialEq, Eq)]
 pub struct AddEnd {
     pub cell: u32,
     pub verdict: AddVerdict,
@@ -42,26 +75,16 @@ pub struct AddEnd {
 }
 
 // What follows an add's read or swap: another read; a swap, with its values; or the add's answer.
-#[derive(Clone, Copy)]
+#[derive(Clone, Copy, Debug, PartialEq, Eq)]
 pub enum AddAhead {
     NextRead(Add),
     NextSwap(u32, u32, Add),
     LastPart(AddVerdict),
 }
 
-// What an entry answers: the number of the first question answered no; that it acted; that it acted and the task's read or
-// swap is finished; that it acted and the task's add is finished.
-#[derive(Clone, Copy)]
-pub enum AddingOutcome {
-    Denied(u32),
-    Going,
-    Finished(Finished),
-    Summed(AddEnd),
-}
-
-// What an entry hands back; a refused one hands back the state that it was given.
-#[derive(Clone, Copy)]
-pub struct AddingReply {
-    pub state: AddingState,
-    pub outcome: AddingOutcome,
+// What a step finished: a read or swap of the task's own, or its add.
+#[derive(Clone, Copy, Debug, PartialEq, Eq)]
+pub enum AddingEnd {
+    Call(Finished),
+    Add(AddEnd),
 }

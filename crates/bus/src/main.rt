@@ -2,45 +2,37 @@
 // hardware CAS, in tenths of a nanosecond.
 #![tactic(auto)]
 
-use buffers::{file_space, lines_space};
-use program_io::arguments::{ARGUMENT_ROOM, gather, take};
-use program_io::report::{read_all, write_all};
+use buffers::{FILE, LINES, zeroed};
+use bus_tool::run_bus;
+use program_io::arguments::started_with;
+use program_io::filter::{Messages, filter};
 
+// Stays (2): a program names its tool, its room and its messages; what programs share is `filter`.
 fn main(rt: HostRuntime) {
     let mut output = rt.stdout();
     let mut errors = rt.stderr();
-    let mut n = [0u32; 6];
-    let mut line = [0; ARGUMENT_ROOM];
-    let given = gather(&rt, &mut line);
-    let length = given.count;
-    if !take(
-        &line[..length],
-        given.whole,
-        &mut n,
+    let usage = b"usage: bus LL LH SL SH HL HH\n";
+    let says = Messages {
+        cannot_read: b"bus: cannot read standard input",
+        cannot_write: b"bus: cannot write standard output",
+    };
+    let given: Option<[u32; 6]> = started_with(
+        &rt,
         &mut output,
-        b"usage: bus LL LH SL SH HL HH\n",
-        b"bus: cannot write standard output",
-        &mut errors,
-    ) {
-        return;
-    }
-    let mut file = file_space();
-    let read = read_all(
-        &mut rt.stdin(),
-        &mut file,
-        b"bus: cannot read standard input",
+        usage,
+        says.cannot_write,
         &mut errors,
     );
-    if !read.whole {
+    let Some(n) = given else {
         return;
-    }
-    let count = read.count;
-    let mut out = lines_space();
-    let end = bus_tool::run_bus(n[0], n[1], n[2], n[3], n[4], n[5], &file[..count], &mut out);
-    write_all(
+    };
+    filter(
+        &mut rt.stdin(),
+        &mut zeroed::<FILE>(),
+        &mut zeroed::<LINES>(),
+        |file, out| run_bus(n[0], n[1], n[2], n[3], n[4], n[5], file, out),
         &mut output,
-        &out[..end],
-        b"bus: cannot write standard output",
+        says,
         &mut errors,
     );
 }

@@ -131,6 +131,6 @@ unfolding bus_on call_lines
 no_action w before z s p f l i h = rw (no_more f l i h)
 
 -- before the first action
-pub start-text : (w : Times) (z : Sums) (s s' : State) (p : List ℕ) (l : List Action) → z ≡ no_sums → s ≡ s' → calls_text (bus_calls w (s, p) l) ≡ bus_on w [] z (s', p) l
+pub start-text : (w : Times) (z : Sums) (s : State) (p : List ℕ) (l : List Action) → z ≡ no_sums → calls_text (bus_calls w (s, p) l) ≡ bus_on w [] z (s, p) l
 unfolding bus_on
-start-text w z s s' p l ez es = rw (ez, es)
+start-text w z s p l ez = rw ez

@@ -1,2 +1,4 @@
+pub mod Kinds
+pub mod Refusals
 pub mod Structs
 pub mod Loop

@@ -2,18 +2,73 @@
 #![tactic(auto)]
 
 mod calls;
-mod opened;
+mod kinds;
 mod play;
 mod printing;
-mod start;
-mod times;
+mod ranges;
+mod refusal;
 
-ghost use Rattle.std.specs.Prelude.{◌≡◌, ◌++◌, length, drop};
+ghost use Rattle.std.specs.Prelude.{◌≡◌, ◌+◌, ◌≤◌, ◌++◌, length, drop, refl};
+ghost use Rattle.std.proofs.Common.{lit≤};
 ghost use Rattle.io.specs.Counts.{IsPrefixLen};
-ghost use Rattle.bus_spec.specs.Bus.{times_from, bus_within};
+ghost use Rattle.bus_spec.specs.Bus.{times_from, bus_text, bus_within};
+ghost use Rattle.session_engine.specs.Start.{tool_start};
+ghost use Rattle.session_engine.specs.Tool.{Fresh, all_of};
+ghost use Rattle.text.specs.Page.{Written};
+ghost use Rattle.bus_tool.specs.Kinds.{times_between};
 
-use crate::opened::print_file;
-use crate::times::{Kinds, Ranges};
+use crate::kinds::Kinds;
+use crate::play::play;
+use crate::ranges::Ranges;
+use cells_spec::State;
+use session_engine::actions::Actions;
+use session_engine::tool::{Tool, run_tool};
+use text::numbered::put_bad;
+use text::page::Page;
+
+// Its settings are the times as they were given.
+#[derive(Clone, Copy)]
+struct Bus {
+    low: Kinds,
+    high: Kinds,
+}
+
+impl Bus {
+    // 21 and 22, then the actions. What is left in the pool is open.
+    // Stays (5): state, pool and actions are lent apart, and a struct of them cannot hold a part of a lent slice (docs/DESIGN-PASS.md).
+    fn print(self, page: &mut Page<'_>, first: State, pool: &mut [u32], actions: Actions<'_>)
+        requires in_bounds { page.old.at + 2400000 ≤ length page.old.bytes.now }
+        requires fresh { Fresh first pool.old }
+        ensures { Written page.old page.new (bus_text (times_between self.low self.high) first.tasks (first, pool.old) (all_of actions.entry)) }
+    {
+        match Ranges::asked(self.low, self.high) {
+            Ok(ranges) => play(page, ranges, first, pool, actions),
+            Err(refusal) => page.bad(u32::from(refusal)),
+        }
+    }
+}
+
+impl Tool for Bus {
+    ghost text = { λ b. tool_start (bus_text (times_between b.low b.high)) };
+
+    ghost ROOM = { 2400000 };
+
+    const ROOM: usize = 2400000;
+
+    fn put_refused(&self, out: &mut [u8], n: u32) -> usize {
+        put_bad(out, 0, n)
+    }
+
+    fn play(&self, out: &mut [u8], first: State, pool: &mut [u32], actions: Actions<'_>) -> usize {
+        let mut page = Page::new(out);
+        self.print(&mut page, first, pool, actions);
+        page.at
+    }
+
+    ghost bad_alike = { λ t n. refl };
+
+    ghost has_room = { lit≤ tt };
+}
 
 // Prints the bus times of a session file at the start of out, by the low and high times of a load, a store and a hardware CAS, and
 // returns the text's length; nothing where out has fewer than 2,400,000 bytes. The bytes after the text are as they were.
@@ -31,9 +86,6 @@ pub fn run_bus(
     ensures value { result ≡ length (bus_within (times_from load_low load_high store_low store_high hardware_low hardware_high) (length out.old) file.now) }
     ensures prefix_len { IsPrefixLen result out.new }
 {
-    if out.len() < 2400000 {
-        return 0;
-    }
     let low = Kinds {
         load: load_low,
         store: store_low,
@@ -44,5 +96,5 @@ pub fn run_bus(
         store: store_high,
         hardware: hardware_high,
     };
-    print_file(Ranges { low, high }, file, out)
+    run_tool(&Bus { low, high }, file, out)
 }

@@ -1,2 +1,4 @@
-mod AddArrays
+mod Quiet
+mod Asked
+mod Lending
 mod SmallParts

@@ -2,11 +2,11 @@
 #![tactic(auto)]
 
 mod add_parts;
-mod add_replies;
 pub mod adding;
 mod adds_fitness;
 mod begins;
 mod drops;
+pub mod fit;
 pub mod lent;
 mod looks;
 mod opening;
@@ -21,6 +21,6 @@ pub use crate::looks::look;
 pub use crate::opening::open;
 pub use crate::opening_state::blank;
 pub use crate::steps::step;
-pub use adds_spec::{Add, AddEnd, AddVerdict, AddingOutcome, AddingReply, AddingState};
-pub use cells_spec::{Looked, Outcome, Reply, State};
+pub use adds_spec::{Add, AddEnd, AddVerdict, AddingEnd, AddingState};
+pub use cells_spec::{Refusal, State};
 pub use figure_lines::{Answer, Finished, Record};

@@ -1,11 +1,11 @@
 // The entry `look`.
 ghost use Rattle.std.specs.Prelude.{◌≡◌, ◌+◌, ◌*◌, ◌<◌, length};
 ghost use Rattle.cells_spec.specs.Pool.{word};
-ghost use Rattle.cells_spec.specs.Answers.{seen};
+ghost use Rattle.cells_spec.specs.Answers.{looked_at};
 ghost use Rattle.cells_spec.specs.Look.{looked, shown_value};
 
 use cells_questions::fitness::is_fit;
-use cells_spec::{Looked, State};
+use cells_spec::{Refusal, State};
 use cells_step::load;
 use figure_lines::Field;
 use figure_lines::records::NO_VALUE;
@@ -23,15 +23,14 @@ fn shown_value(pool: &[u32], block: u32) -> u32
     if d == NO_VALUE { v } else { d }
 }
 
-pub fn look(s: State, pool: &[u32], cell: u32) -> Looked
-    ensures { seen result ≡ looked s pool.now cell }
+pub fn look(s: &State, pool: &[u32], cell: u32) -> Result<u32, Refusal>
+    ensures { looked_at result ≡ looked s.now pool.now cell }
 {
     if !is_fit(s, pool) {
-        return Looked::NotShown(6);
+        return Err(Refusal::Unfit);
     }
     if s.cells <= cell {
-        return Looked::NotShown(8);
+        return Err(Refusal::NoSuchCell);
     }
-    let k = cell as usize;
-    Looked::Shown(shown_value(pool, s.current[k]))
+    Ok(shown_value(pool, s.current[cell as usize]))
 }

@@ -10,13 +10,8 @@ fn open_counts(cells: u32) -> [u8; 128]
     requires { cells ≤ 16 }
     ensures { result ≡ replicate cells 1 ++ replicate (128 - cells) 0 }
 {
-    let mut counts: [u8; 128] = [0; 128];
-    let n = cells as usize;
-    let mut k: usize = 0;
-    while k < n {
-        counts[k] = 1;
-        k = k + 1;
-    }
+    let mut counts = [0; 128];
+    counts[..cells as usize].fill(1);
     counts
 }
 
@@ -24,14 +19,13 @@ fn open_counts(cells: u32) -> [u8; 128]
 pub fn blank() -> State
     ensures { result ≡ «blankOf» }
 {
-    let q = idle();
     State {
         tasks: 0,
         cells: 0,
         blocks: 0,
         last: 0,
         current: [0; 16],
-        records: [q; 32],
+        records: [idle(); 32],
         counts: [0; 128],
     }
 }
@@ -40,14 +34,13 @@ pub fn open_state(tasks: u32, cells: u32, blocks: u32) -> State
     requires { (1 ≤ cells) × (cells ≤ 16) }
     ensures { result ≡ open_state tasks cells blocks }
 {
-    let r = idle();
     State {
         tasks,
         cells,
         blocks,
         last: cells - 1,
         current: [0, 1, 2, 3, 4, 5, 6, 7, 8, 9, 10, 11, 12, 13, 14, 15],
-        records: [r; 32],
+        records: [idle(); 32],
         counts: open_counts(cells),
     }
 }

@@ -1,1 +1,2 @@
-mod LineKinds
+mod Ranges
+mod Fitting

@@ -8,4 +8,4 @@ pub mod refusals;
 mod sizes;
 
 pub use crate::counting::{claim, count, is_holding, is_taking};
-pub use crate::sizes::{cells_ok, tasks_ok};
+pub use crate::sizes::{blocks_ok, cells_ok, tasks_ok};

@@ -1,38 +1,42 @@
-// The refusal of an open: the number of the first question that is answered no, or 0.
+// The questions of an open, asked in their order: the first that is answered no refuses.
 ghost use Rattle.std.specs.Prelude.{◌≡◌};
-ghost use Rattle.std.proofs.Math.Option.{get_or};
+ghost use Rattle.cells_spec.specs.Answers.{asked};
 ghost use Rattle.cells_spec.specs.Questions.{refusal, has_none, open_questions};
 
 use crate::sizes::{blocks_ok, cells_ok, tasks_ok};
+use cells_spec::Refusal;
 use figure_lines::records::NO_VALUE;
 
 fn has_none(values: &[u32]) -> bool
     ensures { result ≡ has_none values.now }
 {
-    let mut i: usize = 0;
-    while i < values.len() {
-        if values[i] == NO_VALUE {
-            return true;
-        }
-        i = i + 1;
-    }
-    false
+    values.contains(&NO_VALUE)
 }
 
-pub fn open_refusal(words: usize, tasks: u32, cells: u32, blocks: u32, values: &[u32]) -> u32
-    ensures { result ≡ get_or (refusal (open_questions words tasks cells blocks values.now)) 0 }
+#[tactic(auto, unfolding(cells_spec::specs::Questions::open_questions))]
+pub fn open_questions(
+    words: usize,
+    tasks: u32,
+    cells: u32,
+    blocks: u32,
+    values: &[u32],
+) -> Result<(), Refusal>
+    ensures { asked result ≡ refusal (open_questions words tasks cells blocks values.now) }
 {
     if !tasks_ok(tasks) {
-        return 1;
+        return Err(Refusal::Tasks);
     }
     if !cells_ok(cells) {
-        return 2;
+        return Err(Refusal::Cells);
     }
     if !blocks_ok(tasks, cells, blocks, words) {
-        return 3;
+        return Err(Refusal::Blocks);
     }
     if values.len() != cells as usize {
-        return 4;
+        return Err(Refusal::ValueCount);
     }
-    if has_none(values) { 5 } else { 0 }
+    if has_none(values) {
+        return Err(Refusal::NoneAmongValues);
+    }
+    Ok(())
 }

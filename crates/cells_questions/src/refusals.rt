@@ -1,49 +1,64 @@
-// The refusals of begin and step: the number of the first question that is answered no, or 0. Of a state of which is known
-// whether it is fit, and the task's record.
+// The questions of begin and step, asked in their order: the first that is answered no refuses. Of a state of which is known whether it is
+// fit, and the task's record.
 ghost use Rattle.std.specs.Prelude.{◌≡◌, ◌∷◌};
-ghost use Rattle.std.proofs.Math.Option.{get_or};
+ghost use Rattle.cells_spec.specs.Answers.{asked};
 ghost use Rattle.cells_spec.specs.Questions.{refusal, swap_questions, pool_step_questions};
 
+use cells_spec::Refusal;
 use figure_lines::Record;
 use figure_lines::records::NO_VALUE;
 
 // q is what the begin would put there. A read's two values are 0: question 10 lets it pass.
-pub fn begin_refusal(fits: bool, tasks: u32, cells: u32, r: Record, task: u32, q: Record) -> u32
-    ensures { result ≡ get_or (refusal ((6, fits) ∷ swap_questions tasks cells r task q.cell q.expected q.new)) 0 }
+pub fn begin_questions(
+    fits: bool,
+    tasks: u32,
+    cells: u32,
+    r: &Record,
+    task: u32,
+    q: &Record,
+) -> Result<(), Refusal>
+    ensures { asked result ≡ refusal ((6, fits) ∷ swap_questions tasks cells r.now task q.now.cell q.now.expected q.now.new) }
 {
-    let cell = q.cell;
     if !fits {
-        return 6;
+        return Err(Refusal::Unfit);
     }
     if tasks <= task {
-        return 7;
+        return Err(Refusal::NoSuchTask);
     }
-    if cells <= cell {
-        return 8;
+    if cells <= q.cell {
+        return Err(Refusal::NoSuchCell);
     }
     if r.line != 0 {
-        return 9;
+        return Err(Refusal::Busy);
     }
-    if !(q.expected == NO_VALUE) & !(q.new == NO_VALUE) {
-        0
+    if q.expected == NO_VALUE || q.new == NO_VALUE {
+        Err(Refusal::ReservedValue)
     } else {
-        10
+        Ok(())
     }
 }
 
 // found is whether a block is unused. Only line 4 needs one.
-pub fn step_refusal(fits: bool, tasks: u32, r: Record, task: u32, found: bool) -> u32
-    ensures { result ≡ get_or (refusal ((6, fits) ∷ pool_step_questions tasks r task found)) 0 }
+pub fn step_questions(
+    fits: bool,
+    tasks: u32,
+    r: &Record,
+    task: u32,
+    found: bool,
+) -> Result<(), Refusal>
+    ensures { asked result ≡ refusal ((6, fits) ∷ pool_step_questions tasks r.now task found) }
 {
     if !fits {
-        return 6;
+        return Err(Refusal::Unfit);
     }
-    if task < tasks {
-        if r.line == 0 {
-            return 11;
-        }
-        if (r.line == 4) & !found { 20 } else { 0 }
-    } else {
-        7
+    if tasks <= task {
+        return Err(Refusal::NoSuchTask);
     }
+    if r.line == 0 {
+        return Err(Refusal::Idle);
+    }
+    if r.line == 4 && !found {
+        return Err(Refusal::NoUnusedBlock);
+    }
+    Ok(())
 }

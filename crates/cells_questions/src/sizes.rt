@@ -5,13 +5,13 @@ ghost use Rattle.cells_spec.specs.Questions.{tasks_ok, cells_ok, blocks_ok};
 pub fn tasks_ok(tasks: u32) -> bool
     ensures { result ≡ tasks_ok tasks }
 {
-    (1 <= tasks) & (tasks <= 32)
+    (1..=32).contains(&tasks)
 }
 
 pub fn cells_ok(cells: u32) -> bool
     ensures { result ≡ cells_ok cells }
 {
-    (1 <= cells) & (cells <= 16)
+    (1..=16).contains(&cells)
 }
 
 pub fn blocks_ok(tasks: u32, cells: u32, blocks: u32, words: usize) -> bool
@@ -20,5 +20,5 @@ pub fn blocks_ok(tasks: u32, cells: u32, blocks: u32, words: usize) -> bool
     let n = tasks as usize;
     let v = cells as usize;
     let b = blocks as usize;
-    ((v + 2 * n <= b + 1) & (blocks <= 128)) & (words == 5 * b)
+    v + 2 * n <= b + 1 && blocks <= 128 && words == 5 * b
 }

@@ -1,12 +1,10 @@
 -- What a drop that is not refused is known of: its record is the task's own, and each block's count is at least what that record names of it.
-use mathlib.Core.Path.{◌≡◌, refl, sym, ◌∙◌}
-use mathlib.Core.Logic.{◌⊎◌, inl, inr}
-use mathlib.Core.Bool.{Bool, true, false, ◌&&◌, ◌||◌, not, false≢true}
+use mathlib.Core.Path.{◌≡◌, refl}
+use mathlib.Core.Bool.{Bool, true, false, ◌||◌, not, false≢true}
 use mathlib.Core.Option.{none}
 use mathlib.Core.List.{List, [], ◌∷◌}
 use Prim.Native.Nat.{ℕ, ◌<◌}
 use native.Mathlib.Omega.{arith}
-use lib.Dec.{ltb}
 use lib.ListN.{get_or}
 use borrow.Author.Tests.{ltb-true}
 use Rattle.figure_lines.specs.declared.Record.{Record}
@@ -32,10 +30,6 @@ never_20 x y z false = refl
 module _ (s : State) (p : List ℕ) (t : ℕ) (e : refusal (drop_asks s p t) ≡ none) where
   yes : (k : ℕ) → get_or (answers (drop_asks s p t)) k true ≡ true
   yes = yes-at (drop_asks s p t) e
-
-  pub its_own : (x : Bool) (r : Record) → x ≡ fit s p → (((x && ltb t s.tasks) ≡ true) × (r ≡ record_at s.records t)) ⊎ ((x && ltb t s.tasks) ≡ false) → r ≡ record_at s.records t
-  its_own x r h (inl w) = w.1
-  its_own x r h (inr w) = absurd (false≢true (sym w ∙ rw (h, yes 0, yes 1)))
 
   pub its-names : Arrays s → Named s.counts (record_at s.records t)
   unfolding fit

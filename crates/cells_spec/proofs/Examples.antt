@@ -14,8 +14,8 @@ use Rattle.figure_lines.specs.declared.Answer.TheVariants as code
 use Rattle.cells_spec.specs.declared.State.{State}
 use Rattle.figure_lines.specs.Record.{idle, record_at, first_read, first_swap}
 use Rattle.history_spec.specs.History.{read, swap, Action, begin, step, drop, Kind, a_read, a_swap, Response, Value, Yes, No, Report, Attempt, success, failure, untried, Event, refused, accepted, answered, history}
-use Rattle.cells_spec.specs.declared.Outcome.TheVariants as outcome
-use Rattle.cells_spec.specs.Answers.{Refused, said}
+use Rattle.std.specs.Prelude.{Ok, Some}
+use Rattle.cells_spec.specs.Answers.{Refused, answered as says}
 use Rattle.cells_spec.specs.Events.{event_of}
 use Rattle.cells_spec.specs.Open.{leaving, open_state, open_pool, opened}
 use Rattle.cells_spec.specs.StoredCounts.{recounted}
@@ -29,7 +29,7 @@ use Rattle.cells_spec.specs.Machine.{Pool, pool}
 
 -- a call on cell 3 that ends: the code's kind and answer, and the event's
 abbrev IsEvent : (kind : ℕ) → Answer → Attempt → Kind → Response → Type 0
-IsEvent n a x k r = event_of x (said (outcome.Ended (record { kind = n; cell = 3; answer = a; steps = 14; won = 1; lost = 2 }))) ≡ answered x (record { kind = k; cell = 3; answer = r; steps = 14; won = 1; lost = 2 })
+IsEvent n a x k r = event_of x (says (Ok (Some (record { kind = n; cell = 3; answer = a; steps = 14; won = 1; lost = 2 })))) ≡ answered x (record { kind = k; cell = 3; answer = r; steps = 14; won = 1; lost = 2 })
 
 events : IsEvent 2 code.Yes success a_swap Yes × IsEvent 2 code.No failure a_swap No × IsEvent 1 (code.Value 9) untried a_read (Value 9)
 events = (refl, refl, refl)

@@ -10,7 +10,6 @@ pub mod Numbers
 pub mod Accesses
 pub mod Further
 pub mod Parts
-pub mod Twelve
 pub mod LineRuns
 pub mod Installs
 pub mod Counting
@@ -24,7 +23,6 @@ pub mod Replies
 pub mod Stepping
 pub mod Dropping
 pub mod Spare
-pub mod Filling
 pub mod Acts
 pub mod LentLaw
 pub mod Recount

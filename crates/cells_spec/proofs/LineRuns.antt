@@ -1,52 +1,77 @@
 -- What a line leaves, by its kind of access.
-use mathlib.Core.Path.{◌≡◌, refl, sym, ap, subst, ◌∙◌}
+use mathlib.Core.Path.{◌≡◌, refl, sym, subst, ◌∙◌}
 use mathlib.Core.Option.{Option}
 use mathlib.Core.List.{List}
-use Prim.Native.Nat.{ℕ}
+use mathlib.Core.Bool.{true, ◌||◌}
+use Prim.Native.Nat.{ℕ, ◌+◌, ◌*◌, ◌≤◌, ◌<◌}
+use native.Mathlib.Omega.{arith}
+use native.Mathlib.Nat.{add-zero}
+use native.Mathlib.Decide.{ℕ_discrete}
+use lib.Dec.{eqb}
 use Rattle.figure_lines.specs.declared.Record.{Record}
 use Rattle.figure_lines.specs.declared.Field.{Field}
 use Rattle.figure_lines.specs.declared.Access.{Access}
-use Rattle.figure_lines.specs.declared.Access.TheVariants.{LoadCell, Load, Store, Allocate, Nothing}
-use Rattle.figure_lines.specs.Answers.{Next, Go}
-use Rattle.figure_lines.specs.Lines.{Line, l3, l4, nowhere, deciding, line_of, access_at, next_at, take, counted, attempt}
-use Rattle.history_spec.specs.History.{untried}
-use Rattle.cells_spec.specs.Pool.{word, set_word}
-use Rattle.cells_spec.specs.Memory.{Touched, touched, taking, performed, Reaches}
-use Rattle.cells_spec.specs.Words.{record_of}
-use lib.ListN.{length, get_or}
-use Rattle.figure_lines.proofs.Ranges.{Outside, no_line_lem, line-at}
-use Rattle.cells_spec.specs.declared.Next.TheVariants as next
-use Rattle.cells_spec.specs.LineRun.{left, line_run, followed, once, Reach}
-use Rattle.cells_spec.proofs.Twelve.{goes}
+use Rattle.figure_lines.specs.declared.Access.TheVariants.{Load}
+use Rattle.figure_lines.specs.Answers.{Next}
+use Rattle.figure_lines.specs.Lines.{Line, Wanted, l1, l2, l3, l4, l5, l6, l7, l8, l10, l11, l12, l15, l16, l17, l18, l19, l20, l21, l22, l23, l24, l26, l27, l30, nowhere, deciding, line_of, access_at, access_of, next_at}
+use Rattle.cells_spec.specs.Pool.{word}
+use Rattle.cells_spec.specs.Memory.{Reaches}
+use Rattle.figure_lines.proofs.Ranges.{line-at, wanted}
+use Rattle.cells_spec.specs.LineRun.{left, line_run, line_done, stepped, Within}
 
-module _ (p : List ℕ) (t : ℕ) (r : Record) (c l : ℕ) (f : Option ℕ) (i : Line) {x : Next} (at : line_of r ≡ i) where
-  -- m is what memory does
-  pub by_access : (a : Access) (m : Touched) → access_at i t r ≡ a → m ≡ performed p c l f a → x ≡ next_at i t (counted r (attempt a m.value)) m.value → left m.pool m.current m.last x ≡ line_run p t r c l f
-  by_access a m ea em ex = rw (ex, at, ea, ← em)
+-- NO ACCESS DEPENDS ON THE COUNT OF STEPS
 
-  pub by-cell : {k : ℕ} → access_at i t r ≡ LoadCell k → x ≡ next_at i t (counted r untried) c → left p c l x ≡ line_run p t r c l f
-  by-cell {k} ea = by_access (LoadCell k) (touched p c l c) ea refl
+module _ (t : ℕ) (r : Record) (k : ℕ) where
+  same : (i : Line) → access_at i t (record r { steps = k }) ≡ access_at i t r
+  same (l1 w) = refl
+  same (l2 w) = refl
+  same (l3 w) = refl
+  same l4 = refl
+  same l5 = refl
+  same l6 = refl
+  same l7 = refl
+  same l8 = refl
+  same l10 = refl
+  same l11 = refl
+  same l12 = refl
+  same l15 = refl
+  same l16 = refl
+  same l17 = refl
+  same l18 = refl
+  same l19 = refl
+  same l20 = refl
+  same l21 = refl
+  same l22 = refl
+  same l23 = refl
+  same l24 = refl
+  same l26 = refl
+  same l27 = refl
+  same l30 = refl
+  same nowhere = refl
 
-  pub by-load : {b v : ℕ} (g : Field) → access_at i t r ≡ Load b g → v ≡ word p b g → x ≡ next_at i t (counted r untried) v → left p c l x ≡ line_run p t r c l f
-  by-load {b} {v} g ea ev = by_access (Load b g) (touched p c l v) ea (rw ev)
+  pub within_steps : (n : ℕ) → Reaches n (access_of t r) → Reaches n (access_of t (record r { steps = k }))
+  within_steps n h = subst (λ (a : Access). Reaches n a) (sym (same (line_of r))) h
 
-  pub by-store : {b v : ℕ} {p' : List ℕ} (g : Field) → access_at i t r ≡ Store b g v → p' ≡ set_word p b g v → x ≡ next_at i t (counted r untried) 0 → left p' c l x ≡ line_run p t r c l f
-  by-store {b} {v} {p'} g ea ep = by_access (Store b g v) (touched p' c l 0) ea (rw ep)
+pub done-run : (p : List ℕ) (t : ℕ) (r : Record) (c l : ℕ) (f : Option ℕ) → line_done p t (stepped r) c l f ≡ line_run p t r c l f
+done-run p t r c l f = rw (same t r (r.steps + 1) (line_of r))
 
--- at no line
-pub by_nothing : (p : List ℕ) (t : ℕ) (r : Record) (c l : ℕ) (f : Option ℕ) {x : Next} → line_of r ≡ nowhere → x ≡ Go (counted r untried) → left p c l x ≡ line_run p t r c l f
-by_nothing p t r c l f at ex = by_access p t r c l f nowhere at Nothing (touched p c l 0) refl refl ex
+-- WHAT A LINE LEAVES; the record has its step counted
 
-pub reaches-at : (n : ℕ) (w : List ℕ) (t : ℕ) (i : Line) → line_of (record_of w) ≡ i → Reach n w → Reaches n (access_at i t (record_of w))
-reaches-at n w t i e y = subst (λ (x : Line). Reaches n (access_at x t (record_of w))) e (y.reaches t)
+-- of a load
+pub by-load : (p : List ℕ) (t : ℕ) (r : Record) (c l : ℕ) (f : Option ℕ) (i : Line) {x : Next} {b v : ℕ} (g : Field) → line_of r ≡ i → access_at i t r ≡ Load b g → v ≡ word p b g → x ≡ next_at i t r v → left p c l x ≡ line_done p t r c l f
+by-load p t r c l f i {x} {b} {v} g at ea ev ex = rw (at, ea, ← ev, ex) (simp add-zero)
 
-pub stays : (p : List ℕ) (t : ℕ) (w : List ℕ) (c l : ℕ) (f : Option ℕ) → length w ≡ 12 → Outside (get_or w 0 0) → left p c l (followed w (next.Go (get_or w 0 0) 0 (get_or w 0 0))) ≡ line_run p t (record_of w) c l f
-stays p t w c l f e o = by_nothing p t (record_of w) c l f (no_line_lem (get_or w 0 0) (get_or w 1 0) o) (goes (get_or w 0 0) w e)
+reaches-at : (n : ℕ) (r : Record) (i : Line) → line_of r ≡ i → Within n r → Reaches n (access_at i 0 r)
+reaches-at n r i e y = subst (λ (x : Line). Reaches n (access_at x 0 r)) e (y 0)
 
--- line 4
-pub by-taking : (p : List ℕ) (t : ℕ) (w : List ℕ) (c l : ℕ) (f : Option ℕ) (m : Touched) {x : Next} → length w ≡ 12 → get_or w 0 0 ≡ 4 → m ≡ taking f p c l → x ≡ take (once w) 5 m.value → left m.pool m.current m.last x ≡ line_run p t (record_of w) c l f
-by-taking p t w c l f m e g em ex = by_access p t (record_of w) c l f l4 (line-at (record_of w) 4 g) Allocate m refl em ex
+-- the deciding part, for a line that wants it, reaches the held block
+pub deciding-reaches : (n : ℕ) (r : Record) → Within n r → 1 ≤ r.line → r.line ≤ 3 → (eqb r.wanted 13 || (eqb r.wanted 25 || eqb r.wanted 28)) ≡ true → 5 * r.held + 4 < n
+deciding-reaches n r y a b e = go (ℕ_discrete r.line 1) (ℕ_discrete r.line 2)
+  where
+    d : (x : Wanted) × ((l : Wanted → Line) → deciding l r.wanted ≡ l x)
+    d = wanted r.wanted e
 
--- line 3, of a record whose line that wanted the decision is known
-pub wanted_at : (w : List ℕ) (t v k : ℕ) {x : Next} → get_or w 1 0 ≡ k → x ≡ next_at (deciding l3 k) t (once w) v → x ≡ next_at (deciding l3 (get_or w 1 0)) t (once w) v
-wanted_at w t v k e h = h ∙ ap (λ (n : ℕ). next_at (deciding l3 n) t (once w) v) (sym e)
+    go : Dec (r.line ≡ 1) → Dec (r.line ≡ 2) → 5 * r.held + 4 < n
+    go (yes h) k = reaches-at n r (l1 d.0) (line-at r 1 h ∙ d.1 l1) y
+    go (no h) (yes k) = reaches-at n r (l2 d.0) (line-at r 2 k ∙ d.1 l2) y
+    go (no h) (no k) = let e : r.line ≡ 3 = omega arith in reaches-at n r (l3 d.0) (line-at r 3 e ∙ d.1 l3) y

@@ -1,7 +1,6 @@
 -- What an entry that is not refused is known to have been asked.
 use mathlib.Core.Path.{◌≡◌, refl, sym, ◌∙◌}
-use mathlib.Core.Logic.{◌⊎◌, inl, inr}
-use mathlib.Core.Bool.{Bool, true, false, ◌&&◌, and-eq-true_iff, false≢true}
+use mathlib.Core.Bool.{Bool, true, ◌&&◌, and-eq-true_iff}
 use mathlib.Core.Option.{none}
 use mathlib.Core.List.{List, ◌∷◌}
 use Prim.Native.Nat.{ℕ, ◌*◌, ◌≤◌, ◌<◌}
@@ -9,22 +8,10 @@ use native.Mathlib.Omega.{arith}
 use lib.Dec.{ltb}
 use lib.ListN.{length}
 use borrow.Author.Tests.{ltb-true, eqb-true}
-use Rattle.figure_lines.specs.declared.Record.{Record}
 use Rattle.cells_spec.specs.declared.State.{State}
 use Rattle.cells_spec.specs.Questions.{Question, refusal, fit, open_questions}
 use Rattle.cells_spec.proofs.Tests.{within_true, blocks_true, yes-at}
 use Rattle.cells_spec.proofs.Fits.{sizes}
-
--- the record is asked about only of a task of a fit state
-pub asked_of : (x f y : Bool) (q r : Record) (l : Record → List Question) → x ≡ f → (((x && y) ≡ true) × (q ≡ r)) ⊎ ((x && y) ≡ false)
-    → refusal ((6, x) ∷ (7, y) ∷ l q) ≡ refusal ((6, f) ∷ (7, y) ∷ l r)
-asked_of x f y q r l h d = go x y d ∙ rw h
-  where
-    go : (x y : Bool) → (((x && y) ≡ true) × (q ≡ r)) ⊎ ((x && y) ≡ false) → refusal ((6, x) ∷ (7, y) ∷ l q) ≡ refusal ((6, x) ∷ (7, y) ∷ l r)
-    go x y (inl w) = rw w.1
-    go false y (inr e) = refl
-    go true false (inr e) = refl
-    go true true (inr e) = absurd (false≢true (sym e))
 
 module _ (s : State) (p : List ℕ) (t : ℕ) where
   pub task-below : (x : Bool) → x ≡ fit s p → (x && ltb t s.tasks) ≡ true → t < 32

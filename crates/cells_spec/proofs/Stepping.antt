@@ -6,7 +6,7 @@ use mathlib.Core.Option.{Option, none, some}
 use mathlib.Core.List.{List}
 use Prim.Native.Nat.{ℕ, ◌≤◌, ◌<◌}
 use native.Mathlib.Omega.{arith}
-use lib.Dec.{eqb, ltb}
+use lib.Dec.{eqb}
 use lib.ListN.{get_or, length}
 use borrow.Author.Tests.{ltb-true, ne_eqb}
 use Rattle.figure_lines.specs.declared.Record.{Record}
@@ -144,8 +144,3 @@ module _ (s : State) (p : List ℕ) (t : ℕ) where
           countable = countable;
           acts = acts;
         }
-
-    -- with the record that the code asks about
-    pub acting : (x : Bool) (r : Record) → x ≡ fit s p → (((x && ltb t s.tasks) ≡ true) × (r ≡ own)) ⊎ ((x && ltb t s.tasks) ≡ false) → Acting s p t r
-    acting x r h (inl w) = rw w.1 own_acting
-    acting x r h (inr w) = absurd (false≢true (sym w ∙ rw (h, is-yes 0, is-yes 1)))

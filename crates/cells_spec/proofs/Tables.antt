@@ -4,9 +4,9 @@ use mathlib.Core.Bool.{Bool, true, false, ◌&&◌, not, cond}
 use mathlib.Core.List.{List}
 use Prim.Native.Nat.{ℕ, ◌+◌, ◌≤◌, ◌<◌}
 use native.Mathlib.Omega.{arith}
-use native.Mathlib.Decide.{ℕ_discrete, dec_le}
+use native.Mathlib.Decide.{ℕ_discrete}
 use lib.Dec.{eqb}
-use lib.ListN.{get_or, length, set, length-set, get_or-eq_default}
+use lib.ListN.{get_or, length, set, length-set}
 use lib.Seq.{get_or-set_same, get_or-set_other}
 use borrow.Author.Tests.{eqb-true, eq-eqb, ne_eqb}
 use Rattle.figure_lines.specs.declared.Record.{Record}
@@ -66,17 +66,6 @@ module _ (b : ℕ) where
       let first = more_if l h x r.held in
       let second = more_if m (omega (arith, e)) (not (is_idle r) && has_taken r) r.taken in
       omega (arith, first, second, two-uses r)
-
-  -- also of a block past the last
-  pub more_if_most : (l : List ℕ) (x : Bool) (m : ℕ) → get_or (cond x (more l m) l) b 0 ≤ get_or l b 0 + 1
-  more_if_most l x m = go (dec_le (length l) b)
-    where
-      go : Dec (length l ≤ b) → get_or (cond x (more l m) l) b 0 ≤ get_or l b 0 + 1
-      go (no n) = omega (arith, more_if l (omega (arith, n)) x m, once-most (x && eqb m b))
-      go (yes k) =
-          let e = length_if x (more l m) l (length-set l m _) in
-          let z : get_or (cond x (more l m) l) b 0 ≡ 0 = get_or-eq_default (cond x (more l m) l) 0 (omega (arith, e)) in
-          omega arith
 
 pub record_most : (r : Record) (b : ℕ) → record_uses r b ≤ 2
 record_most r b = omega (arith, two-uses b r, once-most ((not (is_idle r) && holds r) && eqb r.held b), once-most ((not (is_idle r) && has_taken r) && eqb r.taken b))

@@ -4,12 +4,12 @@ use mathlib.Core.Logic.{⊎_elim}
 use mathlib.Core.Bool.{Bool, true, false, ◌&&◌, ◌||◌, not, cond, and-eq-true_iff, false≢true}
 use mathlib.Core.Option.{none}
 use mathlib.Core.List.{List, [], ◌∷◌}
-use Prim.Native.Nat.{ℕ, zero, suc, ◌+◌, ◌-◌, ◌*◌, ◌≤◌, ◌<◌}
+use Prim.Native.Nat.{ℕ, zero, suc, ◌+◌, ◌*◌, ◌≤◌, ◌<◌}
 use native.Mathlib.Omega.{arith}
 use native.Mathlib.Nat.{eq-or-lt_of_le}
 use lib.Dec.{eqb, leb}
 use lib.ListN.{get_or}
-use borrow.Author.Tests.{eqb-true, leb-true, leb-false, le-leb, lt-leb}
+use borrow.Author.Tests.{eqb-true, leb-true}
 use Rattle.figure_lines.specs.Basics.{within, ands, all_from, any_from}
 use Rattle.cells_spec.specs.Questions.{Question, refusal, blocks_ok, answers}
 
@@ -36,14 +36,6 @@ implied_not false b = refl
 
 pub within_true : (n a b : ℕ) → within n a b ≡ true → (a ≤ n) × (n ≤ b)
 within_true n a b e = let q = (and-eq-true_iff (leb a n) (leb n b)).0 e in (leb-true a n q.0, leb-true n b q.1)
-
--- the code asks by a sum: nothing is taken away from 0
-pub one_fewer : (a b : ℕ) → leb a (b + 1) ≡ leb (a - 1) b
-one_fewer a b = go (leb (a - 1) b) refl
-  where
-    go : (x : Bool) → leb (a - 1) b ≡ x → leb a (b + 1) ≡ x
-    go true e = let h = leb-true (a - 1) b e in le-leb a (b + 1) (omega arith)
-    go false e = let h = leb-false (a - 1) b e in lt-leb a (b + 1) (omega arith)
 
 pub blocks_true : (n v b len : ℕ) → blocks_ok n v b len ≡ true → (v + 2 * n ≤ b + 1) × (len ≡ 5 * b)
 blocks_true n v b len e =

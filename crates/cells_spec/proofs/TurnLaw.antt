@@ -1,4 +1,4 @@
--- A turn is a step given numbers: from what its line leaves, what it needs, and when it needs no unused block.
+-- A turn is a step given numbers: what it needs, and when it needs no unused block.
 use mathlib.Core.Path.{◌≡◌, refl, ap}
 use mathlib.Core.Logic.{inl, inr}
 use mathlib.Core.Bool.{true, ◌||◌, not, and-eq-true_iff}
@@ -11,20 +11,13 @@ use borrow.Author.Tests.{ltb-true, leb-true}
 use Rattle.figure_lines.specs.declared.Record.{Record}
 use Rattle.figure_lines.specs.declared.Access.{Access}
 use Rattle.figure_lines.specs.declared.Access.TheVariants.{LoadCell, Load, Store, DecideCas, InstallCas, Allocate, Nothing}
-use Rattle.figure_lines.specs.Answers.{Next}
 use Rattle.figure_lines.specs.Lines.{line_of, access_of, next_of}
 use Rattle.cells_spec.specs.Questions.{record_fit, holds, has_taken}
-use Rattle.cells_spec.specs.Memory.{Touched, touched, performed, Reaches}
-use Rattle.cells_spec.specs.LineRun.{Left, left, line_run}
+use Rattle.cells_spec.specs.Memory.{Touched, performed, Reaches}
 use Rattle.cells_spec.specs.Turn.{ending, turn, Ready}
 use Rattle.cells_spec.proofs.Fits.{busy_test}
 use Rattle.cells_spec.proofs.Numbers.{number, at-number}
 use Rattle.cells_spec.proofs.Accesses.{Holds, HasTaken, Keeps, keeps}
-
--- FROM WHAT ITS LINE LEAVES
-
-pub run-turn : (p : List ℕ) (t : ℕ) (r : Record) (c l : ℕ) (f : Option ℕ) {p' : List ℕ} {c' l' : ℕ} {x : Next} → left p' c' l' x ≡ line_run p t r c l f → ending (touched p' c' l' 0) x ≡ turn p t r c l f
-run-turn p t r c l f e = ap (λ (y : Left). ending (touched y.pool y.current y.last 0) y.next) e
 
 -- WHAT IT NEEDS, in a fit state
 module _ (r : Record) (v b words : ℕ) (fits : record_fit r v b ≡ true) (busy : r.line ≡ 0 → ⊥) (size : words ≡ 5 * b) where

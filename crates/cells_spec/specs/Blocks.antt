@@ -3,8 +3,6 @@ use Rattle.std.specs.Prelude.{◌≡◌, Bool, true, false, ◌&&◌, ◌||◌, 
 use Rattle.std.proofs.Math.Option.{Option, none, some}
 use Rattle.figure_lines.specs.declared.Record.{Record}
 use Rattle.cells_spec.specs.declared.State.{State}
-use Rattle.cells_spec.specs.declared.Found.{Found}
-use Rattle.cells_spec.specs.declared.Found.TheVariants.{At, Nowhere}
 use Rattle.figure_lines.specs.Basics.{any_from}
 use Rattle.figure_lines.specs.Record.{is_idle, record_at}
 use Rattle.cells_spec.specs.Questions.{holds, has_taken}
@@ -53,11 +51,6 @@ unused s = first_unused s.counts s.blocks s.last
 abbrev pub is_found : Option ℕ → Bool
 is_found none = false
 is_found (some b) = true
-
--- what a search that ended says
-abbrev pub found_of : Found → Option ℕ
-found_of (At b) = some b
-found_of Nowhere = none
 
 -- document 01's search, by the table: of k blocks going upward from b, the first that is not used. The counts find the same
 -- (cells_spec/proofs/Unused.antt)

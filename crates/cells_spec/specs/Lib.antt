@@ -2,7 +2,6 @@ pub mod Questions
 pub mod Counts
 pub mod Pool
 pub mod Memory
-pub mod Words
 pub mod LineRun
 pub mod Blocks
 pub mod Answers

@@ -1,14 +1,13 @@
 -- A line of figure 2 run on the pool: what its access leaves of memory, and what follows from memory's answer.
-use Rattle.std.specs.Prelude.{◌≡◌, List, ℕ, ◌+◌, ◌≤◌, ◌<◌, length, get_or, set}
+use Rattle.std.specs.Prelude.{◌≡◌, List, ℕ, ◌+◌, None, Some}
+use Rattle.std.specs.Prelude as Code
 use Rattle.std.proofs.Math.Option.{Option}
 use Rattle.figure_lines.specs.declared.Record.{Record}
-use Rattle.figure_lines.specs.Answers.{answer_of, Next, Go, Done}
-use Rattle.figure_lines.specs.Lines.{access_of, next_of, counted}
-use Rattle.history_spec.specs.History.{untried}
-use Rattle.cells_spec.specs.declared.Next as Code
-use Rattle.cells_spec.specs.declared.Next.TheVariants as next
+use Rattle.figure_lines.specs.declared.Finished.{Finished}
+use Rattle.figure_lines.specs.Answers.{result_of, Next, Go, Done}
+use Rattle.figure_lines.specs.Lines.{line_of, access_of, next_at, next_of, attempt}
+use Rattle.history_spec.specs.History.{Attempt, wins, losses}
 use Rattle.cells_spec.specs.Memory.{performed, Reaches}
-use Rattle.cells_spec.specs.Words.{record_of}
 
 pub record Left : Type 0 where
   pub pool : List ℕ
@@ -22,32 +21,31 @@ left p c l n = record { pool = p; current = c; last = l; next = n }
 abbrev pub line_run : (pool : List ℕ) (task : ℕ) (r : Record) (current last : ℕ) (free : Option ℕ) → Left
 line_run p t r c l f = let m = performed p c l f (access_of t r) in left m.pool m.current m.last (next_of t r m.value)
 
--- WHAT THE CODE'S ENUM SAYS of a record's words: one step more, the line, and one word; or the end of the call
-
-abbrev pub word_written : List ℕ → (line word value : ℕ) → List ℕ
-word_written w n i v = set (set (set w 9 (get_or w 9 0 + 1)) 0 n) i v
-
-abbrev pub followed : List ℕ → Code.Next → Next
-followed w (next.Go n i v) = Go (record_of (word_written w n i v))
-followed w (next.Done a x y) = Done (record { kind = get_or w 2 0; cell = get_or w 3 0; answer = answer_of a; steps = get_or w 9 0 + 1; won = x; lost = y })
+-- what the code says: the record as a line leaves it, or the finished call
+abbrev pub followed : Record → Code.Option Finished → Next
+followed r None = Go r
+followed r (Some f) = Done (result_of f)
 
 -- (what follows only helps the proofs)
 
--- the word is one of the record's
-abbrev pub Within : Code.Next → Type 0
-Within (next.Go n i v) = i < 12
-Within (next.Done a x y) = Prim.Unit
+-- the step counted; the hardware CAS too
+abbrev pub stepped : Record → Record
+stepped r = record r { steps = r.steps + 1 }
 
--- a line that attempts no hardware CAS
-abbrev pub once : List ℕ → Record
-once w = counted (record_of w) untried
+abbrev pub tallied : Record → Attempt → Record
+tallied r x = record r { won = r.won + wins x; lost = r.lost + losses x }
 
--- a line of the deciding part, of a read, or of a swap up to line 24: it changes no cell's block and takes none
-abbrev pub Runs : (pool pool' words : List ℕ) → Code.Next → (task current : ℕ) → Type 0
-Runs p p' w n t c = Within n × ((l : ℕ) (f : Option ℕ) → left p' c l (followed w n) ≡ line_run p t (record_of w) c l f)
+-- the same of a record in which the step is counted
+abbrev pub line_done : (pool : List ℕ) (task : ℕ) (r : Record) (current last : ℕ) (free : Option ℕ) → Left
+line_done p t r c l f =
+    let a = access_of t r in
+    let m = performed p c l f a in
+    left m.pool m.current m.last (next_at (line_of r) t (tallied r (attempt a m.value)) m.value)
 
--- what a line needs of the words of its record
-pub record Reach (words : ℕ) (w : List ℕ) : Type 0 where
-  pub size : length w ≡ 12
-  pub reaches : (t : ℕ) → Reaches words (access_of t (record_of w))
-  pub hard : get_or w 10 0 + get_or w 11 0 ≤ 3
+-- a line that changes no cell's block and takes none, with what follows it: each but 4 and 30
+abbrev pub Does : (pool pool' : List ℕ) → Record → Next → (task current : ℕ) → Type 0
+Does p p' r x t c = (l : ℕ) (f : Option ℕ) → left p' c l x ≡ line_done p t r c l f
+
+-- the block that the line names is among the words
+abbrev pub Within : (words : ℕ) → Record → Type 0
+Within n r = (t : ℕ) → Reaches n (access_of t r)

@@ -1,1 +1,2 @@
 mod Search
+pub mod Stored

@@ -1,8 +1,7 @@
 // Which block is handed out: the first whose count is 0.
 ghost use Rattle.std.specs.Prelude.{◌≡◌, ◌<◌};
-ghost use Rattle.cells_spec.specs.Blocks.{block_after, first_unused, found_of, is_found};
-
-use cells_spec::Found;
+ghost use Rattle.figure_lines.specs.Basics.{option_of};
+ghost use Rattle.cells_spec.specs.Blocks.{block_after, first_unused};
 
 fn block_after(blocks: u32, b: u32) -> u32
     requires { b < blocks }
@@ -13,29 +12,18 @@ fn block_after(blocks: u32, b: u32) -> u32
 
 // Reads the counts alone, from the block after the last taken. Any counts may be searched; where there are more blocks than counts, or
 // no block to start from, none is handed out.
-pub fn unused_block(counts: &[u8; 128], blocks: u32, last: u32) -> Found
-    ensures { found_of result ≡ first_unused counts.now blocks last }
+pub fn unused_block(counts: &[u8; 128], blocks: u32, last: u32) -> Option<u32>
+    ensures { option_of result ≡ first_unused counts.now blocks last }
 {
-    if !((blocks <= 128) & (last < blocks)) {
-        return Found::Nowhere;
+    if blocks > 128 || blocks <= last {
+        return None;
     }
-    let mut b = block_after(blocks, last);
-    let mut left = blocks;
-    while 0 < left {
-        if counts[b as usize] == 0 {
-            return Found::At(b);
-        }
+    let mut b = last;
+    for _ in 0..blocks {
         b = block_after(blocks, b);
-        left = left - 1;
+        if counts[b as usize] == 0 {
+            return Some(b);
+        }
     }
-    Found::Nowhere
-}
-
-pub fn is_found(free: Found) -> bool
-    ensures { result ≡ is_found (found_of free) }
-{
-    match free {
-        Found::At(_) => true,
-        Found::Nowhere => false,
-    }
+    None
 }

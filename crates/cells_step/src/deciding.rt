@@ -1,59 +1,58 @@
 // Lines 1 to 3 of figure 2 on the pool: the deciding part.
-ghost use Rattle.std.specs.Prelude.{◌≡◌, ◌||◌, eqb, ℕ, ◌≤◌, length, get_or};
+// Stays (5): what a line needs speaks of pool and record, which are lent apart (runs.rt).
+ghost use Rattle.std.specs.Prelude.{◌≡◌, ◌||◌, eqb, ℕ, ◌+◌, ◌≤◌, length};
 ghost use Rattle.figure_lines.specs.Lines.{l3, deciding, next_at};
-ghost use Rattle.cells_spec.specs.LineRun.{once, followed, Within, Runs, Reach};
+ghost use Rattle.cells_spec.specs.LineRun.{followed, Does, Within};
 
 use crate::follows::{answer, answer_read, decide, goto, keep};
 use crate::memory::{decide_cas, load};
-use crate::words::{EXPECTED, HELD, LINE, LOADED, LOST, NEW, WANTED, WON};
-use cells_spec::Next;
-use figure_lines::{Answer, Field};
+use figure_lines::{Answer, Field, Finished, Record};
 
-pub fn decide_line(pool: &mut [u32], rec: &[u32]) -> Next
-    requires { Reach (length pool.old) rec.now × (1 ≤ get_or rec.now 0 0) × (get_or rec.now 0 0 ≤ 3) }
-    ensures { (t c : ℕ) → Runs pool.old pool.new rec.now result t c }
+pub fn decide_line(pool: &mut [u32], r: &mut Record) -> Option<Finished>
+    requires within { Within (length pool.old) r.now }
+    requires hard { r.now.won + r.now.lost ≤ 3 }
+    requires first { 1 ≤ r.now.line }
+    requires last { r.now.line ≤ 3 }
+    ensures { (t c : ℕ) → Does pool.old pool.new r.entry.now (followed r.exit.now result) t c }
 {
-    let line = rec[LINE];
-    let block = rec[HELD];
-    if !wants(rec[WANTED]) {
-        return goto(line);
+    if !wants(r.wanted) {
+        return None;
     }
-    match line {
-        1 => keep(2, load(pool, block, Field::V)),
+    match r.line {
+        1 => keep(r, 2, load(pool, r.held, Field::V)),
         2 => {
-            if decide_cas(pool, block, rec[LOADED]) == 1 {
-                Next::Go(3, WON, rec[WON] + 1)
+            if decide_cas(pool, r.held, r.loaded) {
+                r.won += 1;
             } else {
-                Next::Go(3, LOST, rec[LOST] + 1)
+                r.lost += 1;
             }
+            goto(r, 3)
         }
-        _ => decided(rec, load(pool, block, Field::D)),
+        _ => decided(r, load(pool, r.held, Field::D)),
     }
 }
 
 // The decision is v.
-fn decided(rec: &[u32], v: u32) -> Next
-    requires { length rec.now ≡ 12 }
-    ensures { Within result × ((t : ℕ) → followed rec.now result ≡ next_at (deciding l3 (get_or rec.now 1 0)) t (once rec.now) v) }
+fn decided(r: &mut Record, v: u32) -> Option<Finished>
+    ensures { (t : ℕ) → followed r.exit.now result ≡ next_at (deciding l3 r.entry.now.wanted) t r.entry.now v }
 {
-    let wanted = rec[WANTED];
-    match wanted {
-        13 => answer_read(rec, v),
+    match r.wanted {
+        13 => answer_read(r, v),
         25 => {
-            if v == rec[NEW] {
-                answer(rec, Answer::Yes)
+            if v == r.new {
+                answer(r, Answer::Yes)
             } else {
-                decide(28)
+                decide(r, 28)
             }
         }
         28 => {
-            if v == rec[EXPECTED] {
-                goto(4)
+            if v == r.expected {
+                goto(r, 4)
             } else {
-                answer(rec, Answer::No)
+                answer(r, Answer::No)
             }
         }
-        _ => goto(rec[LINE]),
+        _ => None,
     }
 }
 
@@ -61,5 +60,5 @@ fn decided(rec: &[u32], v: u32) -> Next
 fn wants(line: u32) -> bool
     ensures { result ≡ (eqb line 13 || (eqb line 25 || eqb line 28)) }
 {
-    (line == 13) | ((line == 25) | (line == 28))
+    matches!(line, 13 | 25 | 28)
 }

@@ -1,74 +1,74 @@
-// What follows a line.
-ghost use Rattle.std.specs.Prelude.{◌≡◌, List, ℕ, length};
+// What follows a line, in the record's place. None says that the call goes on.
+ghost use Rattle.std.specs.Prelude.{◌≡◌};
 ghost use Rattle.figure_lines.specs.Answers.{answer_of as «responseOf»};
 ghost use Rattle.figure_lines.specs.Lines.{goto as «gotoOf», decide as «decideOf», hold as «holdOf», load as «load_of», take as «take_of», answer as «answer_of», read_answer};
-ghost use Rattle.cells_spec.specs.Words.{record_of};
-ghost use Rattle.cells_spec.specs.LineRun.{once, left, followed, Within};
+ghost use Rattle.figure_lines.specs.declared.Record.{Record};
+ghost use Rattle.cells_spec.specs.LineRun.{followed};
 
-use crate::words::{EXPECTED, HELD, KIND, LINE, LOADED, LOST, TAKEN, WANTED, WON};
-use cells_spec::{Next, Ran};
-use figure_lines::Answer;
+use figure_lines::{Answer, Finished, Record};
 
-pub fn goto(line: u32) -> Next
-    ensures { Within result × ((w : List ℕ) → length w ≡ 12 → followed w result ≡ «gotoOf» (once w) line) }
+pub fn goto(r: &mut Record, line: u32) -> Option<Finished>
+    ensures { followed r.exit.now result ≡ «gotoOf» r.entry.now line }
 {
-    Next::Go(line, LINE, line)
+    r.line = line;
+    None
 }
 
 // To the deciding part, for a line that wants it.
-pub fn decide(wanted: u32) -> Next
-    ensures { Within result × ((w : List ℕ) → length w ≡ 12 → followed w result ≡ «decideOf» (once w) wanted) }
+pub fn decide(r: &mut Record, wanted: u32) -> Option<Finished>
+    ensures { followed r.exit.now result ≡ «decideOf» r.entry.now wanted }
 {
-    Next::Go(1, WANTED, wanted)
+    r.line = 1;
+    r.wanted = wanted;
+    None
 }
 
-pub fn hold(line: u32, block: u32) -> Next
-    ensures { Within result × ((w : List ℕ) → length w ≡ 12 → followed w result ≡ «holdOf» (once w) line block) }
+pub fn hold(r: &mut Record, line: u32, block: u32) -> Option<Finished>
+    ensures { followed r.exit.now result ≡ «holdOf» r.entry.now line block }
 {
-    Next::Go(line, HELD, block)
+    r.line = line;
+    r.held = block;
+    None
 }
 
-pub fn keep(line: u32, v: u32) -> Next
-    ensures { Within result × ((w : List ℕ) → length w ≡ 12 → followed w result ≡ «load_of» (once w) line v) }
+pub fn keep(r: &mut Record, line: u32, v: u32) -> Option<Finished>
+    ensures { followed r.exit.now result ≡ «load_of» r.entry.now line v }
 {
-    Next::Go(line, LOADED, v)
+    r.line = line;
+    r.loaded = v;
+    None
 }
 
-pub fn take(line: u32, block: u32) -> Next
-    ensures { Within result × ((w : List ℕ) → length w ≡ 12 → followed w result ≡ «take_of» (once w) line block) }
+pub fn take(r: &mut Record, line: u32, block: u32) -> Option<Finished>
+    ensures { followed r.exit.now result ≡ «take_of» r.entry.now line block }
 {
-    Next::Go(line, TAKEN, block)
+    r.line = line;
+    r.taken = block;
+    None
 }
 
-pub fn answer(rec: &[u32], a: Answer) -> Next
-    requires { length rec.now ≡ 12 }
-    ensures { Within result × (followed rec.now result ≡ «answer_of» (once rec.now) («responseOf» a)) }
+pub fn answer(r: &Record, answer: Answer) -> Option<Finished>
+    ensures { (q : Record) → followed q result ≡ «answer_of» r.entry.now («responseOf» answer) }
 {
-    Next::Done(a, rec[WON], rec[LOST])
+    Some(Finished {
+        kind: r.kind,
+        cell: r.cell,
+        answer,
+        steps: r.steps,
+        won: r.won,
+        lost: r.lost,
+    })
 }
 
 // Line 14 makes a read of a swap of equal values.
-pub fn answer_read(rec: &[u32], v: u32) -> Next
-    requires { length rec.now ≡ 12 }
-    ensures { Within result × (followed rec.now result ≡ «answer_of» (once rec.now) (read_answer (record_of rec.now) v)) }
+pub fn answer_read(r: &Record, v: u32) -> Option<Finished>
+    ensures { (q : Record) → followed q result ≡ «answer_of» r.entry.now (read_answer r.entry.now v) }
 {
-    if rec[KIND] == 2 {
-        if v == rec[EXPECTED] {
-            answer(rec, Answer::Yes)
-        } else {
-            answer(rec, Answer::No)
-        }
+    if r.kind != 2 {
+        answer(r, Answer::Value(v))
+    } else if v == r.expected {
+        answer(r, Answer::Yes)
     } else {
-        answer(rec, Answer::Value(v))
-    }
-}
-
-pub fn leave(current: u32, last: u32, next: Next) -> Ran
-    ensures { (Within next → Within result.next) × ((p w : List ℕ) → left p result.current result.last (followed w result.next) ≡ left p current last (followed w next)) }
-{
-    Ran {
-        next,
-        current,
-        last,
+        answer(r, Answer::No)
     }
 }

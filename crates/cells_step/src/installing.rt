@@ -1,46 +1,45 @@
-// Lines 26 to 30 of figure 2 on the pool: a swap's end.
-ghost use Rattle.std.specs.Prelude.{◌≡◌, List, ℕ, ◌+◌, ◌≤◌, length, get_or};
+// Lines 26, 27 and 30 of figure 2 on the pool: a swap's end.
+// Stays (5): what a line needs speaks of pool and record, which are lent apart (runs.rt).
+ghost use Rattle.std.specs.Prelude.{◌≡◌, List, ℕ, ◌+◌, ◌≤◌, length};
 ghost use Rattle.std.proofs.Math.Option.{Option};
-ghost use Rattle.cells_spec.specs.Words.{record_of};
-ghost use Rattle.cells_spec.specs.LineRun.{left, line_run, followed, Within, Reach};
+ghost use Rattle.cells_spec.specs.LineRun.{left, line_done, followed, Does, Within};
 
-use crate::follows::{answer, decide, goto, leave};
+use crate::follows::{answer, decide};
 use crate::memory::store;
-use crate::words::{HELD, LINE, LOST, TAKEN, WON};
-use cells_spec::{Next, Ran};
-use figure_lines::{Answer, Field};
+use figure_lines::{Answer, Field, Finished, Record};
 
 // Lines 28 and 29 are no steps: the deciding part and lines 4 to 8 do them.
-pub fn install_line(pool: &mut [u32], rec: &[u32], current: u32, last: u32) -> Ran
-    requires { Reach (length pool.old) rec.now × (26 ≤ get_or rec.now 0 0) × (get_or rec.now 0 0 ≤ 30) }
-    ensures { Within result.next × ((t : ℕ) (f : Option ℕ) → left pool.new result.current result.last (followed rec.now result.next) ≡ line_run pool.old t (record_of rec.now) current last f) }
+pub fn end_line(pool: &mut [u32], r: &mut Record) -> Option<Finished>
+    requires within { Within (length pool.old) r.now }
+    requires first { 26 ≤ r.now.line }
+    requires last { r.now.line ≤ 29 }
+    ensures { (t c : ℕ) → Does pool.old pool.new r.entry.now (followed r.exit.now result) t c }
 {
-    let line = rec[LINE];
-    let block = rec[HELD];
-    match line {
+    match r.line {
         26 => {
-            store(pool, block, Field::Y, 0);
-            leave(current, last, answer(rec, Answer::Yes))
+            store(pool, r.held, Field::Y, 0);
+            answer(r, Answer::Yes)
         }
         27 => {
-            store(pool, block, Field::C, 1);
-            leave(current, last, decide(28))
+            store(pool, r.held, Field::C, 1);
+            decide(r, 28)
         }
-        30 => install(rec, current, last),
-        _ => leave(current, last, goto(line)),
+        _ => None,
     }
 }
 
-// Line 30.
-fn install(rec: &[u32], current: u32, last: u32) -> Ran
-    requires { (length rec.now ≡ 12) × (get_or rec.now 10 0 + get_or rec.now 11 0 ≤ 3) × (get_or rec.now 0 0 ≡ 30) }
-    ensures { Within result.next × ((p : List ℕ) (t : ℕ) (f : Option ℕ) → left p result.current result.last (followed rec.now result.next) ≡ line_run p t (record_of rec.now) current last f) }
+// Line 30: the hardware CAS of the cell's block.
+pub fn install(r: &mut Record, current: &mut u32) -> Option<Finished>
+    requires hard { r.now.won + r.now.lost ≤ 3 }
+    requires line { r.now.line ≡ 30 }
+    ensures { (p : List ℕ) (t l : ℕ) (f : Option ℕ) → left p current.new l (followed r.exit.now result) ≡ line_done p t r.entry.now current.old l f }
 {
-    let won = rec[WON];
-    let lost = rec[LOST];
-    if current == rec[HELD] {
-        leave(rec[TAKEN], last, Next::Done(Answer::Yes, won + 1, lost))
+    if *current == r.held {
+        *current = r.taken;
+        r.won += 1;
+        answer(r, Answer::Yes)
     } else {
-        leave(current, last, Next::Done(Answer::No, won, lost + 1))
+        r.lost += 1;
+        answer(r, Answer::No)
     }
 }

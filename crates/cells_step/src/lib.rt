@@ -13,6 +13,5 @@ mod reading;
 mod runs;
 mod swapping;
 pub mod turns;
-pub mod words;
 
 pub use crate::memory::{fill, load};

@@ -1,7 +1,7 @@
 // The counts of each complete path of figure 2.
-ghost use Rattle.std.specs.Prelude.{◌≡◌, ◌<◌};
-ghost use Rattle.figure_lines.specs.Paths.{entry, row_of};
-ghost use Rattle.cells_step.specs.Rows.{row_gives};
+ghost use Rattle.std.specs.Prelude.{◌≡◌};
+ghost use Rattle.figure_lines.specs.Basics.{option_of};
+ghost use Rattle.figure_lines.specs.Paths.{row_of};
 
 // Document 01's rows, the last four CR 2's: steps, loads, stores, hardware CAS attempts.
 const PATHS: [[u32; 4]; 13] = [
@@ -20,31 +20,16 @@ const PATHS: [[u32; 4]; 13] = [
     [21, 10, 8, 3],
 ];
 
-// One number of one row.
-fn count_of(row: usize, which: usize) -> u32
-    requires { (row < 13) × (which < 4) }
-    ensures { result ≡ entry row which }
+// A finished call's loads and stores, by its steps and hardware CAS attempts. The last row that has these is meant: two have 15 and 2,
+// and no opening reaches the ninth.
+pub fn row_of(steps: u32, hard: u32) -> Option<(u32, u32)>
+    ensures { option_of result ≡ row_of steps hard }
 {
-    PATHS[row][which]
-}
-
-// What the table says of a finished call besides its steps and hardware CAS attempts: its loads and stores.
-#[derive(Clone, Copy)]
-pub enum Row {
-    Counts(u32, u32),
-    NoRow,
-}
-
-// The last of the rows that have these counts: two have 15 steps and 2 hardware CAS attempts, and no opening reaches the ninth.
-pub fn row_of(steps: u32, hard: u32) -> Row
-    ensures { row_gives result ≡ row_of steps hard }
-{
-    let mut i: usize = 13;
-    while i > 0 {
-        i = i - 1;
-        if (count_of(i, 0) == steps) & (count_of(i, 3) == hard) {
-            return Row::Counts(count_of(i, 1), count_of(i, 2));
+    for i in (0..PATHS.len()).rev() {
+        let [s, loads, stores, h] = PATHS[i];
+        if s == steps && h == hard {
+            return Some((loads, stores));
         }
     }
-    Row::NoRow
+    None
 }

@@ -1,27 +1,26 @@
 // Lines 10 to 12 of figure 2 on the pool: a read.
-ghost use Rattle.std.specs.Prelude.{ℕ, ◌≤◌, length, get_or};
-ghost use Rattle.cells_spec.specs.LineRun.{Runs, Reach};
+// Stays (5): what a line needs speaks of pool and record, which are lent apart (runs.rt).
+ghost use Rattle.std.specs.Prelude.{ℕ, ◌≤◌, length};
+ghost use Rattle.cells_spec.specs.LineRun.{followed, Does, Within};
 
 use crate::follows::{answer_read, decide, hold, keep};
 use crate::memory::load;
-use crate::words::{HELD, LINE, LOADED};
-use cells_spec::Next;
-use figure_lines::Field;
+use figure_lines::{Field, Finished, Record};
 
-pub fn read_line(pool: &[u32], rec: &[u32], current: u32) -> Next
-    requires { Reach (length pool.now) rec.now × (10 ≤ get_or rec.now 0 0) × (get_or rec.now 0 0 ≤ 12) }
-    ensures { (t : ℕ) → Runs pool.now pool.now rec.now result t current }
+pub fn read_line(pool: &[u32], r: &mut Record, current: u32) -> Option<Finished>
+    requires within { Within (length pool.now) r.now }
+    requires first { 10 ≤ r.now.line }
+    requires last { r.now.line ≤ 12 }
+    ensures { (t : ℕ) → Does pool.now pool.now r.entry.now (followed r.exit.now result) t current }
 {
-    let line = rec[LINE];
-    let held = rec[HELD];
-    match line {
-        10 => hold(11, current),
-        11 => keep(12, load(pool, held, Field::V)),
+    match r.line {
+        10 => hold(r, 11, current),
+        11 => keep(r, 12, load(pool, r.held, Field::V)),
         _ => {
-            if load(pool, held, Field::C) == 0 {
-                answer_read(rec, rec[LOADED])
+            if load(pool, r.held, Field::C) == 0 {
+                answer_read(r, r.loaded)
             } else {
-                decide(13)
+                decide(r, 13)
             }
         }
     }

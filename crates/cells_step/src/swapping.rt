@@ -1,74 +1,73 @@
 // Lines 15 to 24 of figure 2 on the pool: a swap up to its store of V, and the load of C after it.
-ghost use Rattle.std.specs.Prelude.{◌≡◌, ℕ, ◌≤◌, length, get_or};
+// Stays (5): what a line needs speaks of pool and record, which are lent apart (runs.rt).
+ghost use Rattle.std.specs.Prelude.{◌≡◌, ℕ, ◌≤◌, length};
 ghost use Rattle.figure_lines.specs.Lines.{l21, next_at};
-ghost use Rattle.cells_spec.specs.LineRun.{once, followed, Within, Runs, Reach};
+ghost use Rattle.cells_spec.specs.LineRun.{followed, Does, Within};
 
 use crate::follows::{answer, decide, goto, hold, keep};
 use crate::memory::{load, store};
-use crate::words::{EXPECTED, HELD, LINE, LOADED, NEW};
-use cells_spec::Next;
-use figure_lines::{Answer, Field};
+use figure_lines::{Answer, Field, Finished, Record};
 
-pub fn swap_line(pool: &mut [u32], rec: &[u32], task: u32, current: u32) -> Next
-    requires { Reach (length pool.old) rec.now × (15 ≤ get_or rec.now 0 0) × (get_or rec.now 0 0 ≤ 24) }
-    ensures { Runs pool.old pool.new rec.now result task current }
+// Stays (7): the figure's own line numbers (runs.rt).
+pub fn swap_line(pool: &mut [u32], r: &mut Record, task: u32, current: u32) -> Option<Finished>
+    requires within { Within (length pool.old) r.now }
+    requires first { 15 ≤ r.now.line }
+    requires last { r.now.line ≤ 24 }
+    ensures { Does pool.old pool.new r.entry.now (followed r.exit.now result) task current }
 {
-    let line = rec[LINE];
-    let block = rec[HELD];
-    match line {
-        15 => hold(16, current),
+    match r.line {
+        15 => hold(r, 16, current),
         16 => {
-            store(pool, block, Field::X, task);
-            goto(17)
+            store(pool, r.held, Field::X, task);
+            goto(r, 17)
         }
         17 => {
-            if load(pool, block, Field::Y) == 0 {
-                goto(18)
+            if load(pool, r.held, Field::Y) == 0 {
+                goto(r, 18)
             } else {
-                goto(27)
+                goto(r, 27)
             }
         }
         18 => {
-            store(pool, block, Field::Y, 1);
-            goto(19)
+            store(pool, r.held, Field::Y, 1);
+            goto(r, 19)
         }
         19 => {
-            if load(pool, block, Field::X) == task {
-                goto(20)
+            if load(pool, r.held, Field::X) == task {
+                goto(r, 20)
             } else {
-                goto(27)
+                goto(r, 27)
             }
         }
-        20 => keep(21, load(pool, block, Field::V)),
-        21 => compared(rec, load(pool, block, Field::C)),
+        20 => keep(r, 21, load(pool, r.held, Field::V)),
+        21 => compared(r, load(pool, r.held, Field::C)),
         22 => {
-            store(pool, block, Field::Y, 0);
-            answer(rec, Answer::No)
+            store(pool, r.held, Field::Y, 0);
+            answer(r, Answer::No)
         }
         23 => {
-            store(pool, block, Field::V, rec[NEW]);
-            goto(24)
+            store(pool, r.held, Field::V, r.new);
+            goto(r, 24)
         }
         _ => {
-            if load(pool, block, Field::C) == 0 {
-                goto(26)
+            if load(pool, r.held, Field::C) == 0 {
+                goto(r, 26)
             } else {
-                decide(25)
+                decide(r, 25)
             }
         }
     }
 }
 
 // Line 21, where C is v.
-fn compared(rec: &[u32], v: u32) -> Next
-    requires { length rec.now ≡ 12 }
-    ensures { Within result × ((t : ℕ) → followed rec.now result ≡ next_at l21 t (once rec.now) v) }
+fn compared(r: &mut Record, v: u32) -> Option<Finished>
+    ensures { (t : ℕ) → followed r.exit.now result ≡ next_at l21 t r.entry.now v }
 {
     if v != 0 {
-        decide(28)
-    } else if rec[LOADED] == rec[EXPECTED] {
-        goto(23)
+        decide(r, 28)
+    } else if r.loaded == r.expected {
+        goto(r, 23)
     } else {
-        goto(22)
+        goto(r, 22)
     }
 }

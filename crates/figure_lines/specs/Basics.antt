@@ -1,5 +1,6 @@
 -- Tests over ranges of numbers, counting as the code's loops do.
-use Rattle.std.specs.Prelude.{Bool, true, false, ◌&&◌, ◌||◌, List, [], ◌∷◌, ℕ, zero, suc, ◌+◌, leb}
+use Rattle.std.specs.Prelude.{Bool, true, false, ◌&&◌, ◌||◌, List, [], ◌∷◌, ℕ, zero, suc, ◌+◌, leb, Option, Some, None}
+use Rattle.std.proofs.Math.Option as Math
 
 abbrev pub within : ℕ → ℕ → ℕ → Bool
 within n a b = leb a n && leb n b
@@ -22,3 +23,8 @@ any_from f i (suc k) = f i || any_from f (i + 1) k
 abbrev pub sum_from : (ℕ → ℕ) → ℕ → ℕ → ℕ
 sum_from f i zero = 0
 sum_from f i (suc k) = f i + sum_from f (i + 1) k
+
+-- the code's Option as the definitions' own
+abbrev pub option_of : {A : Type 0} → Option A → Math.Option A
+option_of None = Math.none
+option_of (Some x) = Math.some x

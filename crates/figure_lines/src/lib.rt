@@ -6,7 +6,8 @@ pub mod records;
 
 // What a task's pending call is about to do, and with what. Idle: line 0; an opening and a finished call leave every
 // other field 0 too.
-#[derive(Clone, Copy)]
+// Stays (1): numbers for line and kind, since users hand in any record and question 6 asks of it (`line_fit`, `reads`; test_cells).
+#[derive(Clone, Copy, Debug, PartialEq, Eq)]
 pub struct Record {
     // The figure's line that its next step runs.
     pub line: u32,
@@ -28,14 +29,15 @@ pub struct Record {
     pub lost: u32,
 }
 
-#[derive(Clone, Copy)]
+#[derive(Clone, Copy, Debug, PartialEq, Eq)]
 pub enum Answer {
     Value(u32),
     Yes,
     No,
 }
 
-#[derive(Clone, Copy)]
+// Stays (1): a number for the kind; `turn` says of any record that the kind is as begun.
+#[derive(Clone, Copy, Debug, PartialEq, Eq)]
 pub struct Finished {
     pub kind: u32,
     pub cell: u32,
@@ -46,7 +48,7 @@ pub struct Finished {
 }
 
 // The five words of a block, in their order.
-#[derive(Clone, Copy)]
+#[derive(Clone, Copy, Debug, PartialEq, Eq)]
 pub enum Field {
     X,
     Y,
@@ -56,7 +58,7 @@ pub enum Field {
 }
 
 // What a step asks of memory.
-#[derive(Clone, Copy)]
+#[derive(Clone, Copy, Debug, PartialEq, Eq)]
 pub enum Access {
     // Which block the cell names.
     LoadCell(u32),

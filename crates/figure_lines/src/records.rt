@@ -5,13 +5,27 @@ ghost use Rattle.figure_lines.specs.Record.{idle, first, first_read, first_swap}
 use crate::Record;
 
 // The reserved value.
+// Stays (1): a word of the pool has 32 bits, and document 01 reserves this one of them.
 pub const NO_VALUE: u32 = 4294967295;
 
 // Of a task without a call.
 pub fn idle() -> Record
     ensures { result ≡ idle }
 {
-    first(0, 0, 0, 0, 0)
+    Record {
+        line: 0,
+        wanted: 0,
+        kind: 0,
+        cell: 0,
+        expected: 0,
+        new: 0,
+        held: 0,
+        taken: 0,
+        loaded: 0,
+        steps: 0,
+        won: 0,
+        lost: 0,
+    }
 }
 
 // Of a task whose call begins.
@@ -20,17 +34,11 @@ fn first(line: u32, kind: u32, cell: u32, expected: u32, new: u32) -> Record
 {
     Record {
         line,
-        wanted: 0,
         kind,
         cell,
         expected,
         new,
-        held: 0,
-        taken: 0,
-        loaded: 0,
-        steps: 0,
-        won: 0,
-        lost: 0,
+        ..idle()
     }
 }
 

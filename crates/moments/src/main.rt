@@ -1,29 +1,22 @@
 // Reads a session from standard input and writes when each of its calls took effect.
 #![tactic(auto)]
 
-use buffers::{file_space, lines_space};
+use buffers::{FILE, LINES, zeroed};
 use moments_tool::run_moments;
-use program_io::report::{read_all, write_all};
+use program_io::filter::{Messages, filter};
 
+// Stays (2): a program names its tool, its room and its messages; what programs share is `filter`.
 fn main(rt: HostRuntime) {
-    let mut errors = rt.stderr();
-    let mut file = file_space();
-    let read = read_all(
+    filter(
         &mut rt.stdin(),
-        &mut file,
-        b"moments: cannot read standard input",
-        &mut errors,
-    );
-    if !read.whole {
-        return;
-    }
-    let n = read.count;
-    let mut out = lines_space();
-    let end = run_moments(&file[..n], &mut out);
-    write_all(
+        &mut zeroed::<FILE>(),
+        &mut zeroed::<LINES>(),
+        |file, out| run_moments(file, out),
         &mut rt.stdout(),
-        &out[..end],
-        b"moments: cannot write standard output",
-        &mut errors,
+        Messages {
+            cannot_read: b"moments: cannot read standard input",
+            cannot_write: b"moments: cannot write standard output",
+        },
+        &mut rt.stderr(),
     );
 }

@@ -1,17 +1,17 @@
 -- A mark and its word: the words' order is the marks' order, and a word's line is its mark's.
 use mathlib.Core.Path.{◌≡◌, refl, sym, ap, ap₂, ◌∙◌}
-use mathlib.Core.Logic.{◌≢◌}
 use mathlib.Core.Bool.{Bool, true, false, cond}
 use mathlib.Core.List.{List, [], ◌∷◌, ◌++◌, map}
 use Prim.Native.Nat.{ℕ, ◌+◌, ◌*◌, ◌/◌, ◌%◌, ◌≤◌, ◌<◌}
 use native.Mathlib.Omega.{arith}
 use native.Mathlib.Decide.{dec_le}
 use lib.Dec.{eqb, leb}
-use borrow.Author.Tests.{le-leb, lt-leb, leb-true, leb-false, eqb-true, eqb-false, ne_eqb}
-use Rattle.history_spec.specs.History.{Op, read, swap, cell_of, Kind, a_read, a_swap, kind_of, Response}
-use Rattle.history_spec.specs.Moments.{Side, before, itself, after, Rule, R1, R2, C1, C2, C3, C4, C5, C6, Spot, Mark, changing, side_number, key, not_after, insert, sort}
+use borrow.Author.Tests.{le-leb, lt-leb, leb-true, leb-false, eqb-true, eqb-false}
+use Rattle.history_spec.specs.History.{cell_of, Kind, a_read, a_swap, kind_of}
+use Rattle.history_spec.specs.Moments.{Side, before, itself, after, Rule, R1, R2, C1, C2, C3, C4, C5, C6, Mark, changing, side_number, key, not_after, insert, sort}
 use Rattle.moments_spec.specs.Lines.{at_line, mark_line, mark_lines}
-use Rattle.moments_tool.specs.Words.{rule_number, kind_number, rank, joined, mark_word, encode, insert_word, entered, IsWord, FitsWord, AllFit, Listed, side_at, kind_bit, rule_numbered, word_line, word_lines}
+use Rattle.std.specs.Prelude.{Some}
+use Rattle.moments_tool.specs.Words.{rule_number, kind_number, rank, joined, encode, insert_word, entered, IsWord, FitsWord, AllFit, Listed, side_at, kind_bit, rule_numbered, word_line, word_lines}
 use Rattle.moments_tool.proofs.Sorting.{insert-sorted}
 
 -- THE PARTS
@@ -166,16 +166,10 @@ one_listed {words} {l} x m h = record {
   sorted = insert-sorted (encode m) words x.sorted;
 }
 
--- A MARK THAT IS MADE: its word is none but 0, and one of 32 bits has a moment of 16
+-- A MARK THAT IS MADE: a word of 32 bits has a moment of 16
 
-some_word : (p : Spot) (op : Op) (t : ℕ) (a : Response) → 0 < mark_word p op t a
-some_word p (read k) t a = omega arith
-some_word p (swap k e n) t a = omega arith
-
-pub entered_listed : {words : List ℕ} {l : List Mark} → Listed words l → (m : Mark) → IsWord (encode m) → m.call.task < 32 → cell_of m.call.op < 16 → Listed (entered (encode m) words) (m ∷ l)
-entered_listed x m w h k =
-    let z : encode m ≢ 0 = λ e. omega (arith, e, some_word m.spot m.call.op m.call.task m.answer) in
-    rw (ne_eqb (encode m) 0 z) (one_listed x m (record { moment = omega (arith, w); task = h; cell = k }))
+pub entered_listed : {words : List ℕ} {l : List Mark} → Listed words l → (m : Mark) → IsWord (encode m) → m.call.task < 32 → cell_of m.call.op < 16 → Listed (entered (Some (encode m)) words) (m ∷ l)
+entered_listed x m w h k = one_listed x m (record { moment = omega (arith, w); task = h; cell = k })
 
 lines_same : (l : List Mark) → AllFit l → word_lines (map encode l) ≡ mark_lines l
 unfolding word_lines mark_lines

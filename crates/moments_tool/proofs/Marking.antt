@@ -1,11 +1,11 @@
 -- The loop over the actions: the words are those of the marks so far, and what is left from here on makes the whole.
 use mathlib.Core.Path.{◌≡◌, refl, sym, ap, subst, ◌∙◌}
-use mathlib.Core.Bool.{Bool, true, false, false≢true, cond}
-use mathlib.Core.Option.{Option, none, some}
+use mathlib.Core.Bool.{Bool, true, false, false≢true, ◌&&◌, cond}
+use mathlib.Core.Option as Math
+use Rattle.std.specs.Prelude.{Option, Some, None}
 use mathlib.Core.List.{List, [], ◌∷◌, ◌++◌, append_assoc}
 use Prim.Native.Nat.{ℕ, zero, suc, ◌+◌, ◌≤◌, ◌<◌}
 use native.Mathlib.Omega.{arith}
-use lib.Dec.{eqb}
 use lib.ListN.{length, get_or, set, replicate}
 use borrow.Author.Tests.{eqb-true, eq-eqb, lt-ltb}
 use Rattle.figure_lines.specs.declared.Record.{Record}
@@ -25,9 +25,9 @@ use Rattle.cells_theorems.specs.Moments.{sees_pool}
 use Rattle.moments_tool.specs.declared.sights.Sight.{Sight}
 use Rattle.moments_tool.specs.declared.sights.Own.{Own}
 use Rattle.moments_tool.specs.declared.sights.Waiter.{Waiter}
-use Rattle.moments_tool.specs.Words.{mark_word, encode, entered, IsWord, Listed}
-use Rattle.moments_tool.specs.Notes.{slot, sight_in, holds_with, sight_of, nobody_waits, with_waiting, notes_of, own_of, nobody, waiter_at}
-use Rattle.moments_tool.specs.Loop.{Deed, Nothing, Moved, Dropped, Answered, deed_of, noted_line, decides, spreads, ending_spot, stand_word, made_word, next_waiter, closing, Closing}
+use Rattle.moments_tool.specs.Words.{mark_word, encode, entered, IsWord, IsMade, Listed}
+use Rattle.moments_tool.specs.Notes.{slot, sight_in, holds_with, sight_of, nobody_waits, with_waiting, notes_of, no_own, own_at, waiter_at}
+use Rattle.moments_tool.specs.Loop.{Deed, Nothing, Moved, Dropped, Answered, deed_of, is_step, notes_after, decides, spreads, ending_spot, stand_word, made_word, next_waiter, closing, Closing}
 use Rattle.moments_tool.proofs.Encoding.{none_listed, entered_listed}
 use Rattle.history_spec.proofs.Basics.{replicate_at}
 use Rattle.moments_tool.proofs.Doing.{Steps, Did, refuses, begins, moves, ends, drops, did, AllBegun, begun-next}
@@ -40,10 +40,10 @@ left n x o b l r = marks (noting pool sees_pool) (names pool sees_pool) n (x, o)
 abbrev marks_of : Pool → Notes → Calls → Action → Event → List Mark
 marks_of x o b a u = marked (noting pool sees_pool) (names pool sees_pool) (x, o) b a u
 
-pub record Marking (n : ℕ) (whole : List Mark) (x : Pool) (o : Notes) (ks : List Waiter) (words : List ℕ) (rest : List Action) : Type 0 where
+pub record Marking (n : ℕ) (whole : List Mark) (x : Pool) (o : Notes) (ks : List (Option Waiter)) (words : List ℕ) (rest : List Action) : Type 0 where
   pub calls : Calls
   pub found : List Mark
-  pub waiting : ℕ → Option Waiting
+  pub waiting : ℕ → Math.Option Waiting
   pub goes : left n x (with_waiting waiting o) calls found rest ≡ whole
   pub listed : Listed words found
   pub begun : AllBegun x.0.records calls.pending
@@ -53,41 +53,41 @@ pub record Marking (n : ℕ) (whole : List Mark) (x : Pool) (o : Notes) (ks : Li
 -- a call that took effect there, among the words
 one_more : {words : List ℕ} {l : List Mark} → Listed words l → (p : Spot) (a : Response) (t : ℕ) (r : Record) (c : Call)
     → c.start.op ≡ op_of r → c.start.task ≡ t → IsWord (mark_word p (op_of r) t a) → t < 32 → r.cell < 16
-    → Listed (entered (mark_word p (op_of r) t a) words) (record { spot = p; call = c.start; answer = a } ∷ l)
+    → Listed (entered (Some (mark_word p (op_of r) t a)) words) (record { spot = p; call = c.start; answer = a } ∷ l)
 one_more {words} {l} x p a t r c eo et h k j =
     let m : Mark = record { spot = p; call = c.start; answer = a } in
     let e : encode m ≡ mark_word p (op_of r) t a = λ i. mark_word p (eo i) (et i) a in
-    subst (λ (w : ℕ). Listed (entered w words) (m ∷ l)) e
+    subst (λ (w : ℕ). Listed (entered (Some w) words) (m ∷ l)) e
     (entered_listed x m (subst IsWord (sym e) h) (omega (arith, et, k)) (omega (arith, ap cell_of eo, cell_of_lem r, j)))
 
 -- A PENDING SWAP
 
 module _ (s : State) (p : List ℕ) (o : Notes) (b : Calls) (begun : AllBegun s.records b.pending) where
-  standing-busy : (t : ℕ) {q : Spot} → stands o t (sees_pool (s, p) t) ≡ some q → is_idle (record_at s.records t) ≡ false
+  standing-busy : (t : ℕ) {q : Spot} → stands o t (sees_pool (s, p) t) ≡ Math.some q → is_idle (record_at s.records t) ≡ false
   standing-busy t {q} e = go (is_idle (record_at s.records t)) refl
     where
       go : (z : Bool) → is_idle (record_at s.records t) ≡ z → z ≡ false
       go false g = refl
-      go true g = let k : none ≡ some q = rw (eqb-true (record_at s.records t).line 0 g) at e in let y : ◌≡◌ {A = ℕ} 0 1 = cc in absurd (omega arith)
+      go true g = let k : Math.none ≡ Math.some q = rw (eqb-true (record_at s.records t).line 0 g) at e in let y : ◌≡◌ {A = ℕ} 0 1 = cc in absurd (omega arith)
 
-  one_pending : {words : List ℕ} {l : List Mark} (t : ℕ) → t < 32 → (record_at s.records t).cell < 16 → Listed words l → (q : Option Spot) → stands o t (sees_pool (s, p) t) ≡ q
-      → IsWord (stand_word q (op_of (record_at s.records t)) t)
+  one_pending : {words : List ℕ} {l : List Mark} (t : ℕ) → t < 32 → (record_at s.records t).cell < 16 → Listed words l → (q : Math.Option Spot) → stands o t (sees_pool (s, p) t) ≡ q
+      → IsMade (stand_word q (op_of (record_at s.records t)) t)
       → Listed (entered (stand_word q (op_of (record_at s.records t)) t) words) (mark_of_pending (noting pool sees_pool) (names pool sees_pool) q (b.pending t) ++ l)
-  one_pending t h k x none e f = x
-  one_pending {words} {l} t h k x (some q) e f = go (begun t (standing-busy t e))
+  one_pending t h k x Math.none e f = x
+  one_pending {words} {l} t h k x (Math.some q) e f = go (begun t (standing-busy t e))
     where
       r : Record
       r = record_at s.records t
 
-      go : (c : Call) × (b.pending t ≡ some c) × (c.start.op ≡ op_of r) × (c.start.task ≡ t)
-          → Listed (entered (mark_word q (op_of r) t Yes) words) (mark_of (noting pool sees_pool) (names pool sees_pool) (b.pending t) Yes q ++ l)
+      go : (c : Call) × (b.pending t ≡ Math.some c) × (c.start.op ≡ op_of r) × (c.start.task ≡ t)
+          → Listed (entered (Some (mark_word q (op_of r) t Yes)) words) (mark_of (noting pool sees_pool) (names pool sees_pool) (b.pending t) Yes q ++ l)
       go (c, y, eo, et) = rw y (one_more x q Yes t r c eo et f h k)
 
 -- ONE ACTION
 
-module _ (s : State) (p : List ℕ) (records : length s.records ≡ 32) (tasks : s.tasks ≤ 32) (i : ℕ) (loaded stored active inactive decided replaced : List ℕ) (ks : List Waiter) where
+module _ (s : State) (p : List ℕ) (records : length s.records ≡ 32) (tasks : s.tasks ≤ 32) (i : ℕ) (ns : List Own) (ks : List (Option Waiter)) where
   abbrev notes : Notes
-  notes = notes_of i loaded stored active inactive decided replaced
+  notes = notes_of i ns
 
   abbrev rec : ℕ → Record
   rec t = record_at s.records t
@@ -96,49 +96,39 @@ module _ (s : State) (p : List ℕ) (records : length s.records ≡ 32) (tasks :
   sees t = sight_in p (rec t) (current s (slot (rec t).cell s.cells))
 
   abbrev own : ℕ → Own
-  own t = own_of t loaded stored active inactive decided replaced
+  own t = own_at ns t
 
-  abbrev made : ℕ → Deed → ℕ
+  abbrev made : ℕ → Deed → Option ℕ
   made t d = made_word d i t (rec t) (sees t) (own t) (waiter_at ks (rec t).cell)
 
   -- what the code does at task t's place
-  pub record Coded (t : ℕ) (d : Deed) (words words' : List ℕ) (ks' : List Waiter) (o' : Notes) : Type 0 where
-    pub list : List ℕ
-    pub who : Who s p t (noted_line d (rec t).line) (sees t) list
+  pub record Coded (t : ℕ) (d : Deed) (words words' : List ℕ) (ks' : List (Option Waiter)) (o' : Notes) : Type 0 where
+    pub list : List Bool
+    pub who : Who s p t (rec t).line (sees t) list
     pub cell : (rec t).cell < 16
-    pub noted_here : o' ≡ with_waiting nobody_waits (noted notes t (sight_of (noted_line d (rec t).line) idle (sees t) list))
+    pub noted_here : o' ≡ notes_after d notes t (sight_of (rec t).line (rec t) (sees t) list)
     pub words-here : words' ≡ entered (made t d) words
-    pub word-here : IsWord (made t d)
+    pub word-here : IsMade (made t d)
     pub kept_here : ks' ≡ set ks (rec t).cell (next_waiter d t (rec t) (sees t) (own t) (waiter_at ks (rec t).cell))
 
-  -- nothing spreads where no step is done
-  spread_line : (d : Deed) (n : ℕ) (x : Sight) → spreads (noted_line d n) x ≡ true → spreads n x ≡ true
-  spread_line Nothing n x e = absurd (false≢true e)
-  spread_line Moved n x e = e
-  spread_line Dropped n x e = absurd (false≢true e)
-  spread_line (Answered a) n x e = e
-
   -- with what the code found for these
-  pub coded : (t : ℕ) (d : Deed) (words words' : List ℕ) (ks' : List Waiter) (o' : Notes) {r : Record} {x : Sight} {o : Own} {line word : ℕ} {v : Waiter} (w : List ℕ) {b : Bool}
-      → r ≡ rec t → x ≡ sight_in p r (current s (slot r.cell s.cells)) → o ≡ own t → line ≡ noted_line d r.line → b ≡ spreads r.line x
-      → (b ≡ true → (u : ℕ) → u < 32 → eqb (get_or w u 0) 1 ≡ holds_with (rec u) r) → length w ≡ 32 → (rec t).cell < 16
-      → o' ≡ with_waiting nobody_waits (noted notes t (sight_of line idle x w)) → word ≡ made_word d i t r x o (waiter_at ks r.cell) → words' ≡ entered word words → IsWord word
+  pub coded : (t : ℕ) (d : Deed) (words words' : List ℕ) (ks' : List (Option Waiter)) (o' : Notes) {r : Record} {x : Sight} {o : Own} {word : Option ℕ} {v : Option Waiter} (w : List Bool) {b : Bool}
+      → r ≡ rec t → x ≡ sight_in p r (current s (slot r.cell s.cells)) → o ≡ own t → b ≡ spreads r.line x
+      → ((u : ℕ) → u < 32 → get_or w u false ≡ (b && holds_with (rec u) r)) → length w ≡ 32 → (rec t).cell < 16
+      → o' ≡ notes_after d notes t (sight_of r.line r x w) → word ≡ made_word d i t r x o (waiter_at ks r.cell) → words' ≡ entered word words → IsMade word
       → v ≡ next_waiter d t r x o (waiter_at ks r.cell) → ks' ≡ set ks r.cell v → Coded t d words words' ks' o'
-  coded t d words words' ks' o' {r} {x} {o} {line} {word} {v} w {b} er ex eo el eb came size small en em ew f ev ek = record {
+  coded t d words words' ks' o' {r} {x} {o} {word} {v} w {b} er ex eo eb came size small en em ew f ev ek = record {
     list = w;
-    who = record { who = λ e u h. came (eb ∙ (λ j. spreads (er j).line (sight j)) ∙ spread_line d (rec t).line (sees t) e) u h ∙ ap (holds_with (rec u)) er; size = size };
+    who = record { who = λ e u h. came u h ∙ λ j. (eb ∙ (λ k. spreads (er k).line (sight k)) ∙ e) j && holds_with (rec u) (er j); size = size };
     cell = small;
-    noted_here = en ∙ λ j. with_waiting nobody_waits (noted notes t (sight_of (at j) idle (sight j) w));
-    words-here = ew ∙ ap (λ (k : ℕ). entered k words) word_at;
-    word-here = subst IsWord word_at f;
+    noted_here = en ∙ λ j. notes_after d notes t (sight_of (er j).line (er j) (sight j) w);
+    words-here = ew ∙ ap (λ (k : Option ℕ). entered k words) word_at;
+    word-here = subst IsMade word_at f;
     kept_here = ek ∙ λ j. set ks (er j).cell ((ev ∙ λ k. next_waiter d t (er k) (sight k) (eo k) (waiter_at ks (er k).cell)) j);
   }
     where
       sight : x ≡ sees t
       sight = ex ∙ ap (λ (q : Record). sight_in p q (current s (slot q.cell s.cells))) er
-
-      at : line ≡ noted_line d (rec t).line
-      at = el ∙ ap (λ (q : Record). noted_line d q.line) er
 
       word_at : word ≡ made t d
       word_at = em ∙ λ j. made_word d i t (er j) (sight j) (eo j) (waiter_at ks (er j).cell)
@@ -150,20 +140,20 @@ module _ (s : State) (p : List ℕ) (records : length s.records ≡ 32) (tasks :
     in_cells : slot (rec t).cell s.cells ≡ (rec t).cell
     in_cells = rw (lt-ltb _ _ z.acting.named)
 
-    same_spot : (f : ℕ → Option Waiting) (a : Response) → ending_spot i (own t) (rec t) (sees t) a ≡ ruled (with_waiting f notes) t (sees_pool (s, p) t) a
+    same_spot : (f : ℕ → Math.Option Waiting) (a : Response) → ending_spot i (own t) (rec t) (sees t) a ≡ ruled (with_waiting f notes) t (sees_pool (s, p) t) a
     same_spot f (Value v) = refl
     same_spot f Yes = refl
     same_spot f No = refl
 
     -- whoever waits
-    notes_step : {w : List ℕ} {o' : Notes} → Who s p t (rec t).line (sees t) w → o' ≡ with_waiting nobody_waits (noted notes t (sight_of (rec t).line idle (sees t) w))
-        → (f : ℕ → Option Waiting) → with_waiting f o' ≡ with_waiting f (noted notes t (sees_pool (s, p) t))
+    notes_step : {w : List Bool} {o' : Notes} → Who s p t (rec t).line (sees t) w → o' ≡ with_waiting nobody_waits (noted notes t (sight_of (rec t).line (rec t) (sees t) w))
+        → (f : ℕ → Math.Option Waiting) → with_waiting f o' ≡ with_waiting f (noted notes t (sees_pool (s, p) t))
     notes_step {w} h e f =
         ap (with_waiting f) e ∙ ap (λ (k : ℕ). with_waiting f (noted notes t (sight_of (rec t).line idle (sight_in p (rec t) (current s k)) w))) in_cells
         ∙ same_noted s p t records w (subst (λ (k : ℕ). Who s p t (rec t).line (sight_in p (rec t) (current s k)) w) in_cells h) notes f
 
-  module _ (b : Calls) (l : List Mark) (begun : AllBegun s.records b.pending) (f : ℕ → Option Waiting) (same-now : b.now ≡ i) (kept : AllKept b ks f)
-      (words words' : List ℕ) (ks' : List Waiter) (o' : Notes) (listed : Listed words l) (x : Attempt) where
+  module _ (b : Calls) (l : List Mark) (begun : AllBegun s.records b.pending) (f : ℕ → Math.Option Waiting) (same-now : b.now ≡ i) (kept : AllKept b ks f)
+      (words words' : List ℕ) (ks' : List (Option Waiter)) (o' : Notes) (listed : Listed words l) (x : Attempt) where
     abbrev then : Action → Event → Notes
     then a u = note pool sees_pool (with_waiting f notes) (s, p) a u
 
@@ -173,38 +163,38 @@ module _ (s : State) (p : List ℕ) (records : length s.records ≡ 32) (tasks :
         × AllKept (enter b a u) ks' (then a u).waiting
 
     -- who waits at a task's cell: q, if the test passes
-    waiters : (a : Action) (u : Event) (t : ℕ) → (rec t).cell < 16 → (test : Bool) (q : Waiter) (w : Option Waiting) → ks' ≡ set ks (rec t).cell (cond test q (waiter_at ks (rec t).cell))
+    waiters : (a : Action) (u : Event) (t : ℕ) → (rec t).cell < 16 → (test : Bool) (q : Option Waiter) (w : Math.Option Waiting) → ks' ≡ set ks (rec t).cell (cond test q (waiter_at ks (rec t).cell))
         → (test ≡ true → Keeps (enter b a u) q w) → AllKept (enter b a u) ks' (cond test (upd f (rec t).cell w) f)
-    waiters a u t h test q w e k = subst (λ (v : List Waiter). AllKept (enter b a u) v (cond test (upd f (rec t).cell w) f)) (sym e) (kept_put (kept_on (later b a u) kept) (rec t).cell h test q w k)
+    waiters a u t h test q w e k = subst (λ (v : List (Option Waiter)). AllKept (enter b a u) v (cond test (upd f (rec t).cell w) f)) (sym e) (kept_put (kept_on (later b a u) kept) (rec t).cell h test q w k)
 
     unmoved : (a : Action) (u : Event) (t : ℕ) → Coded t Nothing words words' ks' o' → (with_waiting f o' ≡ nothing_noted (with_waiting f notes)) × Listed words' l × AllKept (enter b a u) ks' f
     unmoved a u t c = (
       ap (with_waiting f) c.noted_here,
       subst (λ (w : List ℕ). Listed w l) (sym c.words-here) listed,
-      waiters a u t c.cell false nobody none c.kept_here (λ e. absurd (false≢true e)),
+      waiters a u t c.cell false None Math.none c.kept_here (λ e. absurd (false≢true e)),
     )
 
     -- a step, whether it goes on or ends: its notes, and who waits
-    stepped : (u : Event) (t : ℕ) → Steps s p t → (d : Deed) → noted_line d (rec t).line ≡ (rec t).line → Coded t d words words' ks' o'
-        → ks' ≡ set ks (rec t).cell (cond (decides (rec t).line (sees t)) nobody (waiter_at ks (rec t).cell))
-        → (g : ℕ → Option Waiting) → (with_waiting g o' ≡ with_waiting g (noted notes t (sees_pool (s, p) t))) × AllKept (enter b (step t) u) ks' (cond (decides (rec t).line (sees t)) (upd f (rec t).cell none) f)
+    stepped : (u : Event) (t : ℕ) → Steps s p t → (d : Deed) → is_step d ≡ true → Coded t d words words' ks' o'
+        → ks' ≡ set ks (rec t).cell (cond (decides (rec t).line (sees t)) None (waiter_at ks (rec t).cell))
+        → (g : ℕ → Math.Option Waiting) → (with_waiting g o' ≡ with_waiting g (noted notes t (sees_pool (s, p) t))) × AllKept (enter b (step t) u) ks' (cond (decides (rec t).line (sees t)) (upd f (rec t).cell Math.none) f)
     stepped u t z d e c k g = (
-      notes_step z (subst (λ (n : ℕ). Who s p t n (sees t) c.list) e c.who) (subst (λ (n : ℕ). o' ≡ with_waiting nobody_waits (noted notes t (sight_of n idle (sees t) c.list))) e c.noted_here) g,
-      waiters (step t) u t c.cell (decides (rec t).line (sees t)) nobody none k (λ _. refl),
+      notes_step z c.who (c.noted_here ∙ λ j. cond (e j) (with_waiting nobody_waits (noted notes t (sight_of (rec t).line (rec t) (sees t) c.list))) (nothing_noted notes)) g,
+      waiters (step t) u t c.cell (decides (rec t).line (sees t)) None Math.none k (λ _. tt),
     )
 
     ended : (t : ℕ) → Steps s p t → (a : Response) → Coded t (Answered a) words words' ks' o'
         → Listed words' (mark_of (noting pool sees_pool) (names pool sees_pool) (b.pending t) a (ruled (with_waiting f notes) t (sees_pool (s, p) t) a) ++ l)
     ended t z a k = go (begun t z.busy)
       where
-        go : (c : Call) × (b.pending t ≡ some c) × (c.start.op ≡ op_of (rec t)) × (c.start.task ≡ t)
+        go : (c : Call) × (b.pending t ≡ Math.some c) × (c.start.op ≡ op_of (rec t)) × (c.start.task ≡ t)
             → Listed words' (mark_of (noting pool sees_pool) (names pool sees_pool) (b.pending t) a (ruled (with_waiting f notes) t (sees_pool (s, p) t) a) ++ l)
         go (c, y, eo, et) = rw (y, k.words-here, ← (same_spot z f a)) (one_more listed (ending_spot i (own t) (rec t) (sees t) a) a t (rec t) c eo et k.word-here (omega (arith, z.below, tasks)) k.cell)
 
     landed-here : (t : ℕ) → Coded t Moved words words' ks' o' → Listed words' (marks_of (s, p) (with_waiting f notes) b (step t) (accepted x) ++ l)
     landed-here t k =
         subst (λ (w : List ℕ). Listed w (marks_of (s, p) (with_waiting f notes) b (step t) (accepted x) ++ l)) (sym k.words-here)
-        (landed_listed b (waiter_at ks (rec t).cell) (decides (rec t).line (sees t)) (rec t).loaded (f (rec t).cell) (kept.each (rec t).cell) listed k.word-here)
+        (landed_listed b (rec t) (sees t) (waiter_at ks (rec t).cell) (f (rec t).cell) (kept.each (rec t).cell) listed k.word-here)
 
     -- a drop: it waits, or is listed, or nothing is known of it
     withdrawn : (t : ℕ) → t < s.tasks → is_idle (rec t) ≡ false → Coded t Dropped words words' ks' o' → Next (drop t) (accepted x)
@@ -212,7 +202,7 @@ module _ (s : State) (p : List ℕ) (records : length s.records ≡ 32) (tasks :
       ap (with_waiting (then (drop t) (accepted x)).waiting) k.noted_here,
       subst (λ (w : List ℕ). Listed w (marks_of (s, p) (with_waiting f notes) b (drop t) (accepted x) ++ l)) (sym k.words-here)
           (one_pending s p notes b begun t (omega (arith, h, tasks)) k.cell listed (stands notes t (sees_pool (s, p) t)) refl k.word-here),
-      waiters (drop t) (accepted x) t k.cell (waits notes t (sees_pool (s, p) t)) late (some waiting) k.kept_here (λ _. new (begun t g)),
+      waiters (drop t) (accepted x) t k.cell (waits notes t (sees_pool (s, p) t)) (Some late) (Math.some waiting) k.kept_here (λ _. new (begun t g)),
     )
       where
         late : Waiter
@@ -221,7 +211,7 @@ module _ (s : State) (p : List ℕ) (records : length s.records ≡ 32) (tasks :
         waiting : Waiting
         waiting = record { drop = i; new = (rec t).new; inactive = notes.inactive t }
 
-        new : (c : Call) × (b.pending t ≡ some c) × (c.start.op ≡ op_of (rec t)) × (c.start.task ≡ t) → Kept (enter b (drop t) (accepted x)) late waiting
+        new : (c : Call) × (b.pending t ≡ Math.some c) × (c.start.op ≡ op_of (rec t)) × (c.start.task ≡ t) → Kept (enter b (drop t) (accepted x)) late waiting
         new (c, y, eo, et) = record {
           call = c;
           known = rw (y, eq-eqb i b.now (sym same-now));
@@ -246,7 +236,7 @@ module _ (s : State) (p : List ℕ) (records : length s.records ≡ 32) (tasks :
         let r = stepped v u z (Answered q.answer) refl k k.kept_here (then (step u) v).waiting in (r.0, ended u z q.answer k, r.1)
     next (drop u) y t (drops h g) e c = withdrawn u h g (subst (λ (v : ℕ). Coded v Dropped words words' ks' o') (e ∙ in_tasks h) c)
 
-  pub marks_on : {n : ℕ} {whole : List Mark} {words words' : List ℕ} {ks' : List Waiter} {o' : Notes} {rest : List Action} {s' : State} {p' : List ℕ} {u : Said} {d : Deed} (a : Action) (t : ℕ)
+  pub marks_on : {n : ℕ} {whole : List Mark} {words words' : List ℕ} {ks' : List (Option Waiter)} {o' : Notes} {rest : List Action} {s' : State} {p' : List ℕ} {u : Said} {d : Deed} (a : Action) (t : ℕ)
       → Marking n whole (s, p) notes ks words (a ∷ rest) → leaving s' p' u ≡ does s p a → t ≡ slot (task_of a) s.tasks → d ≡ deed_of a u → o'.now ≡ i + 1 → Coded t d words words' ks' o'
       → Marking n whole (s', p') o' ks' words' rest
   marks_on {n} {whole} {words} {words'} {ks'} {o'} {rest} a t m e q ed at c =
@@ -287,11 +277,20 @@ idle-at zero t = refl
 idle-at (suc n) zero = refl
 idle-at (suc n) (suc t) = idle-at n t
 
-no_notes_lem : notes_of 0 (replicate 32 0) (replicate 32 0) (replicate 32 0) (replicate 32 0) (replicate 32 0) (replicate 32 0) ≡ no_notes
-no_notes_lem = λ j. record { now = 0; loaded = λ u. replicate_at {A = ℕ} 0 32 u j; stored = λ u. replicate_at {A = ℕ} 0 32 u j; stored_active = λ u. eqb (replicate_at {A = ℕ} 0 32 u j) 1; inactive = λ u. replicate_at {A = ℕ} 0 32 u j; decided = λ u. replicate_at {A = ℕ} 0 32 u j; replaced = λ u. replicate_at {A = ℕ} 0 32 u j; waiting = nobody_waits }
+no_notes_lem : notes_of 0 (replicate 32 no_own) ≡ no_notes
+no_notes_lem = λ j. record {
+  now = 0;
+  loaded = λ u. (replicate_at no_own 32 u j).loaded;
+  stored = λ u. (replicate_at no_own 32 u j).stored;
+  stored_active = λ u. (replicate_at no_own 32 u j).active;
+  inactive = λ u. (replicate_at no_own 32 u j).inactive;
+  decided = λ u. (replicate_at no_own 32 u j).decided;
+  replaced = λ u. (replicate_at no_own 32 u j).replaced;
+  waiting = nobody_waits;
+}
 
 pub marks-start : (n : ℕ) (s : State) (p : List ℕ) (l : List Action) → s.records ≡ replicate 32 idle
-    → Marking n (left n (s, p) no_notes no_calls [] l) (s, p) (notes_of 0 (replicate 32 0) (replicate 32 0) (replicate 32 0) (replicate 32 0) (replicate 32 0) (replicate 32 0)) (replicate 16 nobody) [] l
+    → Marking n (left n (s, p) no_notes no_calls [] l) (s, p) (notes_of 0 (replicate 32 no_own)) (replicate 16 None) [] l
 marks-start n s p l e = record {
   calls = no_calls;
   found = [];
@@ -300,14 +299,14 @@ marks-start n s p l e = record {
   listed = none_listed;
   begun = λ t h. absurd (false≢true (sym (rw (e, idle-at 32 t) at h)));
   same-now = refl;
-  kept = record { sixteen = refl; each = λ k. ap (λ (w : Waiter). w.mark) (replicate_at nobody 16 k) };
+  kept = record { sixteen = refl; each = λ k. subst (λ (w : Option Waiter). Keeps no_calls w Math.none) (sym (replicate_at {A = Option Waiter} None 16 k)) tt };
 }
 
 -- AFTER THE LAST ACTION
 
-module _ (s : State) (p : List ℕ) (i : ℕ) (loaded stored active inactive decided replaced : List ℕ) (f : ℕ → Option Waiting) (b : Calls) (begun : AllBegun s.records b.pending) where
+module _ (s : State) (p : List ℕ) (i : ℕ) (ns : List Own) (f : ℕ → Math.Option Waiting) (b : Calls) (begun : AllBegun s.records b.pending) where
   abbrev noted-at : ℕ → Notes
-  noted-at j = notes_of j loaded stored active inactive decided replaced
+  noted-at j = notes_of j ns
 
   pub all-pending : {words : List ℕ} {l : List Mark} (n : ℕ) → n ≤ 32 → ((t : ℕ) → t < n → (record_at s.records t).cell < 16) → Listed words l → Closing (s, p) (noted-at 0) n
       → Listed (closing (s, p) (noted-at 0) n words) (pending_marks (noting pool sees_pool) (names pool sees_pool) ((s, p), with_waiting f (noted-at i)) b n ++ l)
@@ -318,8 +317,8 @@ module _ (s : State) (p : List ℕ) (i : ℕ) (loaded stored active inactive dec
       subst (Listed _) (sym (append_assoc (mark_of_pending (noting pool sees_pool) (names pool sees_pool) q (b.pending t)) (pending_marks (noting pool sees_pool) (names pool sees_pool) ((s, p), with_waiting f (noted-at i)) b t) l))
       (one_pending s p (noted-at 0) b begun t (omega arith) (k t (omega arith)) (all-pending t (omega arith) (λ u m. k u (omega (arith, m))) x c.1) q refl c.0)
 
-pub marks-end : (n : ℕ) (s : State) (p : List ℕ) (i : ℕ) (loaded stored active inactive decided replaced : List ℕ) {ks : List Waiter} {whole : List Mark} {words : List ℕ}
-    → Marking n whole (s, p) (notes_of i loaded stored active inactive decided replaced) ks words [] → n ≤ 32 → ((t : ℕ) → t < n → (record_at s.records t).cell < 16)
-    → Closing (s, p) (notes_of 0 loaded stored active inactive decided replaced) n → Listed (closing (s, p) (notes_of 0 loaded stored active inactive decided replaced) n words) whole
-marks-end n s p i loaded stored active inactive decided replaced m h k f =
-    subst (Listed _) m.goes (all-pending s p i loaded stored active inactive decided replaced m.waiting m.calls m.begun n h k m.listed f)
+pub marks-end : (n : ℕ) (s : State) (p : List ℕ) (i : ℕ) (ns : List Own) {ks : List (Option Waiter)} {whole : List Mark} {words : List ℕ}
+    → Marking n whole (s, p) (notes_of i ns) ks words [] → n ≤ 32 → ((t : ℕ) → t < n → (record_at s.records t).cell < 16)
+    → Closing (s, p) (notes_of 0 ns) n → Listed (closing (s, p) (notes_of 0 ns) n words) whole
+marks-end n s p i ns m h k f =
+    subst (Listed _) m.goes (all-pending s p i ns m.waiting m.calls m.begun n h k m.listed f)

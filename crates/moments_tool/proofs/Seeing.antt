@@ -35,22 +35,22 @@ module _ (s : State) (p : List ℕ) (t : ℕ) where
   holds u = holds_with (record_at s.records u) r
 
   -- what the list says, where that matters
-  pub record Who (n : ℕ) (x : Sight) (w : List ℕ) : Type 0 where
-    pub who : spreads n x ≡ true → (u : ℕ) → u < 32 → eqb (get_or w u 0) 1 ≡ holds u
+  pub record Who (n : ℕ) (x : Sight) (w : List Bool) : Type 0 where
+    pub who : spreads n x ≡ true → (u : ℕ) → u < 32 → get_or w u false ≡ holds u
     pub size : length w ≡ 32
 
   abbrev x : Sight
   x = sight_in p r (current s r.cell)
 
-  module _ (records : length s.records ≡ 32) (w : List ℕ) (h : Who r.line x w) where
-    same_who : spreads r.line x ≡ true → holds_block r ≡ true → (u : ℕ) → eqb (get_or w u 0) 1 ≡ (holds_block r && holds u)
+  module _ (records : length s.records ≡ 32) (w : List Bool) (h : Who r.line x w) where
+    same_who : spreads r.line x ≡ true → holds_block r ≡ true → (u : ℕ) → get_or w u false ≡ (holds_block r && holds u)
     same_who e f u = rw f (go (dec_le 32 u))
       where
-        go : Dec (32 ≤ u) → eqb (get_or w u 0) 1 ≡ holds u
-        go (yes l) = rw (get_or-eq_default w 0 {n = u} (omega (arith, l, h.size)), get_or-eq_default s.records idle {n = u} (omega (arith, l, records)))
+        go : Dec (32 ≤ u) → get_or w u false ≡ holds u
+        go (yes l) = rw (get_or-eq_default w false {n = u} (omega (arith, l, h.size)), get_or-eq_default s.records idle {n = u} (omega (arith, l, records)))
         go (no l) = h.who e u (omega (arith, l))
 
-    guard : (b : Bool) → (b ≡ true → spreads r.line x ≡ true) → (b ≡ true → holds_block r ≡ true) → (u : ℕ) → (b && eqb (get_or w u 0) 1) ≡ (b && (holds_block r && holds u))
+    guard : (b : Bool) → (b ≡ true → spreads r.line x ≡ true) → (b ≡ true → holds_block r ≡ true) → (u : ℕ) → (b && get_or w u false) ≡ (b && (holds_block r && holds u))
     guard true f g u = same_who (f refl) (g refl) u
     guard false f g u = refl
 

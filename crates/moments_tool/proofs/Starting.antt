@@ -8,7 +8,8 @@ use native.Mathlib.Omega.{arith}
 use borrow.Author.Tests.{ltb-true}
 use lib.Dec.{ltb}
 use lib.ListN.{length}
-use Rattle.text.specs.Append.{Appended}
+use Rattle.text.specs.Page.{Written}
+use Rattle.text.specs.declared.page.Page.{Page}
 use Rattle.figure_lines.specs.declared.Record.{Record}
 use Rattle.figure_lines.specs.Record.{record_at}
 use Rattle.cells_spec.specs.declared.State.{State}
@@ -65,8 +66,5 @@ task-small z u e er = (task-below z u e, omega (arith, ap (λ (r : Record). r.ce
 
 -- THE TEXT
 
-marks-printed : (n : ℕ) (x : Pool) (l : List Action) {words : List ℕ} → Listed words (all_marks n x l) → word_lines words ≡ moments_text n x l
-marks-printed n x l h = listed_lines h
-
-pub printed : {old new : List ℕ} {r : ℕ} (n : ℕ) (x : Pool) (l : List Action) {words : List ℕ} → Listed words (all_marks n x l) → Appended old new 0 r (word_lines words) → Appended old new 0 r (moments_text n x l)
-printed {old} {new} {r} n x l h p = subst (Appended old new 0 r) (marks-printed n x l h) p
+pub printed : {old new : Page} (n : ℕ) (x : Pool) (l : List Action) {words : List ℕ} → Listed words (all_marks n x l) → Written old new (word_lines words) → Written old new (moments_text n x l)
+printed {old} {new} n x l h p = subst (Written old new) (listed_lines h) p

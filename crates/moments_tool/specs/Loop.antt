@@ -1,6 +1,6 @@
 -- One action, in numbers: what it did, the word that it makes, what is noted, for whom, and who waits.
-use Rattle.std.specs.Prelude.{Bool, ◌&&◌, ◌||◌, cond, List, [], ℕ, zero, suc, eqb}
-use Rattle.std.proofs.Math.Option.{Option, none, some}
+use Rattle.std.specs.Prelude.{Bool, true, false, ◌&&◌, ◌||◌, cond, List, [], ℕ, zero, suc, eqb, Option, Some, None}
+use Rattle.std.proofs.Math.Option as Math
 use Rattle.figure_lines.specs.Answers.{answer_of}
 use Rattle.figure_lines.specs.declared.Record.{Record}
 use Rattle.figure_lines.specs.Record.{record_at, op_of}
@@ -8,15 +8,16 @@ use Rattle.cells_spec.specs.Answers.{Said, Refused, Acted, Ended}
 use Rattle.cells_spec.specs.Machine.{Pool, pool}
 use Rattle.history_spec.specs.History.{Op, Action, begin, step, drop, Response, Yes, no_calls}
 use Rattle.history_spec.specs.Moments.{Spot, C3, Mark, marks}
-use Rattle.figure_moments.specs.Moments.{Notes, no_notes, noting, names, spot_at, ruled, stands, waits}
+use Rattle.figure_moments.specs.Moments.{Notes, no_notes, nothing_noted, noted, noting, names, spot_at, ruled, stands, waits}
+use Rattle.figure_moments.specs.Moments as Figure
 use Rattle.cells_theorems.specs.Moments.{sees_pool}
 use Rattle.moments_tool.specs.declared.sights.Sight.{Sight}
 use Rattle.moments_tool.specs.declared.sights.Own.{Own}
 use Rattle.moments_tool.specs.declared.sights.Waiter.{Waiter}
 use Rattle.moments_tool.specs.declared.sights.Deed as sights
 use Rattle.moments_tool.specs.declared.sights.Deed.TheVariants as deed
-use Rattle.moments_tool.specs.Words.{mark_word, entered, IsWord}
-use Rattle.moments_tool.specs.Notes.{sight_of, own_notes, nobody}
+use Rattle.moments_tool.specs.Words.{mark_word, entered, IsMade}
+use Rattle.moments_tool.specs.Notes.{sight_of, own_notes, nobody_waits, with_waiting}
 
 -- WHAT AN ACTION DID TO ITS TASK'S CALL
 
@@ -40,12 +41,16 @@ deed_meant deed.Moved = Moved
 deed_meant (deed.Answered a) = Answered (answer_of a)
 deed_meant deed.Dropped = Dropped
 
--- the line of a step that is done, else 0
-abbrev pub noted_line : Deed → ℕ → ℕ
-noted_line Nothing n = 0
-noted_line Moved n = n
-noted_line (Answered a) n = n
-noted_line Dropped n = 0
+-- the action was a step that is done
+abbrev pub is_step : Deed → Bool
+is_step Nothing = false
+is_step Moved = true
+is_step (Answered a) = true
+is_step Dropped = false
+
+-- the tasks' notes after it; who waits is kept apart
+abbrev pub notes_after : Deed → Notes → (task : ℕ) → Figure.Sight → Notes
+notes_after d o t x = cond (is_step d) (with_waiting nobody_waits (noted o t x)) (nothing_noted o)
 
 abbrev pub decides : ℕ → Sight → Bool
 decides n x = eqb n 2 && x.undecided
@@ -54,37 +59,38 @@ decides n x = eqb n 2 && x.undecided
 abbrev pub spreads : ℕ → Sight → Bool
 spreads n x = decides n x || ((eqb n 27 && x.active) || (eqb n 30 && x.current))
 
--- THE WORD THAT IT MAKES, or 0: of a task with that record and those notes, in whose cell w waits
+-- THE WORD THAT IT MAKES, if any: of a task with that record and those notes, in whose cell w waits
 
 -- where its call takes effect
 abbrev pub ending_spot : ℕ → Own → Record → Sight → Response → Spot
 ending_spot i o r x a = ruled (own_notes i o) 0 (sight_of 0 r x []) a
 
-abbrev pub standing_spot : Own → Record → Sight → Option Spot
+abbrev pub standing_spot : Own → Record → Sight → Math.Option Spot
 standing_spot o r x = stands (own_notes 0 o) 0 (sight_of 0 r x [])
 
-abbrev pub stand_word : Option Spot → Op → (task : ℕ) → ℕ
-stand_word none op t = 0
-stand_word (some p) op t = mark_word p op t Yes
+abbrev pub stand_word : Math.Option Spot → Op → (task : ℕ) → Option ℕ
+stand_word Math.none op t = None
+stand_word (Math.some p) op t = Some (mark_word p op t Yes)
 
-abbrev pub landed_word : Record → Sight → Waiter → ℕ
-landed_word r x w = cond (decides r.line x && eqb r.loaded w.new) w.mark 0
+abbrev pub landed_word : Record → Sight → Option Waiter → Option ℕ
+landed_word r x None = None
+landed_word r x (Some w) = cond (decides r.line x && eqb r.loaded w.new) (Some w.mark) None
 
-abbrev pub made_word : Deed → (now task : ℕ) → Record → Sight → Own → Waiter → ℕ
-made_word Nothing i t r x o w = 0
+abbrev pub made_word : Deed → (now task : ℕ) → Record → Sight → Own → Option Waiter → Option ℕ
+made_word Nothing i t r x o w = None
 made_word Moved i t r x o w = landed_word r x w
-made_word (Answered a) i t r x o w = mark_word (ending_spot i o r x a) (op_of r) t a
+made_word (Answered a) i t r x o w = Some (mark_word (ending_spot i o r x a) (op_of r) t a)
 made_word Dropped i t r x o w = stand_word (standing_spot o r x) (op_of r) t
 
 -- WHO WAITS IN ITS CELL AFTER THE ACTION
 
-abbrev pub decided_waiter : Record → Sight → Waiter → Waiter
-decided_waiter r x w = cond (decides r.line x) nobody w
+abbrev pub decided_waiter : Record → Sight → Option Waiter → Option Waiter
+decided_waiter r x w = cond (decides r.line x) None w
 
-abbrev pub dropped_waiter : (task : ℕ) → Record → Sight → Own → Waiter → Waiter
-dropped_waiter t r x o w = cond (waits (own_notes 0 o) 0 (sight_of 0 r x [])) (record { mark = mark_word (spot_at o.inactive C3) (op_of r) t Yes; new = r.new }) w
+abbrev pub dropped_waiter : (task : ℕ) → Record → Sight → Own → Option Waiter → Option Waiter
+dropped_waiter t r x o w = cond (waits (own_notes 0 o) 0 (sight_of 0 r x [])) (Some (record { mark = mark_word (spot_at o.inactive C3) (op_of r) t Yes; new = r.new })) w
 
-abbrev pub next_waiter : Deed → (task : ℕ) → Record → Sight → Own → Waiter → Waiter
+abbrev pub next_waiter : Deed → (task : ℕ) → Record → Sight → Own → Option Waiter → Option Waiter
 next_waiter Nothing t r x o w = w
 next_waiter Moved t r x o w = decided_waiter r x w
 next_waiter (Answered a) t r x o w = decided_waiter r x w
@@ -93,7 +99,7 @@ next_waiter Dropped t r x o w = dropped_waiter t r x o w
 -- AFTER THE LAST ACTION: the words of the pending swaps of tasks below n that took effect
 
 module _ (x : Pool) (o : Notes) where
-  abbrev pub pending_word : ℕ → ℕ
+  abbrev pub pending_word : ℕ → Option ℕ
   pending_word t = stand_word (stands o t (sees_pool x t)) (op_of (record_at x.0.records t)) t
 
   unfoldable pub closing : ℕ → List ℕ → List ℕ
@@ -102,7 +108,7 @@ module _ (x : Pool) (o : Notes) where
 
   unfoldable pub Closing : ℕ → Type 0
   Closing zero = Unit {0}
-  Closing (suc t) = IsWord (pending_word t) × Closing t
+  Closing (suc t) = IsMade (pending_word t) × Closing t
 
 -- THE WHOLE
 

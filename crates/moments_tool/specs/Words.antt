@@ -1,5 +1,5 @@
 -- A mark as one number of 32 bits: moment 16, side 2, no change 1, task 5, kind 1, cell 4, rule 3. Its first 24 bits are its place in the order.
-use Rattle.std.specs.Prelude.{◌≡◌, cond, List, [], ◌∷◌, ◌++◌, map, ℕ, ◌+◌, ◌*◌, ◌/◌, ◌%◌, ◌≤◌, ◌<◌, eqb, leb, ltb}
+use Rattle.std.specs.Prelude.{◌≡◌, cond, List, [], ◌∷◌, ◌++◌, map, ℕ, ◌+◌, ◌*◌, ◌/◌, ◌%◌, ◌≤◌, ◌<◌, eqb, leb, ltb, Option, Some, None}
 use Rattle.history_spec.specs.History.{Op, cell_of, Kind, a_read, a_swap, kind_of, Response}
 use Rattle.history_spec.specs.Moments.{Side, before, itself, after, Rule, R1, R2, C1, C2, C3, C4, C5, C6, Spot, Mark, changes, side_number, sort}
 use Rattle.moments_spec.specs.Lines.{at_line}
@@ -39,13 +39,18 @@ abbrev pub insert_word : ℕ → List ℕ → List ℕ
 insert_word w [] = w ∷ []
 insert_word w (y ∷ l) = cond (leb (w / 256) (y / 256)) (w ∷ y ∷ l) (y ∷ insert_word w l)
 
--- with a word that is made; 0 is no word
-abbrev pub entered : ℕ → List ℕ → List ℕ
-entered w l = cond (eqb w 0) l (insert_word w l)
+-- with the word that is made, if one is
+abbrev pub entered : Option ℕ → List ℕ → List ℕ
+entered None l = l
+entered (Some w) l = insert_word w l
 
 -- a number of 32 bits
 abbrev pub IsWord : ℕ → Type 0
 IsWord w = w ≤ 4294967295
+
+abbrev pub IsMade : Option ℕ → Type 0
+IsMade None = Unit {0}
+IsMade (Some w) = IsWord w
 
 -- none stands before n
 abbrev pub From : ℕ → List ℕ → Type 0

@@ -3,18 +3,49 @@
 
 mod calls;
 mod made;
+mod marks;
 mod notes;
-mod opened;
 mod play;
 mod sights;
 mod spots;
 mod words;
 
-ghost use Rattle.std.specs.Prelude.{◌≡◌, ◌++◌, length, drop};
+ghost use Rattle.std.specs.Prelude.{◌≡◌, ◌++◌, length, drop, refl};
+ghost use Rattle.std.proofs.Common.{lit≤};
 ghost use Rattle.io.specs.Counts.{IsPrefixLen};
-ghost use Rattle.moments_spec.specs.Printed.{moments_within};
+ghost use Rattle.session_engine.specs.Start.{tool_start};
+ghost use Rattle.moments_spec.specs.Printed.{moments_text, moments_within};
 
-use crate::opened::print_file;
+use crate::play::play;
+use cells_spec::State;
+use session_engine::actions::Actions;
+use session_engine::tool::{Tool, run_tool};
+use text::numbered::put_bad;
+use text::page::Page;
+
+struct Moments;
+
+impl Tool for Moments {
+    ghost text = { λ _. tool_start moments_text };
+
+    ghost ROOM = { 2400000 };
+
+    const ROOM: usize = 2400000;
+
+    fn put_refused(&self, out: &mut [u8], n: u32) -> usize {
+        put_bad(out, 0, n)
+    }
+
+    fn play(&self, out: &mut [u8], first: State, pool: &mut [u32], actions: Actions<'_>) -> usize {
+        let mut page = Page::new(out);
+        play(&mut page, first, pool, actions);
+        page.at
+    }
+
+    ghost bad_alike = { λ t n. refl };
+
+    ghost has_room = { lit≤ tt };
+}
 
 // Prints the moments of a session file at the start of out, and returns the text's length; nothing where out has fewer than
 // 2,400,000 bytes. The bytes after the text are as they were.
@@ -23,8 +54,5 @@ pub fn run_moments(file: &[u8], out: &mut [u8]) -> usize
     ensures value { result ≡ length (moments_within (length out.old) file.now) }
     ensures prefix_len { IsPrefixLen result out.new }
 {
-    if out.len() < 2400000 {
-        return 0;
-    }
-    print_file(file, out)
+    run_tool(&Moments, file, out)
 }

@@ -1,27 +1,25 @@
 // What is noted beside the cells at each step, of the block that a task holds.
-ghost use Rattle.std.specs.Prelude.{◌≡◌, true, ◌&&◌, cond, ℕ, ◌+◌, ◌≤◌, ◌<◌, eqb, get_or, length};
-ghost use Rattle.figure_lines.specs.Record.{idle, record_at};
-ghost use Rattle.cells_spec.specs.Answers.{said, act_of};
-ghost use Rattle.figure_moments.specs.Moments.{noted};
-ghost use Rattle.cells_spec.specs.Words.{records_of};
-ghost use Rattle.moments_tool.specs.Loop.{deed_meant, deed_of, noted_line, decides as «decidesOf», spreads as «spreadsOf»};
-ghost use Rattle.moments_tool.specs.Notes.{slot as «slot_of», sight_in, holds_with, sight_of, nobody_waits, with_waiting, notes_of, own_of, Sized};
+ghost use Rattle.std.specs.Prelude.{◌≡◌, false, ◌&&◌, List, ℕ, ◌+◌, ◌≤◌, ◌<◌, get_or, length, replicate};
+ghost use Rattle.figure_lines.specs.Record.{record_at};
+ghost use Rattle.cells_spec.specs.Answers.{answered, act_of};
+ghost use Rattle.moments_tool.specs.Loop.{deed_meant, deed_of, notes_after, decides as «decidesOf», spreads as «spreadsOf»};
+ghost use Rattle.moments_tool.specs.declared.sights.Own.{Own};
+ghost use Rattle.moments_tool.specs.Notes.{slot as «slot_of», sight_in, holds_with, sight_of, notes_of, no_own, own_at};
 
+use crate::made::Caller;
 use crate::sights::{Deed, Own, Sight};
 use cells_questions::is_holding;
-use cells_spec::{Action, Outcome};
-use figure_lines::Record;
+use cells_spec::{Action, Refusal, State};
 use figure_lines::records::NO_VALUE;
-use session_engine::records::record_at;
+use figure_lines::{Finished, Record};
+use std::marker::Model;
 
 // A word of the pool, 0 beyond it.
+// Stays (6): at is a place to read, no length.
 fn word(pool: &[u32], at: usize) -> u32
     ensures { result ≡ get_or pool.now at 0 }
 {
-    if at < pool.len() {
-        return pool[at];
-    }
-    0
+    pool.get(at).copied().unwrap_or(0)
 }
 
 pub fn see(pool: &[u32], r: Record, current: u32) -> Sight
@@ -48,152 +46,100 @@ pub fn slot(n: u32, m: u32) -> usize
 }
 
 // What the task with that record sees.
-pub fn see_cell(pool: &[u32], r: Record, current: &[u32; 16], cells: u32) -> Sight
-    requires { (cells ≤ 16) × (length current.now ≡ 16) }
-    ensures { result ≡ sight_in pool.now r (get_or current.now («slot_of» r.cell cells) 0) }
+pub fn see_cell(s: &State, pool: &[u32], r: Record) -> Sight
+    requires { s.now.cells ≤ 16 }
+    ensures { result ≡ sight_in pool.now r (get_or s.now.current («slot_of» r.cell s.now.cells) 0) }
 {
-    let k = slot(r.cell, cells);
-    see(pool, r, current[k])
+    let k = slot(r.cell, s.cells);
+    see(pool, r, s.current[k])
 }
 
-// Has 1 for each task that holds the block of the record r, where that is asked, and else 0.
-pub fn holders(records: &[u32], r: Record, asked: bool) -> [u16; 32]
-    requires { length records.now ≡ 384 }
-    ensures u_value { asked ≡ true → (u : ℕ) → u < 32 → eqb (get_or result u 0) 1 ≡ holds_with (record_at (records_of 32 records.now) u) r }
+// The record q holds the block of the record r.
+fn holds_with(q: Record, r: Record) -> bool
+    ensures { result ≡ holds_with q r }
+{
+    is_holding(q) & ((q.cell == r.cell) & (q.held == r.held))
+}
+
+// The tasks that hold the block of the record r, where that is asked.
+pub fn holders(s: &State, r: Record, asked: bool) -> [bool; 32]
+    ensures by_index { (u : ℕ) → u < 32 → get_or result u false ≡ (asked && holds_with (record_at s.now.records u) r) }
     ensures result_len { length result ≡ 32 }
-    ensures by_index { (u : ℕ) → u < 32 → get_or result u 0 ≡ cond (asked && holds_with (record_at (records_of 32 records.now) u) r) 1 0 }
 {
-    let mut w = [0; 32];
-    if !asked {
-        return w;
-    }
-    let mut u = 0;
-    while u < 32 {
-        let q = record_at(records, u);
-        if is_holding(q) & ((q.cell == r.cell) & (q.held == r.held)) {
-            w[u] = 1;
+    let mut who = [false; 32];
+    if asked {
+        for (u, q) in s.records.iter().enumerate() {
+            who[u] = holds_with(*q, r);
         }
-        u += 1;
     }
-    w
+    who
 }
 
-fn note_own(notes: &mut [u16; 32], on: bool, t: usize, v: u16)
-    requires { (t < 32) × (length notes.old ≡ 32) }
-    ensures notes_len { length notes.new ≡ 32 }
-    ensures by_index { (u : ℕ) → get_or notes.new u 0 ≡ cond (on && eqb u t) v (get_or notes.old u 0) }
-{
-    if on {
-        notes[t] = v;
-    }
+// The notes of each task.
+#[derive(Drop)]
+pub struct Notes {
+    own: [Own; 32],
 }
 
-fn note_held(notes: &mut [u16; 32], on: bool, who: &[u16; 32], v: u16)
-    requires { (length notes.old ≡ 32) × (length who.now ≡ 32) }
-    ensures notes_len { length notes.new ≡ 32 }
-    ensures by_index { (u : ℕ) → get_or notes.new u 0 ≡ cond (on && eqb (get_or who.now u 0) 1) v (get_or notes.old u 0) }
-{
-    if !on {
-        return;
+impl Model for Notes {
+    ghost Value = { List Own };
+
+    ghost view = { λ n. n.own };
+
+    ghost invariant = { λ n. length n.own ≡ 32 };
+}
+
+impl Notes {
+    pub fn new() -> Notes
+        ensures { result ≡ replicate 32 no_own }
+    {
+        let none = Own {
+            loaded: 0,
+            stored: 0,
+            active: false,
+            inactive: 0,
+            decided: 0,
+            replaced: 0,
+        };
+        Notes { own: [none; 32] }
     }
-    let mut u = 0;
-    while u < 32 {
-        if who[u] == 1 {
-            notes[u] = v;
+
+    pub fn own(&self, t: usize) -> Own
+        requires { t < 32 }
+        ensures { result ≡ own_at self.now t }
+    {
+        self.own[t]
+    }
+
+    // At action i, which did that to the caller's call. Who waits is kept apart.
+    pub fn note(&mut self, d: Deed, c: Caller, who: &[bool; 32], i: u16)
+        requires { length who.now ≡ 32 }
+        ensures { notes_of (i + 1) self.new ≡ notes_after (deed_meant d) (notes_of i self.old) c.task (sight_of c.call.line c.call c.sight who.now) }
+    {
+        if !d.is_step() {
+            return;
         }
-        u += 1;
-    }
-}
-
-fn flag(b: bool) -> u16
-    ensures result_value { eqb result 1 ≡ b }
-    ensures value { result ≡ cond b 1 0 }
-{
-    if b { 1 } else { 0 }
-}
-
-// At a step of task t at that line; 0 where no step is done. Who waits is kept apart.
-pub fn note(
-    loaded: &mut [u16; 32],
-    stored: &mut [u16; 32],
-    active: &mut [u16; 32],
-    inactive: &mut [u16; 32],
-    decided: &mut [u16; 32],
-    replaced: &mut [u16; 32],
-    line: u32,
-    x: Sight,
-    who: &[u16; 32],
-    t: usize,
-    i: u16,
-)
-    requires t_bound { (t < 32) × (length who.now ≡ 32) }
-    requires sized { Sized loaded.old stored.old active.old inactive.old decided.old replaced.old }
-    ensures sized_2 { Sized loaded.new stored.new active.new inactive.new decided.new replaced.new }
-    ensures replaced_after { notes_of (i + 1) loaded.new stored.new active.new inactive.new decided.new replaced.new ≡ with_waiting nobody_waits (noted (notes_of i loaded.old stored.old active.old inactive.old decided.old replaced.old) t (sight_of line idle x who.now)) }
-    ensures by_index { (u : ℕ) → get_or active.new u 0 ≡ cond (eqb line 23 && eqb u t) (cond x.active 1 0) (get_or active.old u 0) }
-{
-    note_own(loaded, (line == 11) | (line == 20), t, i);
-    note_own(stored, line == 23, t, i);
-    note_own(active, line == 23, t, flag(x.active));
-    note_held(inactive, (line == 27) & x.active, who, i);
-    note_own(decided, (line == 10) | (line == 15), t, i);
-    note_held(decided, (line == 2) & x.undecided, who, i);
-    note_held(replaced, (line == 30) & x.current, who, i);
-}
-
-pub fn own_notes(
-    loaded: &[u16; 32],
-    stored: &[u16; 32],
-    active: &[u16; 32],
-    inactive: &[u16; 32],
-    decided: &[u16; 32],
-    replaced: &[u16; 32],
-    t: usize,
-) -> Own
-    requires { t < 32 }
-    ensures { result ≡ own_of t loaded.now stored.now active.now inactive.now decided.now replaced.now }
-{
-    Own {
-        loaded: loaded[t],
-        stored: stored[t],
-        active: active[t],
-        inactive: inactive[t],
-        decided: decided[t],
-        replaced: replaced[t],
-    }
-}
-
-pub fn deed_of(a: Action, outcome: Outcome) -> Deed
-    ensures { deed_meant result ≡ deed_of (act_of a) (said outcome) }
-{
-    match a {
-        Action::Read(_, _) => Deed::Nothing,
-        Action::Swap(_, _, _, _) => Deed::Nothing,
-        Action::Step(_) => match outcome {
-            Outcome::Refused(_) => Deed::Nothing,
-            Outcome::Acted => Deed::Moved,
-            Outcome::Ended(f) => {
-                let answer = f.answer;
-                Deed::Answered(answer)
+        let line = c.call.line;
+        let t = c.task as usize;
+        self.own[t] = self.own[t].stepped(line, c.sight, i);
+        if spreads(line, c.sight) {
+            for (u, holds) in who.iter().enumerate() {
+                if *holds {
+                    self.own[u] = self.own[u].held(line, c.sight, i);
+                }
             }
-        },
-        Action::Drop(_) => match outcome {
-            Outcome::Refused(_) => Deed::Nothing,
-            Outcome::Acted => Deed::Dropped,
-            Outcome::Ended(_) => Deed::Nothing,
-        },
+        }
     }
 }
 
-// The line of a step that is done, else 0.
-pub fn noted_line(d: Deed, line: u32) -> u32
-    ensures { result ≡ noted_line (deed_meant d) line }
+pub fn deed_of(a: Action, answer: Result<Option<Finished>, Refusal>) -> Deed
+    ensures { deed_meant result ≡ deed_of (act_of a) (answered answer) }
 {
-    match d {
-        Deed::Nothing => 0,
-        Deed::Moved => line,
-        Deed::Answered(_) => line,
-        Deed::Dropped => 0,
+    match (a, answer) {
+        (Action::Step(_), Ok(None)) => Deed::Moved,
+        (Action::Step(_), Ok(Some(f))) => Deed::Answered(f.answer),
+        (Action::Drop(_), Ok(None)) => Deed::Dropped,
+        _ => Deed::Nothing,
     }
 }
 

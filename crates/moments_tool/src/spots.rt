@@ -1,78 +1,199 @@
 // Where a call takes effect, by the source's rules.
-ghost use Rattle.std.specs.Prelude.{◌≡◌, cond, [], eqb};
+ghost use Rattle.std.specs.Prelude.{◌≡◌, cond, [], eqb, ◌≤◌, ◌<◌, length};
 ghost use Rattle.figure_lines.specs.Answers.{answer_of};
 ghost use Rattle.figure_lines.specs.Basics.{within};
 ghost use Rattle.figure_lines.specs.declared.Record.{Record};
-ghost use Rattle.figure_moments.specs.Moments.{ruled, line_c6, effect as «effect_of»};
-ghost use Rattle.moments_tool.specs.Notes.{sight_of, own_notes, numbered};
+ghost use Rattle.figure_moments.specs.Moments.{ruled, line_c6, spot_at, effect as «effect_of»};
+ghost use Rattle.history_spec.specs.Moments.{Rule, C1, side_number};
+ghost use Rattle.moments_spec.specs.Lines.{side_word, rule_word};
+ghost use Rattle.moments_tool.specs.Words.{rule_number, side_at, rule_numbered};
+ghost use Rattle.moments_tool.specs.Notes.{sight_of, own_notes, side_meant, rule_meant, spot_meant};
 
-use crate::sights::{Own, Sight, Spot};
+use crate::sights::{Own, Sight};
 use figure_lines::{Answer, Record};
+
+// At the action, or immediately before or after it.
+#[derive(Clone, Copy)]
+pub enum Side {
+    Before,
+    Itself,
+    After,
+}
+
+// The labels in the source's list.
+#[derive(Clone, Copy)]
+pub enum Rule {
+    R1,
+    R2,
+    C1,
+    C2,
+    C3,
+    C4,
+    C5,
+    C6,
+}
+
+#[derive(Clone, Copy)]
+pub struct Spot {
+    pub moment: u16,
+    pub side: Side,
+    pub rule: Rule,
+}
+
+impl Side {
+    // Its number in a mark's word.
+    // Stays (4): with `numbered` it lays out a word of this tool's own, and promises its bound.
+    pub fn number(self) -> u32
+        ensures { (result ≡ side_number (side_meant self)) × (result ≤ 2) }
+    {
+        match self {
+            Side::Before => 0,
+            Side::Itself => 1,
+            Side::After => 2,
+        }
+    }
+
+    // Stays (4): the number is of a word that this tool made, so TryFrom would have no error to give.
+    pub fn numbered(n: u32) -> Side
+        ensures { side_meant result ≡ side_at n }
+    {
+        match n {
+            0 => Side::Before,
+            1 => Side::Itself,
+            _ => Side::After,
+        }
+    }
+
+    // Stays (4): bytes of a line; a write by Display promises no success.
+    pub fn text(self) -> &'static [u8]
+        ensures { (result.now ≡ side_word (side_meant self)) × (length result.now ≤ 8) }
+    {
+        match self {
+            Side::Before => b" before ",
+            Side::Itself => b" itself ",
+            Side::After => b" after ",
+        }
+    }
+}
+
+impl Rule {
+    // Its number in a mark's word.
+    // Stays (4): with `numbered` it lays out a word of this tool's own, and promises its bound.
+    pub fn number(self) -> u32
+        ensures { (result ≡ rule_number (rule_meant self)) × (result ≤ 7) }
+    {
+        match self {
+            Rule::R1 => 0,
+            Rule::R2 => 1,
+            Rule::C1 => 2,
+            Rule::C2 => 3,
+            Rule::C3 => 4,
+            Rule::C4 => 5,
+            Rule::C5 => 6,
+            Rule::C6 => 7,
+        }
+    }
+
+    // Stays (4): the number is of a word that this tool made, so TryFrom would have no error to give.
+    pub fn numbered(n: u32) -> Rule
+        requires { n < 8 }
+        ensures { rule_meant result ≡ rule_numbered n }
+    {
+        match n {
+            0 => Rule::R1,
+            1 => Rule::R2,
+            2 => Rule::C1,
+            3 => Rule::C2,
+            4 => Rule::C3,
+            5 => Rule::C4,
+            6 => Rule::C5,
+            _ => Rule::C6,
+        }
+    }
+
+    // Stays (4): bytes of a line; a write by Display promises no success.
+    pub fn text(self) -> &'static [u8]
+        ensures { (result.now ≡ rule_word (rule_meant self)) × (length result.now ≤ 5) }
+    {
+        match self {
+            Rule::R1 => b" R1)\n",
+            Rule::R2 => b" R2)\n",
+            Rule::C1 => b" C1)\n",
+            Rule::C2 => b" C2)\n",
+            Rule::C3 => b" C3)\n",
+            Rule::C4 => b" C4)\n",
+            Rule::C5 => b" C5)\n",
+            Rule::C6 => b" C6)\n",
+        }
+    }
+}
 
 // The line in the figure's list: lines 1 to 3 are run for the one that wanted the decision.
 fn figure_line(r: Record) -> u32
     ensures { result ≡ cond (within r.line 1 3) r.wanted r.line }
 {
-    if (1 <= r.line) & (r.line <= 3) {
-        return r.wanted;
+    if matches!(r.line, 1..=3) {
+        r.wanted
+    } else {
+        r.line
     }
-    r.line
 }
 
-pub fn itself(moment: u16, rule: u32) -> Spot
-    ensures { result ≡ record { moment = moment; side = 1; rule = rule } }
+pub fn itself(moment: u16, rule: Rule) -> Spot
+    ensures { spot_meant result ≡ spot_at moment (rule_meant rule) }
 {
     Spot {
         moment,
-        side: 1,
+        side: Side::Itself,
         rule,
     }
 }
 
 // A swap of equal values is placed where its read is, by C1.
-fn read_rule(kind: u32, rule: u32) -> u32
-    ensures { result ≡ cond (eqb kind 2) 2 rule }
+fn read_rule(kind: u32, rule: Rule) -> Rule
+    ensures { rule_meant result ≡ cond (eqb kind 2) C1 (rule_meant rule) }
 {
-    if kind == 2 { 2 } else { rule }
+    if kind == 2 { Rule::C1 } else { rule }
 }
 
 fn effect(o: Own) -> u16
     ensures { result ≡ «effect_of» (own_notes 0 o) 0 }
 {
-    if o.active == 1 { o.stored } else { o.inactive }
+    if o.active { o.stored } else { o.inactive }
 }
 
 fn line_c6(x: Sight, a: Answer, i: u16, o: Own) -> Spot
-    ensures { (r : Record) → result ≡ numbered (line_c6 (own_notes i o) 0 (sight_of 0 r x []) (answer_of a)) }
+    ensures { (r : Record) → spot_meant result ≡ line_c6 (own_notes i o) 0 (sight_of 0 r x []) (answer_of a) }
 {
     match a {
-        Answer::No => {
-            let side = if x.as_expected { 2 } else { 0 };
-            Spot {
-                moment: o.replaced,
-                side,
-                rule: 7,
-            }
-        }
-        Answer::Yes => itself(i, 7),
-        Answer::Value(_) => itself(i, 7),
+        Answer::No => Spot {
+            moment: o.replaced,
+            side: if x.as_expected {
+                Side::After
+            } else {
+                Side::Before
+            },
+            rule: Rule::C6,
+        },
+        Answer::Yes | Answer::Value(_) => itself(i, Rule::C6),
     }
 }
 
 // By the line from which the call returns; no call returns from another.
+// Stays (7): a record has its line as a number (figure_lines).
 pub fn ending(r: Record, x: Sight, a: Answer, i: u16, o: Own) -> Spot
-    ensures { result ≡ numbered (ruled (own_notes i o) 0 (sight_of 0 r x []) (answer_of a)) }
+    ensures { spot_meant result ≡ ruled (own_notes i o) 0 (sight_of 0 r x []) (answer_of a) }
 {
     let line = figure_line(r);
     match line {
-        12 => itself(o.loaded, read_rule(r.kind, 0)),
-        13 => itself(o.decided, read_rule(r.kind, 1)),
-        22 => itself(o.loaded, 3),
-        25 => itself(effect(o), 4),
-        26 => itself(o.stored, 5),
-        28 => itself(o.decided, 6),
+        12 => itself(o.loaded, read_rule(r.kind, Rule::R1)),
+        13 => itself(o.decided, read_rule(r.kind, Rule::R2)),
+        22 => itself(o.loaded, Rule::C2),
+        25 => itself(effect(o), Rule::C3),
+        26 => itself(o.stored, Rule::C4),
+        28 => itself(o.decided, Rule::C5),
         30 => line_c6(x, a, i, o),
-        _ => itself(0, 0),
+        _ => itself(0, Rule::R1),
     }
 }
 
@@ -80,6 +201,5 @@ pub fn ending(r: Record, x: Sight, a: Answer, i: u16, o: Own) -> Spot
 pub fn has_stored(r: Record) -> bool
     ensures { result ≡ within (cond (within r.line 1 3) r.wanted r.line) 24 26 }
 {
-    let line = figure_line(r);
-    (24 <= line) & (line <= 26)
+    matches!(figure_line(r), 24..=26)
 }

@@ -1,46 +1,37 @@
 // Reads a session from standard input and writes the smallest nudge of a call: nudge TASK FINISHED-BEFORE.
 #![tactic(auto)]
 
-use buffers::file_space;
+use buffers::{FILE, zeroed};
 use nudge_tool::run_nudge;
-use program_io::arguments::{ARGUMENT_ROOM, gather, take};
-use program_io::report::{read_all, write_all};
+use program_io::arguments::started_with;
+use program_io::filter::{Messages, filter};
 
+// Stays (2): a program names its tool, its room and its messages; what programs share is `filter`.
 fn main(rt: HostRuntime) {
     let mut output = rt.stdout();
     let mut errors = rt.stderr();
-    let mut call = [0u32; 2];
-    let mut line = [0; ARGUMENT_ROOM];
-    let given = gather(&rt, &mut line);
-    let length = given.count;
-    if !take(
-        &line[..length],
-        given.whole,
-        &mut call,
+    let usage = b"usage: nudge TASK FINISHED-BEFORE < SESSION\n";
+    let says = Messages {
+        cannot_read: b"nudge: cannot read standard input",
+        cannot_write: b"nudge: cannot write standard output",
+    };
+    let given: Option<[u32; 2]> = started_with(
+        &rt,
         &mut output,
-        b"usage: nudge TASK FINISHED-BEFORE < SESSION\n",
-        b"nudge: cannot write standard output",
-        &mut errors,
-    ) {
-        return;
-    }
-    let mut file = file_space();
-    let read = read_all(
-        &mut rt.stdin(),
-        &mut file,
-        b"nudge: cannot read standard input",
+        usage,
+        says.cannot_write,
         &mut errors,
     );
-    if !read.whole {
+    let Some(call) = given else {
         return;
-    }
-    let n = read.count;
-    let mut out = [0; 4096];
-    let end = run_nudge(&file[..n], call[0], call[1], &mut out);
-    write_all(
+    };
+    filter(
+        &mut rt.stdin(),
+        &mut zeroed::<FILE>(),
+        &mut [0; 4096],
+        |file, out| run_nudge(file, call[0], call[1], out),
         &mut output,
-        &out[..end],
-        b"nudge: cannot write standard output",
+        says,
         &mut errors,
     );
 }

@@ -31,7 +31,8 @@ use Rattle.nudge_spec.proofs.Moved.{moved-first, moved_second, moved_other, move
 use Rattle.nudge_spec.proofs.Ledger.{answers, entered-now}
 use Rattle.nudge_spec.proofs.Nudge.{apart_no_nudge}
 use Rattle.nudge_tool.specs.Calls.{Summary, summary, calls, answer_of_call, Summarizes}
-use Rattle.nudge_tool.specs.Exchange.{Fresh, touched_by, same_cell, nudges_at}
+use Rattle.nudge_tool.specs.Exchange.{touched_by, same_cell, nudges_at}
+use Rattle.nudge_tool.proofs.Asking.{Started}
 use Rattle.nudge_tool.proofs.Following.{TasksOf, Between, between_start, between_on, BegunAt, followed, unanswered_yet}
 
 -- LISTS WITH TWO ENTRIES EXCHANGED
@@ -72,14 +73,6 @@ exchanged-at zero (suc zero) (a ∷ b ∷ l) h = refl
 exchanged-at zero (suc (suc j)) (a ∷ b ∷ l) h = ap (λ k. get_or (a ∷ b ∷ l) k 0) (sym (moved_other 0 (suc (suc j)) (λ e. omega (arith, e)) (λ e. omega (arith, e))))
 exchanged-at (suc i) zero (a ∷ l) h = ap (λ k. get_or (a ∷ l) k 0) (sym (moved_early (suc i) 0 (omega arith)))
 exchanged-at (suc i) (suc j) (a ∷ l) h = exchanged-at i j l (omega (arith, h)) ∙ ap (λ k. get_or (a ∷ l) k 0) (sym (moved_suc i j))
-
-pub moved-below : (i m n : ℕ) → suc i < n → m < n → moved_to i m < n
-moved-below i m n h l = go (either m i) (either m (suc i))
-  where
-    go : (m ≡ i) ⊎ (m ≢ i) → (m ≡ suc i) ⊎ (m ≢ suc i) → moved_to i m < n
-    go (inl e) z = rw (moved-first i m e) h
-    go (inr o) (inl e) = rw (moved_second i m e) (omega (arith, h))
-    go (inr o) (inr q) = rw (moved_other i m o q) l
 
 not_sooner : (i m : ℕ) → i ≤ m → i ≤ moved_to i m
 not_sooner i m l = go (either m i) (either m (suc i))
@@ -244,7 +237,7 @@ module _ (old : State) (words : List ℕ) (tasks cells blocks : ℕ) (values : L
           go false e true z = rw (e, z, ← (exchange_answer f finished yet k K)) (sym (tasks_are false e))
 
 -- Of newly opened cells; x is the state before action i.
-pub tried-is : {s : State} {p : List ℕ} (F : Fresh s p) (l : List Action) (task : ℕ) (c : Summary) → Summarizes (history pool (s, p) l) task c
+pub tried-is : {s : State} {p : List ℕ} (F : Started s p) (l : List Action) (task : ℕ) (c : Summary) → Summarizes (history pool (s, p) l) task c
     → (i : ℕ) → suc i < length l → i ≤ c.last → (x : Pool) → x ≡ run pool (s, p) (take i l) → (k : ℕ) → BegunAt (enter_all no_calls (history pool (s, p) (take i l))) task k
     → nudges_at x l task k c.at c.answer i ≡ nudges (s, p) l c.at c.answer i
 tried-is {s} {p} F l task c N i two yet x e k K = subst Claim (sym F.came) of_start N.call N.finished N.its-task N.kept (e) K

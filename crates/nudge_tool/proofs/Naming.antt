@@ -3,23 +3,19 @@ use mathlib.Core.Path.{◌≡◌, sym, ap, subst, ◌∙◌}
 use mathlib.Core.Option.{none, some}
 use mathlib.Core.List.{List}
 use Prim.Native.Nat.{ℕ}
-use lib.ListN.{length, replicate}
+use lib.ListN.{length}
 use Rattle.cells_spec.specs.declared.State.{State}
 use Rattle.cells_spec.specs.Machine.{Pool, pool}
 use Rattle.history_spec.specs.History.{Action, FinishedCall, no_calls, history}
-use Rattle.figure_lines.specs.Record.{idle}
-use Rattle.session_engine.proofs.Placing.{idle_places}
-use Rattle.cells_spec.specs.Words.{records_of}
 use Rattle.text.specs.Lines.{bad_line}
 use Rattle.nudge_spec.specs.Nudge.{at_place, named_call, nudges, earliest, nudge, nudge_line, asked18}
 use Rattle.nudge_spec.proofs.Nudge.{named_is_finished}
 use Rattle.nudge_tool.specs.Calls.{Summary, summary, calls, Summarizes}
-use Rattle.nudge_tool.specs.declared.calls.Frame.{Frame}
-use Rattle.nudge_tool.specs.Exchange.{Fresh, state_with}
+use Rattle.nudge_tool.proofs.Asking.{Started}
 use Rattle.nudge_tool.proofs.Following.{Between, named_none, named_some}
 use Rattle.nudge_tool.proofs.Exchanging.{who_of, between}
 
-module _ {s : State} {p : List ℕ} (F : Fresh s p) (l : List Action) (t n : ℕ) where
+module _ {s : State} {p : List ℕ} (F : Started s p) (l : List Action) (t n : ℕ) where
   known : Between (who_of l) s.cells no_calls (history pool (s, p) l)
   known = subst (λ (x : Pool). Between (who_of l) s.cells no_calls (history pool x l)) (sym F.came) (between F.old F.words s.tasks s.cells F.blocks F.values F.allowed l l)
 
@@ -42,11 +38,3 @@ module _ {s : State} {p : List ℕ} (F : Fresh s p) (l : List Action) (t n : ℕ
     pub sought_nudge : nudge_line (earliest (nudges (s, p) l c.at c.answer) 0 (length l)) ≡ asked18 (s, p) l (named_call t n (history pool (s, p) l))
     unfolding nudge
     sought_nudge = ap (λ (c : Summary). nudge_line (earliest (nudges (s, p) l c.at c.answer) 0 (length l))) (sym same) ∙ ap (asked18 (s, p) l) (sym is)
-
--- the same in other words
-pub fresh_as : {s s' : State} {p : List ℕ} → Fresh s p → s' ≡ s → Fresh s' p
-fresh_as {p = p} F e = subst (λ (x : State). Fresh x p) (sym e) F
-
--- the frame of a state in which every task is idle, with cleared records
-pub idle_frame : {s : State} {f : Frame} {w : List ℕ} → ((w : List ℕ) → records_of 32 w ≡ s.records → state_with f w ≡ s) → w ≡ replicate 384 0 → s.records ≡ replicate 32 idle → state_with f w ≡ s
-idle_frame {w = w} same z i = same w (ap (records_of 32) z ∙ (idle_places ∙ sym i))

@@ -8,71 +8,69 @@ use native.Mathlib.Numerals.{add-one}
 use native.Mathlib.Omega.{arith}
 use lib.ListN.{length, take, drop, get_or, length-map}
 use lib.Seq.{take-add, length-take-le}
-use borrow.Author.Tests.{eq-eqb, ne_eqb, lt-ltb}
+use borrow.Author.Tests.{eq-eqb, ne_eqb}
 use Rattle.cells_spec.specs.declared.State.{State}
 use Rattle.cells_spec.proofs.Fits.{sizes}
-use Rattle.figure_lines.specs.declared.Record.{Record}
 use Rattle.figure_lines.specs.Answers.{answer_of}
 use Rattle.figure_lines.specs.Record.{record_at}
 use Rattle.figure_lines.specs.declared.Answer.{Answer}
-use Rattle.cells_spec.specs.Answers.{Said, Refused, Acted, Ended}
-use Rattle.cells_spec.specs.Open.{After, leaving}
-use Rattle.cells_spec.specs.Events.{event_of}
-use Rattle.cells_spec.specs.Machine.{Pool, does, tried_by, pool}
-use Rattle.history_spec.specs.History.{Action, step, Attempt, untried, Response, Event, Calls, no_calls, enter, enter_all, history, run}
-use Rattle.history_spec.proofs.Basics.{clash, history_append, enter_append}
+use Rattle.cells_spec.specs.Machine.{Pool, pool}
+use Rattle.history_spec.specs.History.{Action, Response, Event, Calls, no_calls, enter, enter_all, history, run}
+use Rattle.history_spec.proofs.Basics.{history_append, enter_append}
 use Rattle.history_linearization.proofs.EveryAction.{run-snoc}
 use Rattle.session_engine.proofs.Listed.{action_then, no_action}
 use Rattle.cells_theorems.specs.Reached.{Reached}
-use Rattle.cells_theorems.proofs.Reaching.{reached-fit}
+use Rattle.cells_theorems.proofs.Reaching.{reached-fit, reached-next}
 use Rattle.nudge_spec.specs.Exchange.{exchanged, moved_to, answer_at}
 use Rattle.nudge_spec.specs.Nudge.{at_place, answers_still, nudges, earliest}
 use Rattle.nudge_spec.proofs.Nudge.{alone, later_no_nudge}
-use Rattle.nudge_tool.specs.declared.calls.Noted.{Noted}
-use Rattle.nudge_tool.specs.declared.calls.Noted.TheVariants as code
-use Rattle.nudge_tool.specs.Calls.{Summary, Note, note_of, begun_after, listing, calls, answer_of_call, note_in, Summarizes}
-use Rattle.nudge_tool.specs.Exchange.{Fresh, touched_by, collides, nudges_at}
+use Rattle.std.specs.Prelude as Rust
+use Rattle.std.proofs.Common.{None, Some}
+use Rattle.cells_theorems.proofs.Refines.{together}
+use Rattle.session_engine.specs.Tool.{Fresh}
+use Rattle.nudge_tool.proofs.Asking.{started}
+use Rattle.nudge_tool.specs.Calls.{Summary, Note, pending, ended, note_of, begun_after, listing, calls, answer_of_call, note_in, Summarizes}
+use Rattle.nudge_tool.specs.Exchange.{collides, nudges_at}
 use Rattle.nudge_tool.proofs.Following.{BegunAt, begun-next}
 use Rattle.nudge_tool.proofs.Exchanging.{exchanged_map, now-after}
 
 -- THE TASK'S CALLS
 
--- a note does not depend on the hardware CAS of the action
-same-note : (t k i : ℕ) (a : Action) (x : Attempt) (o : Said) → note_of t k i a (event_of x o) ≡ note_of t k i a (event_of untried o)
-same-note t k i a x (Refused n) = refl
-same-note t k i a x Acted = refl
-same-note t k i a x (Ended f) = refl
+-- a call that an action ends was begun where the task's call was, before it and after it
+begun-same : (n : Note) (k k' i : ℕ) (later : ℕ → List Summary) → k' ≡ begun_after n k → listing n k i later ≡ listing n k' i later
+begun-same (pending j) k k' i later e = refl
+begun-same (ended r) k k' i later e = ap (λ (m : ℕ). listing (ended r) m i later) (sym e)
 
-module _ (t : ℕ) (f : ℕ → Action) (l : List ℕ) (i k : ℕ) (s : State) (p : List ℕ) where
+module _ (t : ℕ) (f : ℕ → Action) (l : List ℕ) (i k : ℕ) (x : Pool) where
   abbrev here : List Summary
-  here = calls t k i (history pool (s, p) (drop i (map f l)))
+  here = calls t k i (history pool x (drop i (map f l)))
 
-  abbrev there : State → List ℕ → ℕ → List Summary
-  there s p j = calls t j (i + 1) (history pool (s, p) (drop (i + 1) (map f l)))
+  abbrev there : Pool → ℕ → List Summary
+  there y j = calls t j (i + 1) (history pool y (drop (i + 1) (map f l)))
 
   pub no_calls_lem : length l ≤ i → here ≡ []
-  no_calls_lem h = ap (λ (r : List Action). calls t k i (history pool (s, p) r)) (no_action f l i h)
+  no_calls_lem h = ap (λ (r : List Action). calls t k i (history pool x r)) (no_action f l i h)
 
-  listed : {s' : State} {p' : List ℕ} {o : Said} {a : Action} → i < length l → a ≡ f (get_or l i 0) → leaving s' p' o ≡ does s p a → here ≡ listing (note_of t k i a (event_of untried o)) k i (there s' p')
-  listed {a = a} h ea ed =
-      let x = does s p a in
-      let lists : After → List Summary = λ x. listing (note_of t k i a (event_of untried x.outcome)) k i (there x.state x.pool) in
-      ap (λ (r : List Action). calls t k i (history pool (s, p) r)) (action_then f l i h ∙ ap (λ (b : Action). b ∷ drop (i + 1) (map f l)) (sym ea))
-      ∙ ap (λ (n : Note). listing n k i (there x.state x.pool)) (same-note t k i a (tried_by s p a) x.outcome) ∙ ap lists (sym ed)
+  -- of action a, which leaves y, and o for the task's call, which after it was begun at k'
+  module _ {a : Action} {y : Pool} {k' : ℕ} (o : Rust.Option Answer) (h : i < length l) (ea : a ≡ f (get_or l i 0)) (ey : y ≡ (pool x a).0) (en : note_in k' o ≡ note_of t k i a (pool x a).1) (ek : k' ≡ begun_after (note_in k' o) k) where
+    listed : here ≡ listing (note_in k' o) k' i (there y)
+    listed =
+        ap (λ (r : List Action). calls t k i (history pool x r)) (action_then f l i h ∙ ap (λ (b : Action). b ∷ drop (i + 1) (map f l)) (sym ea))
+        ∙ ap (λ (n : Note). listing n k i (there (pool x a).0)) (sym en) ∙ ap (λ (z : Pool). listing (note_in k' o) k i (there z)) (sym ey)
+        ∙ begun-same (note_in k' o) k k' i (there y) ek
 
-  module _ {s' : State} {p' : List ℕ} {o : Said} {a : Action} {n : Noted} (h : i < length l) (ea : a ≡ f (get_or l i 0)) (ed : leaving s' p' o ≡ does s p a) (en : note_in n ≡ note_of t k i a (event_of untried o)) where
-    pub then_pending : {j : ℕ} → n ≡ code.Pending j → here ≡ there s' p' j
-    then_pending e = listed h ea ed ∙ ap (λ (m : Note). listing m k i (there s' p')) (sym en ∙ ap note_in e)
+    pub then_none : o ≡ None → here ≡ there y k'
+    then_none e = listed ∙ ap (λ (o : Rust.Option Answer). listing (note_in k' o) k' i (there y)) e
 
-    pub then_ended : {r : Answer} → n ≡ code.Ended r → here ≡ record { at = k; last = i; answer = answer_of r } ∷ there s' p' k
-    then_ended e = listed h ea ed ∙ ap (λ (m : Note). listing m k i (there s' p')) (sym en ∙ ap note_in e)
+    pub then_some : {r : Answer} → o ≡ Some r → here ≡ record { at = k'; last = i; answer = answer_of r } ∷ there y k'
+    then_some e = listed ∙ ap (λ (o : Rust.Option Answer). listing (note_in k' o) k' i (there y)) e
 
     -- the call that it ended is the one begun at m, or another
-    pub then_it : (m : ℕ) {r : Answer} → n ≡ code.Ended r → k ≡ m → answer_of_call m here ≡ some (answer_of r)
-    then_it m {r} e q = ap (answer_of_call m) (then_ended e) ∙ ap (λ (c : Bool). cond c (some (answer_of r)) (answer_of_call m (there s' p' k))) (eq-eqb k m q)
+    pub then_it : (m : ℕ) {r : Answer} → o ≡ Some r → k' ≡ m → answer_of_call m here ≡ some (answer_of r)
+    then_it m {r} e q = ap (answer_of_call m) (then_some e) ∙ ap (λ (c : Bool). cond c (some (answer_of r)) (answer_of_call m (there y k'))) (eq-eqb k' m q)
 
-    pub then_other : (m : ℕ) {r : Answer} → n ≡ code.Ended r → (k ≡ m → ⊥) → answer_of_call m here ≡ answer_of_call m (there s' p' k)
-    then_other m {r} e q = ap (answer_of_call m) (then_ended e) ∙ ap (λ (c : Bool). cond c (some (answer_of r)) (answer_of_call m (there s' p' k))) (ne_eqb k m q)
+    pub then_other : (m : ℕ) {r : Answer} → o ≡ Some r → (k' ≡ m → ⊥) → answer_of_call m here ≡ answer_of_call m (there y k')
+    then_other m {r} e q = ap (answer_of_call m) (then_some e) ∙ ap (λ (c : Bool). cond c (some (answer_of r)) (answer_of_call m (there y k'))) (ne_eqb k' m q)
 
 pub after_first : (n : ℕ) (c : Summary) (l : List Summary) → n ≡ 0 → at_place n (c ∷ l) ≡ some c
 after_first zero c l e = refl
@@ -81,15 +79,6 @@ after_first (suc n) c l e = absurd (omega (arith, e))
 pub after_next : (n : ℕ) (c : Summary) (l : List Summary) → (n ≡ 0 → ⊥) → at_place n (c ∷ l) ≡ at_place (n - 1) l
 after_next zero c l e = absurd (e refl)
 after_next (suc n) c l e = let z : suc n - 1 ≡ n = omega arith in ap (λ (m : ℕ). at_place m l) (sym z)
-
--- WHAT A STEP TOUCHES, with the task's record read
-
-module _ (n t : ℕ) (records : ℕ → Record) (r : Record) (own : t < n) (er : r ≡ records t) where
-  pub idle-touches : r.line ≡ 0 → none ≡ touched_by n records (step t)
-  idle-touches z = rw (lt-ltb t n own, ← er, z)
-
-  pub busy-touches : (r.line ≡ 0 → ⊥) → some r.cell ≡ touched_by n records (step t)
-  busy-touches z = rw (lt-ltb t n own, ← er, ne_eqb r.line 0 z)
 
 -- ONE EXCHANGE, of the actions a and b
 
@@ -123,13 +112,10 @@ pub record Before (x₀ : Pool) (l : List Action) (t i : ℕ) (x : Pool) (k : �
   pub state : x ≡ run pool x₀ (take i l)
   pub begins-at : BegunAt (enter_all no_calls (history pool x₀ (take i l))) t k
 
-pub before-start : (x₀ : Pool) (l : List Action) (t : ℕ) → Before x₀ l t 0 x₀ 0
-before-start x₀ l t = record { state = refl; begins-at = λ j e. absurd (clash refl e) }
-
-pub before-next : {x₀ : Pool} (f : ℕ → Action) (l : List ℕ) (t i k : ℕ) {k' : ℕ} {s : State} {p : List ℕ} {s' : State} {p' : List ℕ} {o : Said} {a : Action} (n : Noted) → i < length l → a ≡ f (get_or l i 0) → leaving s' p' o ≡ does s p a
-    → note_in n ≡ note_of t k i a (event_of untried o) → k' ≡ begun_after (note_in n) k → Before x₀ (map f l) t i (s, p) k → Before x₀ (map f l) t (i + 1) (s', p') k'
-before-next {x₀} f l t i k {k'} {s} {p} {s'} {p'} {o} {a} n h ea ed en ek B = record {
-  state = after_it ∙ (ap (λ (x : Pool). (pool x a).0) B.state ∙ (sym (run-snoc pool x₀ (take i (map f l)) a) ∙ ap (run pool x₀) (sym more)));
+pub before-next : {x₀ : Pool} (f : ℕ → Action) (l : List ℕ) (t i k : ℕ) {k' : ℕ} {x y : Pool} {a : Action} {n : Note} → i < length l → a ≡ f (get_or l i 0) → y ≡ (pool x a).0 → n ≡ note_of t k i a (pool x a).1
+    → k' ≡ begun_after n k → Before x₀ (map f l) t i x k → Before x₀ (map f l) t (i + 1) y k'
+before-next {x₀} f l t i k {k'} {x} {y} {a} {n} h ea ey en ek B = record {
+  state = ey ∙ (ap (λ (x : Pool). (pool x a).0) B.state ∙ (sym (run-snoc pool x₀ (take i (map f l)) a) ∙ ap (run pool x₀) (sym more)));
   begins-at = subst (λ (b : Calls). BegunAt b t k') (sym calls_then) (subst (BegunAt (enter b a e) t) (ap (λ (n : Note). begun_after n k) notes ∙ sym ek) (begun-next b t k a e B.begins-at));
 }
   where
@@ -137,19 +123,16 @@ before-next {x₀} f l t i k {k'} {s} {p} {s'} {p'} {o} {a} n h ea ed en ek B = 
     b = enter_all no_calls (history pool x₀ (take i (map f l)))
 
     e : Event
-    e = event_of (tried_by s p a) (does s p a).outcome
+    e = (pool x a).1
 
     more : take (i + 1) (map f l) ≡ take i (map f l) ++ (a ∷ [])
     more = take-add i 1 (map f l) ∙ ap (λ (r : List Action). take i (map f l) ++ take 1 r) (action_then f l i h ∙ ap (λ (c : Action). c ∷ drop (i + 1) (map f l)) (sym ea))
 
-    after_it : (s', p') ≡ (pool (s, p) a).0
-    after_it = ap (λ (x : After). (x.state, x.pool)) ed
-
     now : b.now ≡ i
     now = omega (arith, now-after pool x₀ (take i (map f l)) no_calls, length-take-le i (map f l) (omega (arith, h, length-map l f)))
 
-    notes : note_of t k b.now a e ≡ note_in n
-    notes = ap (λ (m : ℕ). note_of t k m a e) now ∙ (same-note t k i a (tried_by s p a) (does s p a).outcome ∙ (ap (λ (x : After). note_of t k i a (event_of untried x.outcome)) (sym ed) ∙ sym en))
+    notes : note_of t k b.now a e ≡ n
+    notes = ap (λ (m : ℕ). note_of t k m a e) now ∙ sym en
 
     calls_then : enter_all no_calls (history pool x₀ (take (i + 1) (map f l))) ≡ enter b a e
     calls_then =
@@ -158,19 +141,27 @@ before-next {x₀} f l t i k {k'} {s} {p} {s'} {p'} {o} {a} n h ea ed en ek B = 
         ∙ (enter_append no_calls (history pool x₀ (take i (map f l))) (history pool (run pool x₀ (take i (map f l))) (a ∷ []))
         ∙ ap (λ (x : Pool). enter b a (pool x a).1) (sym B.state)))
 
-pub reached-before : {s : State} {p : List ℕ} (l : List Action) (t i : ℕ) {s' : State} {p' : List ℕ} {k : ℕ} → Fresh s p → Before (s, p) l t i (s', p') k → Reached s.tasks s.cells s' p'
-reached-before l t i F B = record {
-  old = F.old;
-  words = F.words;
-  blocks = F.blocks;
-  values = F.values;
-  allowed = F.allowed;
-  actions = take i l;
-  came = B.state ∙ ap (λ (x : Pool). run pool x (take i l)) F.came;
-}
+-- the state's own sizes are those of its opening
+pub own-sizes : {n v : ℕ} {s : State} {p : List ℕ} → Reached n v s p → Reached s.tasks s.cells s p
+own-sizes {n} {v} {s} {p} r =
+    let sizes = (together r.old r.words n v r.blocks r.values r.allowed r.actions).agree.sizes in
+    let en : n ≡ s.tasks = sym (ap (λ (x : Pool). x.0.tasks) r.came ∙ sizes.same-tasks) in
+    let ev : v ≡ s.cells = sym (ap (λ (x : Pool). x.0.cells) r.came ∙ sizes.same-cells) in
+    subst (λ (m : ℕ). Reached s.tasks m s p) ev (subst (λ (m : ℕ). Reached m v s p) en r)
 
-pub fresh-reached : {s : State} {p : List ℕ} → Fresh s p → Reached s.tasks s.cells s p
-fresh-reached {s} {p} F = reached-before [] 0 0 F (before-start (s, p) [] 0)
+pub reached-before : {s : State} {p : List ℕ} (l : List Action) (t i : ℕ) {s' : State} {p' : List ℕ} {k : ℕ} → Fresh s p → Before (s, p) l t i (s', p') k → Reached s'.tasks s'.cells s' p'
+reached-before {s} {p} l t i F B = let g = started F in let r : Reached s.tasks s.cells _ _ = record {
+  old = g.old;
+  words = g.words;
+  blocks = g.blocks;
+  values = g.values;
+  allowed = g.allowed;
+  actions = take i l;
+  came = B.state ∙ ap (λ (x : Pool). run pool x (take i l)) g.came;
+} in own-sizes r
+
+pub reached-on : {n v : ℕ} {s : State} {p : List ℕ} {s' : State} {p' : List ℕ} → Reached n v s p → (a : Action) → (s', p') ≡ (pool (s, p) a).0 → Reached n v s' p'
+reached-on {n} {v} r a e = subst (λ (x : Pool). Reached n v x.0 x.1) (sym e) (reached-next r a)
 
 pub reached-words : {n v : ℕ} {s : State} {p : List ℕ} → Reached n v s p → length p ≤ 640
 reached-words {s = s} {p} r = let z = sizes s p (reached-fit r) in omega (arith, z.words, z.blocks)

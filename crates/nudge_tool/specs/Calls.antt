@@ -1,14 +1,13 @@
 -- The calls of one task, as the code follows them through a history.
 use Rattle.std.specs.Prelude.{◌≡◌, cond, List, [], ◌∷◌, ℕ, ◌+◌, eqb}
 use Rattle.std.proofs.Math.Option.{Option, none, some}
+use Rattle.std.specs.Prelude as Rust
+use Rattle.std.specs.Prelude.{None, Some}
 use Rattle.history_spec.specs.Basics.{◌∈◌}
 use Rattle.history_spec.specs.History.{Action, begin, step, drop, task_of, Response, Event, refused, accepted, answered, FinishedCall, calls_of}
 use Rattle.figure_lines.specs.Answers.{answer_of}
-use Rattle.nudge_tool.specs.declared.calls.Noted.{Noted}
-use Rattle.nudge_tool.specs.declared.calls.Noted.TheVariants as code
+use Rattle.figure_lines.specs.declared.Answer.{Answer}
 use Rattle.nudge_tool.specs.declared.calls.CallSummary.{CallSummary}
-use Rattle.nudge_tool.specs.declared.calls.Sought.{Sought}
-use Rattle.nudge_tool.specs.declared.calls.Sought.TheVariants as sought
 
 -- what is kept of a finished call: the numbers of its begin and of its last step, and its answer
 pub record Summary : Type 0 where
@@ -66,13 +65,14 @@ pub record Summarizes (h : List (Action × Event)) (task : ℕ) (c : Summary) : 
 
 -- THE CODE'S ANSWERS
 
-abbrev pub note_in : Noted → Note
-note_in (code.Pending k) = pending k
-note_in (code.Ended a) = ended (answer_of a)
+-- what the task's call answers that an action ended, or none; after it the call was begun at k
+abbrev pub note_in : (k : ℕ) → Rust.Option Answer → Note
+note_in k None = pending k
+note_in k (Some a) = ended (answer_of a)
 
 abbrev pub summary_of : CallSummary → Summary
 summary_of c = record { at = c.at; last = c.last; answer = answer_of c.answer }
 
-abbrev pub sought_of : Sought → Option Summary
-sought_of sought.Nowhere = none
-sought_of (sought.Found c) = some (summary_of c)
+abbrev pub sought_of : Rust.Option CallSummary → Option Summary
+sought_of None = none
+sought_of (Some c) = some (summary_of c)

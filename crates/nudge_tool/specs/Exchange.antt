@@ -1,36 +1,16 @@
 -- An exchange, as the code tries it: from the state before the two actions.
-use Rattle.std.specs.Prelude.{◌≡◌, Bool, false, not, ◌&&◌, List, [], ◌∷◌, ℕ, eqb, length, drop}
+use Rattle.std.specs.Prelude.{Bool, false, not, ◌&&◌, List, [], ◌∷◌, ℕ, eqb, drop}
 use Rattle.std.proofs.Math.Option.{Option, none, some}
-use Rattle.cells_spec.specs.declared.State.{State}
-use Rattle.cells_spec.specs.Questions.{refusal, step_questions, open_questions}
+use Rattle.cells_spec.specs.Questions.{refusal, step_questions}
 use Rattle.figure_lines.specs.declared.Record.{Record}
 use Rattle.figure_lines.specs.Record.{record_at}
 use Rattle.cells_spec.specs.Machine.{Pool, pool}
 use Rattle.figure.specs.Exchange.{if_accepted}
 use Rattle.history_spec.specs.History as History
 use Rattle.history_spec.specs.History.{Action, begin, step, task_of, Response, history}
-use Rattle.session_engine.specs.Places.{state_of}
-use Rattle.cells_theorems.specs.Terms.{start}
 use Rattle.nudge_spec.specs.Exchange.{exchanged, moved_to}
 use Rattle.nudge_spec.specs.Nudge.{answers_still}
 use Rattle.nudge_tool.specs.Calls.{calls, answer_of_call}
-use Rattle.nudge_tool.specs.declared.calls.Frame.{Frame}
-use Rattle.nudge_tool.specs.declared.touching.Touch.{Touch}
-use Rattle.nudge_tool.specs.declared.touching.Touch.TheVariants as touch
-use Rattle.nudge_tool.specs.declared.calls.Nudge.{Nudge}
-use Rattle.nudge_tool.specs.declared.calls.Nudge.TheVariants as nudge
-
-abbrev pub state_with : Frame → (records : List ℕ) → State
-state_with s w = state_of s.tasks s.cells s.blocks s.last s.current w s.counts
-
--- newly opened: no action was done
-pub record Fresh (s : State) (p : List ℕ) : Type 0 where
-  pub old : State
-  pub words : List ℕ
-  pub blocks : ℕ
-  pub values : List ℕ
-  pub allowed : refusal (open_questions (length words) s.tasks s.cells blocks values) ≡ none
-  pub came : (s, p) ≡ start old words s.tasks s.cells blocks values
 
 -- which cell an action touches: figure/specs/Exchange.antt, of any tasks' records
 abbrev pub touched_by : (tasks : ℕ) → (ℕ → Record) → Action → Option ℕ
@@ -56,13 +36,3 @@ first_two f (a ∷ b ∷ l) = f a b
 abbrev pub nudges_at : Pool → List Action → (task k m : ℕ) → Response → (i : ℕ) → Bool
 nudges_at x l t k m a i =
     first_two (collides x.0.tasks (record_at x.0.records)) (drop i l) && not (answers_still a (answer_of_call (moved_to i m) (calls t k i (history pool x (drop i (exchanged i l))))))
-
--- THE CODE'S ANSWERS
-
-abbrev pub touch_of : Touch → Option ℕ
-touch_of touch.Nothing = none
-touch_of (touch.Cell k) = some k
-
-abbrev pub nudge_of : Nudge → Option ℕ
-nudge_of nudge.Nowhere = none
-nudge_of (nudge.At i) = some i

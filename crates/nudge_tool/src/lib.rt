@@ -1,21 +1,96 @@
 // Finds the smallest nudge of a call of a session, and prints it.
 #![tactic(auto)]
 
-mod answer;
 mod calls;
 mod exchange;
+mod follower;
 mod moves;
-mod opened;
 mod printing;
+mod refusal;
 mod touching;
 mod trial;
 
-ghost use Rattle.std.specs.Prelude.{◌≡◌, ◌++◌, length, drop};
+ghost use Rattle.std.specs.Prelude.{◌≡◌, ◌+◌, ◌≤◌, ◌++◌, length, drop, refl};
+ghost use Rattle.std.proofs.Common.{lit≤};
 ghost use Rattle.io.specs.Counts.{IsPrefixLen};
 ghost use Rattle.nudge_spec.specs.Nudge.{nudge_text};
 ghost use Rattle.session_spec.specs.Tools.{tool_within};
+ghost use Rattle.session_engine.specs.Start.{tool_start};
+ghost use Rattle.session_engine.specs.Tool.{Fresh, all_of};
+ghost use Rattle.text.specs.Page.{Written};
+ghost use Rattle.nudge_tool.specs.Refusals.{answer_text};
 
-use crate::opened::print_file;
+use crate::calls::find_call;
+use crate::exchange::first_nudge;
+use crate::printing::put_nudge;
+use crate::refusal::NudgeRefusal;
+use cells_spec::State;
+use session_engine::actions::Actions;
+use session_engine::tool::{Tool, run_tool};
+use text::numbered::put_bad;
+use text::page::Page;
+
+// The task's call with n finished before it.
+#[derive(Clone, Copy)]
+struct Nudge {
+    task: u32,
+    n: u32,
+}
+
+impl Nudge {
+    // The call's first nudge, if it has one. What is left in the pool is open.
+    fn find(
+        self,
+        first: State,
+        pool: &mut [u32],
+        actions: Actions<'_>,
+    ) -> Result<Option<usize>, NudgeRefusal>
+        requires { Fresh first pool.old }
+        ensures { answer_text result ≡ nudge_text self.task self.n first.tasks (first, pool.old) (all_of actions.entry) }
+    {
+        if 2000 < actions.len() {
+            return Err(NudgeRefusal::TooManyActions);
+        }
+        let Some(call) = find_call(first, pool, actions, self.task, self.n) else {
+            return Err(NudgeRefusal::NoSuchCall);
+        };
+        Ok(first_nudge(first, pool, actions, self.task, call))
+    }
+
+    // Stays (5): how much room a function needs is its own number.
+    fn print(self, page: &mut Page<'_>, first: State, pool: &mut [u32], actions: Actions<'_>)
+        requires in_bounds { page.old.at + 67 ≤ length page.old.bytes.now }
+        requires fresh { Fresh first pool.old }
+        ensures { Written page.old page.new (nudge_text self.task self.n first.tasks (first, pool.old) (all_of actions.entry)) }
+    {
+        match self.find(first, pool, actions) {
+            Ok(found) => put_nudge(page, found),
+            Err(refusal) => page.bad(u32::from(refusal)),
+        }
+    }
+}
+
+impl Tool for Nudge {
+    ghost text = { λ t. tool_start (nudge_text t.task t.n) };
+
+    ghost ROOM = { 67 };
+
+    const ROOM: usize = 67;
+
+    fn put_refused(&self, out: &mut [u8], n: u32) -> usize {
+        put_bad(out, 0, n)
+    }
+
+    fn play(&self, out: &mut [u8], first: State, pool: &mut [u32], actions: Actions<'_>) -> usize {
+        let mut page = Page::new(out);
+        self.print(&mut page, first, pool, actions);
+        page.at
+    }
+
+    ghost bad_alike = { λ t n. refl };
+
+    ghost has_room = { lit≤ tt };
+}
 
 // Prints the smallest nudge of the task's call with n finished before it at the start of out, and returns its length; nothing where out has
 // fewer than 67 bytes. The bytes after the text are as they were.
@@ -24,8 +99,5 @@ pub fn run_nudge(file: &[u8], task: u32, n: u32, out: &mut [u8]) -> usize
     ensures value { result ≡ length (tool_within 67 (nudge_text task n) (length out.old) file.now) }
     ensures prefix_len { IsPrefixLen result out.new }
 {
-    if out.len() < 67 {
-        return 0;
-    }
-    print_file(file, task, n, out)
+    run_tool(&Nudge { task, n }, file, out)
 }

@@ -1,18 +1,17 @@
 // The line of a nudge.
-ghost use Rattle.std.specs.Prelude.{◌≤◌, length};
+ghost use Rattle.std.specs.Prelude.{◌+◌, ◌≤◌, length};
+ghost use Rattle.figure_lines.specs.Basics.{option_of};
 ghost use Rattle.nudge_spec.specs.Nudge.{nudge_line};
-ghost use Rattle.text.specs.Append.{Appended};
-ghost use Rattle.nudge_tool.specs.Exchange.{nudge_of};
+ghost use Rattle.text.specs.Page.{Written};
 
-use crate::calls::Nudge;
-use text::numbered::put_line;
+use text::page::Page;
 
-pub fn put_nudge(out: &mut [u8], found: Nudge) -> usize
-    requires { 67 ≤ length out.old }
-    ensures { Appended out.old out.new 0 result (nudge_line (nudge_of found)) }
+pub fn put_nudge(page: &mut Page<'_>, found: Option<usize>)
+    requires { page.old.at + 67 ≤ length page.old.bytes.now }
+    ensures { Written page.old page.new (nudge_line (option_of found)) }
 {
     match found {
-        Nudge::Nowhere => text::put(out, 0, b"(nudge none)\n"),
-        Nudge::At(i) => put_line(out, 0, b"(nudge", &[i as u64]),
+        None => page.put(b"(nudge none)\n"),
+        Some(i) => page.line(b"(nudge", &[i as u64]),
     }
 }

@@ -1,114 +1,71 @@
 // One exchange of neighbouring actions, tried.
-ghost use Rattle.std.specs.Prelude.{◌≡◌, map, ◌+◌, ◌≤◌, ◌<◌, length, drop};
+ghost use Rattle.std.specs.Prelude.{◌≡◌, ◌+◌, ◌<◌, length, drop};
 ghost use Rattle.cells_spec.specs.Machine.{pool as «machine»};
 ghost use Rattle.history_spec.specs.History.{history};
 ghost use Rattle.figure_lines.specs.Answers.{answer_of};
 ghost use Rattle.nudge_spec.specs.Exchange.{exchanged, moved_to};
-ghost use Rattle.nudge_spec.specs.Nudge.{answers_still};
+ghost use Rattle.nudge_spec.specs.Nudge.{same_answer, answers_still};
 ghost use Rattle.cells_theorems.specs.Reached.{Reached};
-ghost use Rattle.session_reader.specs.Kept.{FormNumbers};
-ghost use Rattle.session_reader.specs.Reading.{act_at};
+ghost use Rattle.session_engine.specs.Tool.{all_of};
 ghost use Rattle.nudge_tool.specs.Calls.{calls, answer_of_call};
-ghost use Rattle.nudge_tool.specs.Exchange.{state_with, nudges_at};
+ghost use Rattle.nudge_tool.specs.Exchange.{nudges_at};
 
-use crate::calls::{CallSummary, Frame, Noted, note};
-use crate::moves::{moved_to, same_answer};
+use crate::calls::CallSummary;
+use crate::follower::Follower;
+use crate::moves::moved_to;
 use crate::touching::collide;
-use buffers::copying::copied;
-use session_engine::actions::action_at;
-use session_engine::advance::advance;
+use figure_lines::Answer;
+use session_engine::actions::Actions;
 
-// Whether the call, followed to where exchange i has its begin, still answers the same. The actions up to i have been done. Pool and records
-// are copies, used up here.
+// The definitions' test of two answers.
+fn same_answer(a: Answer, b: Answer) -> bool
+    ensures { result ≡ same_answer (answer_of a) (answer_of b) }
+{
+    a == b
+}
+
+// Whether the call, followed to where exchange i has its begin, still answers the same. The actions up to i have been done. The pool is a
+// copy, used up here.
 fn follow(
+    before: Follower,
     pool: &mut [u32],
-    records: &mut [u32],
-    s: Frame,
-    forms: &[u32],
-    kept: &[u32],
+    actions: Actions<'_>,
     i: usize,
-    task: u32,
-    at: usize,
     call: CallSummary,
 ) -> bool
-    requires reached { Reached s.tasks s.cells (state_with s records.old) pool.old }
-    requires records_len { (length records.old ≡ 384) × (length kept.now ≤ 2000) × (i + 1 < length kept.now) }
-    requires form_numbers { FormNumbers (length forms.now) kept.now }
-    ensures { result ≡ answers_still (answer_of call.answer) (answer_of_call (moved_to i call.at) (calls task at i (history «machine» (state_with s records.old, pool.old) (drop i (exchanged i (map (act_at forms.now) kept.now)))))) }
+    requires reached { Reached before.s.tasks before.s.cells before.s pool.old }
+    requires two { i + 1 < length actions.kept.now }
+    ensures { result ≡ answers_still (answer_of call.answer) (answer_of_call (moved_to i call.at) (calls before.task before.begun i (history «machine» (before.s, pool.old) (drop i (exchanged i (all_of actions.entry)))))) }
 {
     let target = moved_to(i, call.at);
-    let answer = call.answer;
-    let mut j = i;
-    let mut k = at;
-    let mut last = s.last;
-    let mut current = s.current;
-    let mut counts = s.counts;
-    while j < kept.len() {
-        let a = action_at(forms, kept[moved_to(i, j)]);
-        let done = advance(
-            pool,
-            records,
-            &mut current,
-            &mut counts,
-            s.tasks,
-            s.cells,
-            s.blocks,
-            last,
-            a,
-        );
-        last = done.last;
-        let outcome = done.outcome;
-        let noted = note(task, a, outcome, k, j);
-        match noted {
-            Noted::Pending(b) => {
-                k = b;
-            }
-            Noted::Ended(now) => {
-                if k == target {
-                    return same_answer(answer, now);
-                }
+    let mut follower = before;
+    for j in i..actions.len() {
+        if let Some(answer) = follower.act(pool, j, actions.at(moved_to(i, j))) {
+            if follower.begun == target {
+                return same_answer(call.answer, answer);
             }
         }
-        j += 1;
     }
     false
 }
 
 // Whether exchange i nudges the call, tried on a copy of the state before it. Actions that do not touch the same cell need no trial.
 pub fn try_exchange(
+    before: Follower,
     pool: &[u32],
-    records: &[u32],
-    s: Frame,
-    forms: &[u32],
-    kept: &[u32],
+    actions: Actions<'_>,
     i: usize,
-    task: u32,
-    at: usize,
     call: CallSummary,
 ) -> bool
-    requires reached { Reached s.tasks s.cells (state_with s records.now) pool.now }
-    requires records_len { (length records.now ≡ 384) × (length kept.now ≤ 2000) × (i + 1 < length kept.now) }
-    requires form_numbers { FormNumbers (length forms.now) kept.now }
-    ensures { result ≡ nudges_at (state_with s records.now, pool.now) (map (act_at forms.now) kept.now) task at call.at (answer_of call.answer) i }
+    requires reached { Reached before.s.tasks before.s.cells before.s pool.now }
+    requires two { i + 1 < length actions.kept.now }
+    ensures { result ≡ nudges_at (before.s, pool.now) (all_of actions.entry) before.task before.begun call.at (answer_of call.answer) i }
 {
-    let a = action_at(forms, kept[i]);
-    let b = action_at(forms, kept[i + 1]);
-    if !collide(records, s.tasks, a, b) {
+    if !collide(&before.s, actions.at(i), actions.at(i + 1)) {
         return false;
     }
-    let words = pool.len();
-    let filled = records.len();
-    let mut p = copied(pool);
-    let mut r = copied(records);
-    !follow(
-        &mut p[..words],
-        &mut r[..filled],
-        s,
-        forms,
-        kept,
-        i,
-        task,
-        at,
-        call,
-    )
+    let mut room = [0; 640];
+    let copy = &mut room[..pool.len()];
+    copy.copy_from_slice(pool);
+    !follow(before, copy, actions, i, call)
 }

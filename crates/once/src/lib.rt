@@ -11,4 +11,5 @@ mod turn;
 pub use crate::offers::begin_offer;
 pub use crate::opening::open;
 pub use crate::steps::step;
-pub use once_spec::{Agreement, Offer, OnceCell, OnceReply, OnceState, Progress};
+pub use cells_spec::Refusal;
+pub use once_spec::{Agreement, Offer, OnceCell, OnceState};

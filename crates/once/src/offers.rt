@@ -1,11 +1,14 @@
 // The entry `begin_offer`.
 ghost use Rattle.std.specs.Prelude.{◌≡◌};
-ghost use Rattle.once_spec.specs.Figure.{given};
+ghost use Rattle.once_spec.specs.Figure.{allowed};
 ghost use Rattle.once_spec.specs.Entries.{first_offer, once_after, offer_begun};
 
-use once_spec::{Offer, OnceReply, OnceState, Progress};
+use crate::questions::{ask_offer, ask_place};
+use cells_spec::Refusal;
+use once_spec::{Offer, OnceState};
 
 // The offer of a task whose call begins.
+// Stays (2): two literals of one struct; `idle` is the other.
 fn first(cell: u32, value: u32) -> Offer
     ensures { result ≡ first_offer cell value }
 {
@@ -19,34 +22,15 @@ fn first(cell: u32, value: u32) -> Offer
 }
 
 // From here on the offer counts as made, whether the call ends or not.
-pub fn begin_offer(mut s: OnceState, task: u32, cell: u32, value: u32) -> OnceReply
-    ensures { once_after result.state (given result.progress) ≡ offer_begun s task cell value }
+pub fn begin_offer(s: &mut OnceState, task: u32, cell: u32, value: u32) -> Result<(), Refusal>
+    ensures { once_after s.new (allowed result) ≡ offer_begun s.old task cell value }
 {
+    ask_place(s, task, cell)?;
+    // Only now are there an offer and a cell to ask about.
     let t = task as usize;
     let k = cell as usize;
-    let fits = crate::questions::is_fit(s);
-    let n = crate::questions::place_refusal(fits, s.tasks, s.cells, task, cell);
-    if n != 0 {
-        return OnceReply {
-            state: s,
-            progress: Progress::Declined(n),
-        };
-    }
-    // Only now are there an offer and a cell to ask about.
-    let r = s.offers[t];
-    let mut m = s.words[k];
-    let i = crate::questions::offer_refusal(r, m.offered[t], value);
-    if i != 0 {
-        return OnceReply {
-            state: s,
-            progress: Progress::Declined(i),
-        };
-    }
-    m.offered[t] = true;
-    s.words[k] = m;
+    ask_offer(s.offers[t], s.words[k].offered[t], value)?;
+    s.words[k].offered[t] = true;
     s.offers[t] = first(cell, value);
-    OnceReply {
-        state: s,
-        progress: Progress::Proceeds,
-    }
+    Ok(())
 }

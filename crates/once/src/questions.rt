@@ -1,75 +1,75 @@
-// The questions of a begin and a step of the once-only cells, before anything is done. A refusal is the number of the first that
-// is answered no, or 0.
-ghost use Rattle.std.specs.Prelude.{◌≡◌, not, [], ◌∷◌, eqb, ltb};
-ghost use Rattle.std.proofs.Math.Option.{get_or};
-ghost use Rattle.figure_lines.specs.Record.{no_value};
+// The questions of a begin and a step of the once-only cells, before anything is done.
+ghost use Rattle.std.specs.Prelude.{◌≡◌, ◌<◌, OnOk};
+ghost use Rattle.std.specs.List.{list_all};
+ghost use Rattle.cells_spec.specs.Answers.{asked};
 ghost use Rattle.cells_spec.specs.Questions.{refusal};
-ghost use Rattle.once_spec.specs.Questions.{is_idle_offer, offer_fit, once_fit};
+ghost use Rattle.once_spec.specs.Questions.{offer_fit, once_fit};
+ghost use Rattle.once.specs.Asked.{begin_questions, place_questions, task_questions};
 
 use cells_questions::{cells_ok, tasks_ok};
+use cells_spec::Refusal;
 use figure_lines::records::NO_VALUE;
 use once_spec::{Offer, OnceState};
 
 // WHEN A STATE IS FIT
 
 // Idle offers are many: they leave first.
-fn offer_fit(r: Offer, cells: u32) -> bool
-    ensures { result ≡ offer_fit r cells }
+fn offer_fit(r: &Offer, cells: u32) -> bool
+    ensures { result ≡ offer_fit r.now cells }
 {
-    if r.line == 0 {
-        return true;
-    }
-    (r.cell < cells) & ((r.line <= 13) & (!(r.value == NO_VALUE) & (r.steps <= 9)))
+    r.line == 0 || (r.cell < cells) & (r.line <= 13) & (r.value != NO_VALUE) & (r.steps <= 9)
 }
 
-pub fn is_fit(s: OnceState) -> bool
-    ensures { result ≡ once_fit s }
+fn all_fit(offers: &[Offer], cells: u32) -> bool
+    ensures { result ≡ list_all (λ r. offer_fit r cells) offers.now }
 {
-    if !(tasks_ok(s.tasks) & cells_ok(s.cells)) {
-        return false;
-    }
-    let n = s.tasks as usize;
-    let mut t: usize = 0;
-    while t < n {
-        let r = s.offers[t];
-        if !offer_fit(r, s.cells) {
-            return false;
-        }
-        t = t + 1;
-    }
-    true
+    offers.iter().all(|r| offer_fit(r, cells))
 }
 
-// BEGIN AND STEP, of a state of which is known whether it is fit
-
-pub fn task_refusal(fits: bool, tasks: u32, task: u32) -> u32
-    ensures { result ≡ get_or (refusal ((6, fits) ∷ (7, ltb task tasks) ∷ [])) 0 }
+fn is_fit(s: &OnceState) -> bool
+    ensures { result ≡ once_fit s.now }
 {
-    if !fits {
-        return 6;
-    }
-    if task < tasks { 0 } else { 7 }
+    tasks_ok(s.tasks) && cells_ok(s.cells) && all_fit(&s.offers[..s.tasks as usize], s.cells)
 }
 
-pub fn place_refusal(fits: bool, tasks: u32, cells: u32, task: u32, cell: u32) -> u32
-    ensures { result ≡ get_or (refusal ((6, fits) ∷ (7, ltb task tasks) ∷ (8, ltb cell cells) ∷ [])) 0 }
+// BEGIN AND STEP
+
+pub fn ask_task(s: &OnceState, task: u32) -> Result<(), Refusal>
+    ensures questions { asked result ≡ refusal (task_questions s.now task) }
+    ensures within { OnOk result (task < 32) }
 {
-    let n = task_refusal(fits, tasks, task);
-    if n != 0 {
-        return n;
+    if !is_fit(s) {
+        return Err(Refusal::Unfit);
     }
-    if cell < cells { 0 } else { 8 }
+    if task >= s.tasks {
+        return Err(Refusal::NoSuchTask);
+    }
+    Ok(())
+}
+
+pub fn ask_place(s: &OnceState, task: u32, cell: u32) -> Result<(), Refusal>
+    ensures questions { asked result ≡ refusal (place_questions s.now task cell) }
+    ensures within { OnOk result ((task < 32) × (cell < 16)) }
+{
+    ask_task(s, task)?;
+    if cell >= s.cells {
+        return Err(Refusal::NoSuchCell);
+    }
+    Ok(())
 }
 
 // Of the task's offer, and whether the task has offered on the cell.
-pub fn offer_refusal(r: Offer, offered: bool, value: u32) -> u32
-    ensures { result ≡ get_or (refusal ((9, is_idle_offer r) ∷ (16, not offered) ∷ (10, not (eqb value no_value)) ∷ [])) 0 }
+pub fn ask_offer(r: Offer, offered: bool, value: u32) -> Result<(), Refusal>
+    ensures { asked result ≡ refusal (begin_questions r offered value) }
 {
     if r.line != 0 {
-        return 9;
+        return Err(Refusal::Busy);
     }
     if offered {
-        return 16;
+        return Err(Refusal::AlreadyOffered);
     }
-    if value == NO_VALUE { 10 } else { 0 }
+    if value == NO_VALUE {
+        return Err(Refusal::ReservedValue);
+    }
+    Ok(())
 }

@@ -3,35 +3,21 @@ ghost use Rattle.std.specs.Prelude.{◌≡◌};
 ghost use Rattle.once_spec.specs.Figure.{given};
 ghost use Rattle.once_spec.specs.Entries.{once_after, once_stepped};
 
-use once_spec::{OnceReply, OnceState, Progress};
+use crate::questions::ask_task;
+use crate::turn::take_turn;
+use cells_spec::Refusal;
+use once_spec::{Agreement, OnceState};
 
-// A busy task's next step.
-pub fn step(mut s: OnceState, task: u32) -> OnceReply
-    ensures { once_after result.state (given result.progress) ≡ once_stepped s task }
+// A busy task's next step: what its call agreed on, where that ends it.
+pub fn step(s: &mut OnceState, task: u32) -> Result<Option<Agreement>, Refusal>
+    ensures { once_after s.new (given result) ≡ once_stepped s.old task }
 {
-    let t = task as usize;
-    let fits = crate::questions::is_fit(s);
-    let n = crate::questions::task_refusal(fits, s.tasks, task);
-    if n != 0 {
-        return OnceReply {
-            state: s,
-            progress: Progress::Declined(n),
-        };
-    }
+    ask_task(s, task)?;
     // Only now is there an offer to ask about.
-    let r = s.offers[t];
-    if r.line == 0 {
-        return OnceReply {
-            state: s,
-            progress: Progress::Declined(11),
-        };
+    let t = task as usize;
+    if s.offers[t].line == 0 {
+        return Err(Refusal::Idle);
     }
-    let k = r.cell as usize;
-    let a = crate::turn::take_turn(task, r, s.words[k]);
-    let m = a.cell;
-    let q = a.offer;
-    let progress = a.progress;
-    s.words[k] = m;
-    s.offers[t] = q;
-    OnceReply { state: s, progress }
+    let k = s.offers[t].cell as usize;
+    Ok(take_turn(task, &mut s.offers[t], &mut s.words[k]))
 }

@@ -1,12 +1,15 @@
-// A busy task's next step on its cell, given the offer and the cell only, so that nothing copies the state.
+// A busy task's next step on its cell: it changes the task's offer and the cell, and answers what the call agreed on, where
+// that step ends it.
 ghost use Rattle.std.specs.Prelude.{◌≡◌, ℕ, ◌≤◌};
-ghost use Rattle.once_spec.specs.Figure.{idle_offer, given, stage_of, go_on, agree, stage_does, with_step, leaves};
+ghost use Rattle.once_spec.specs.declared.OnceCell.{OnceCell};
+ghost use Rattle.once_spec.specs.Figure.{idle_offer, made, stage_of, agree, stage_does, with_step, leaves};
 ghost use Rattle.once.specs.Turns.{leaves_of};
 
 use figure_lines::records::NO_VALUE;
-use once_spec::{Agreement, Offer, OnceCell, Progress};
+use once_spec::{Agreement, Offer, OnceCell};
 
 // The offer of a task without a call.
+// Stays (2): two literals of one struct; `first` is the other.
 pub fn idle() -> Offer
     ensures { result ≡ idle_offer }
 {
@@ -19,170 +22,127 @@ pub fn idle() -> Offer
     }
 }
 
-// What a step leaves, and what it answers.
-#[derive(Clone, Copy)]
-pub struct OnceTurn {
-    pub cell: OnceCell,
-    pub offer: Offer,
-    pub progress: Progress,
-}
-
-fn go_on(m: OnceCell, mut r: Offer, line: u32) -> OnceTurn
-    ensures { leaves_of result.cell result.offer (given result.progress) ≡ go_on m r line r.value }
+fn agree(r: &mut Offer, value: u32) -> Option<Agreement>
+    ensures { (m : OnceCell) → leaves_of m r.new (made result) ≡ agree m r.old value }
 {
-    r.line = line;
-    OnceTurn {
-        cell: m,
-        offer: r,
-        progress: Progress::Proceeds,
-    }
-}
-
-fn agree(m: OnceCell, r: Offer, value: u32) -> OnceTurn
-    ensures { leaves_of result.cell result.offer (given result.progress) ≡ agree m r value }
-{
-    let hard = if r.tried { 1 } else { 0 };
-    OnceTurn {
-        cell: m,
-        offer: idle(),
-        progress: Progress::Agreed(Agreement {
-            cell: r.cell,
-            value,
-            steps: r.steps,
-            hard,
-        }),
-    }
+    let agreement = Agreement {
+        cell: r.cell,
+        value,
+        steps: r.steps,
+        hard: u32::from(r.tried),
+    };
+    *r = idle();
+    Some(agreement)
 }
 
 // Each step counts, and the hardware CAS where it is one.
-fn with_step(mut r: Offer) -> Offer
-    requires { r.steps ≤ 9 }
-    ensures { result ≡ with_step r }
+fn count_step(r: &mut Offer)
+    requires { r.old.steps ≤ 9 }
+    ensures { r.new ≡ with_step r.old }
 {
-    r.steps = r.steps + 1;
-    r.tried = r.tried | (r.line == 12);
-    r
+    r.steps += 1;
+    r.tried |= r.line == 12;
 }
 
-pub fn take_turn(task: u32, r: Offer, m: OnceCell) -> OnceTurn
-    requires { r.steps ≤ 9 }
-    ensures { leaves_of result.cell result.offer (given result.progress) ≡ leaves task r m }
+// Stays (7): figure 1's own numbers of its lines, which the state holds.
+pub fn take_turn(task: u32, r: &mut Offer, m: &mut OnceCell) -> Option<Agreement>
+    requires { r.old.steps ≤ 9 }
+    ensures { leaves_of m.new r.new (made result) ≡ leaves task r.old m.old }
 {
-    let q = with_step(r);
-    let line = r.line;
-    match line {
-        1..=4 => split(task, q, m),
-        5..=7 => win(q, m),
-        8..=10 => lose(q, m),
-        11..=13 => decide(q, m),
-        _ => go_on(m, q, line),
+    count_step(r);
+    match r.line {
+        1..=4 => split(task, r, m),
+        5..=7 => win(r, m),
+        8..=10 => lose(r, m),
+        11..=13 => decide(r, m),
+        _ => None,
     }
 }
 
 // The offers below have counted the step.
 
 // Whoever finds Y false and then its own number in X wins.
-fn split(task: u32, r: Offer, mut m: OnceCell) -> OnceTurn
-    requires { (1 ≤ r.line) × (r.line ≤ 4) }
-    ensures { leaves_of result.cell result.offer (given result.progress) ≡ stage_does (stage_of r) task r m }
+fn split(task: u32, r: &mut Offer, m: &mut OnceCell) -> Option<Agreement>
+    requires { (1 ≤ r.old.line) × (r.old.line ≤ 4) }
+    ensures { leaves_of m.new r.new (made result) ≡ stage_does (stage_of r.old) task r.old m.old }
 {
-    let line = r.line;
-    match line {
+    match r.line {
         1 => {
             m.x = task;
-            go_on(m, r, 2)
+            r.line = 2;
         }
-        2 => {
-            if m.y == 0 {
-                go_on(m, r, 3)
-            } else {
-                go_on(m, r, 8)
-            }
-        }
+        2 => r.line = if m.y == 0 { 3 } else { 8 },
         3 => {
             m.y = 1;
-            go_on(m, r, 4)
+            r.line = 4;
         }
-        _ => {
-            if m.x == task {
-                go_on(m, r, 5)
-            } else {
-                go_on(m, r, 8)
-            }
-        }
+        _ => r.line = if m.x == task { 5 } else { 8 },
     }
+    None
 }
 
 // Decides alone, unless it finds contention.
-fn win(r: Offer, mut m: OnceCell) -> OnceTurn
-    requires { (5 ≤ r.line) × (r.line ≤ 7) }
-    ensures { (p : ℕ) → leaves_of result.cell result.offer (given result.progress) ≡ stage_does (stage_of r) p r m }
+fn win(r: &mut Offer, m: &mut OnceCell) -> Option<Agreement>
+    requires { (5 ≤ r.old.line) × (r.old.line ≤ 7) }
+    ensures { (p : ℕ) → leaves_of m.new r.new (made result) ≡ stage_does (stage_of r.old) p r.old m.old }
 {
-    let line = r.line;
-    match line {
+    match r.line {
         5 => {
             m.v = r.value;
-            go_on(m, r, 6)
+            r.line = 6;
+            None
         }
         6 => {
-            if m.c == 0 {
-                go_on(m, r, 7)
-            } else {
-                go_on(m, r, 11)
-            }
+            r.line = if m.c == 0 { 7 } else { 11 };
+            None
         }
         _ => {
             m.d = r.value;
-            agree(m, r, r.value)
+            agree(r, m.d)
         }
     }
 }
 
 // Says that there is contention, and takes over the winner's value where it stands.
-fn lose(mut r: Offer, mut m: OnceCell) -> OnceTurn
-    requires { (8 ≤ r.line) × (r.line ≤ 10) }
-    ensures { (p : ℕ) → leaves_of result.cell result.offer (given result.progress) ≡ stage_does (stage_of r) p r m }
+fn lose(r: &mut Offer, m: &mut OnceCell) -> Option<Agreement>
+    requires { (8 ≤ r.old.line) × (r.old.line ≤ 10) }
+    ensures { (p : ℕ) → leaves_of m.new r.new (made result) ≡ stage_does (stage_of r.old) p r.old m.old }
 {
-    let line = r.line;
-    match line {
+    match r.line {
         8 => {
             m.c = 1;
-            go_on(m, r, 9)
+            r.line = 9;
         }
-        9 => {
-            if m.v == NO_VALUE {
-                go_on(m, r, 11)
-            } else {
-                go_on(m, r, 10)
-            }
-        }
+        9 => r.line = if m.v == NO_VALUE { 11 } else { 10 },
         _ => {
             r.value = m.v;
-            go_on(m, r, 11)
+            r.line = 11;
         }
     }
+    None
 }
 
 // Answers D, which the hardware CAS sets where it is none.
-fn decide(r: Offer, mut m: OnceCell) -> OnceTurn
-    requires { (11 ≤ r.line) × (r.line ≤ 13) }
-    ensures { (p : ℕ) → leaves_of result.cell result.offer (given result.progress) ≡ stage_does (stage_of r) p r m }
+fn decide(r: &mut Offer, m: &mut OnceCell) -> Option<Agreement>
+    requires { (11 ≤ r.old.line) × (r.old.line ≤ 13) }
+    ensures { (p : ℕ) → leaves_of m.new r.new (made result) ≡ stage_does (stage_of r.old) p r.old m.old }
 {
-    let line = r.line;
-    match line {
+    match r.line {
         11 => {
             if m.d == NO_VALUE {
-                go_on(m, r, 12)
+                r.line = 12;
+                None
             } else {
-                agree(m, r, m.d)
+                agree(r, m.d)
             }
         }
         12 => {
             if m.d == NO_VALUE {
                 m.d = r.value;
             }
-            go_on(m, r, 13)
+            r.line = 13;
+            None
         }
-        _ => agree(m, r, m.d),
+        _ => agree(r, m.d),
     }
 }

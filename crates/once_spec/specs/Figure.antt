@@ -1,12 +1,13 @@
 -- Figure 1 of source document 003, one access a step, in the variant of section 3's last paragraph: who would return from line 3 first
 -- stores its value in D, and every other looks at D directly before its hardware CAS and, unless it is none, answers it instead.
-use Rattle.std.specs.Prelude.{Bool, true, false, ◌||◌, cond, List, [], ◌∷◌, ℕ, ◌+◌, eqb}
+use Rattle.std.specs.Prelude.{Bool, true, false, ◌||◌, cond, List, [], ◌∷◌, ℕ, ◌+◌, eqb, Option, None, Some, Ok, Err, ⊤}
+use Rattle.std.specs.declared.result.Result.{Result}
 use Rattle.figure_lines.specs.Record.{no_value}
 use Rattle.once_spec.specs.declared.OnceCell.{OnceCell}
 use Rattle.once_spec.specs.declared.Offer.{Offer}
 use Rattle.once_spec.specs.declared.Agreement.{Agreement}
-use Rattle.once_spec.specs.declared.Progress.{Progress}
-use Rattle.once_spec.specs.declared.Progress.TheVariants.{Declined, Proceeds, Agreed}
+use Rattle.cells_spec.specs.declared.refusal.Refusal.{Refusal}
+use Rattle.cells_spec.specs.Answers.{number}
 
 -- THE STEPS
 
@@ -48,17 +49,27 @@ is_cas cas_d = true
 is_cas read_d = false
 is_cas nowhere = false
 
--- WHAT AN ENTRY ANSWERS: for each case of the code's enum the paper's number and values. The promises use this.
+-- WHAT AN ENTRY ANSWERS: for each case of the code's results the paper's number and values. The promises use this.
 
 pub data Given : Type 0 where
   Refuses : (question : ℕ) → Given
   GoesOn : Given
   Ends : Agreement → Given
 
-abbrev pub given : Progress → Given
-given (Declined n) = Refuses n
-given Proceeds = GoesOn
-given (Agreed a) = Ends a
+-- a step that is made: the call goes on, or is finished
+abbrev pub made : Option Agreement → Given
+made None = GoesOn
+made (Some a) = Ends a
+
+-- a step
+abbrev pub given : Result (Option Agreement) Refusal → Given
+given (Err e) = Refuses (number e)
+given (Ok o) = made o
+
+-- an entry that ends no call
+abbrev pub allowed : Result ⊤ Refusal → Given
+allowed (Err e) = Refuses (number e)
+allowed (Ok u) = GoesOn
 
 -- WHAT A STEP LEAVES: the cell, the task's offer, and its answer
 

@@ -3,7 +3,8 @@
 #![tactic(auto)]
 
 // The figure's words, and who has offered there.
-#[derive(Clone, Copy)]
+// Stays (1): no value and no task are numbers of the state that users hand in; `fresh_cell` and `stage_does` name them so.
+#[derive(Clone, Copy, Debug, PartialEq, Eq, Default)]
 pub struct OnceCell {
     pub x: u32,
     pub y: u32,
@@ -14,19 +15,23 @@ pub struct OnceCell {
 }
 
 // What a task's pending call is about to do. Idle: line 0; an opening and a finished call leave every other field 0 too.
-#[derive(Clone, Copy)]
+#[derive(Clone, Copy, Debug, PartialEq, Eq, Default)]
 pub struct Offer {
     // The number of its next step (specs/Figure.antt has the table).
+    // Stays (1): users hand the state in with any number here; `offer_fit` asks of it.
     pub line: u32,
     pub cell: u32,
     // The value that it stands for: its own, until it takes over another.
     pub value: u32,
     pub steps: u32,
-    // Whether it has attempted its hardware CAS. A flag, since the fit question bounds no count of them.
+    // Whether it has attempted its hardware CAS.
+    // Stays (1): a flag of the state that users hand in, since `offer_fit` bounds no count of attempts.
     pub tried: bool,
 }
 
-#[derive(Clone, Copy)]
+// Any state may be opened, the default too; until then every other entry refuses the default by question 6.
+// Stays (6): fixed memory, and `once_start` fills all 16 and 32.
+#[derive(Clone, Copy, Debug, PartialEq, Eq, Default)]
 pub struct OnceState {
     pub tasks: u32,
     pub cells: u32,
@@ -35,26 +40,10 @@ pub struct OnceState {
 }
 
 // A finished call: the value agreed on its cell, its steps and hardware CAS attempts.
-#[derive(Clone, Copy)]
+#[derive(Clone, Copy, Debug, PartialEq, Eq)]
 pub struct Agreement {
     pub cell: u32,
     pub value: u32,
     pub steps: u32,
     pub hard: u32,
-}
-
-// What an entry answers: the number of the first question answered no; that it acted; that it acted and the task's call is
-// finished.
-#[derive(Clone, Copy)]
-pub enum Progress {
-    Declined(u32),
-    Proceeds,
-    Agreed(Agreement),
-}
-
-// What an entry hands back; a refused one hands back the state that it was given.
-#[derive(Clone, Copy)]
-pub struct OnceReply {
-    pub state: OnceState,
-    pub progress: Progress,
 }

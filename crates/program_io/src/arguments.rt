@@ -1,28 +1,20 @@
 // The numbers that a program is started with, for every tool that takes numbers.
-ghost use Rattle.std.specs.Prelude.{◌≡◌, ℕ, ◌-◌, ◌<◌, true, cond, length, take, slice_index};
+ghost use Rattle.std.specs.Prelude.{◌≡◌, ℕ, ◌-◌, ◌<◌, true, cond, IsSome, length, take, slice_index};
 ghost use Rattle.std.proofs.Math.Option.{none};
 ghost use Rattle.std.specs.Io.KnownBytes.{Appends, Keeps};
 ghost use Rattle.io.specs.Counts.{IsPrefixLen};
+ghost use Rattle.program_io.specs.Input.{count_of};
 ghost use Rattle.text.specs.Bytes.{bytes};
 ghost use Rattle.text.specs.Readers.{stored};
 ghost use Rattle.text.specs.Arguments.{argument, numbers_given, numbers_or};
 
-use crate::report::{Input, write_all};
+use crate::report::{Cut, write_all};
 use std::env::FillError;
 use std::io::Write;
 use std::rt::Env;
 
 // More than the arguments of any tool take together.
 pub const ARGUMENT_ROOM: usize = 4096;
-
-fn partial(count: usize) -> Input
-    ensures { result.count ≡ count }
-{
-    Input {
-        count,
-        whole: false,
-    }
-}
 
 // How many arguments the program was started with, its own name among them.
 pub fn argument_count(rt: &impl Env) -> usize {
@@ -34,11 +26,11 @@ pub fn argument_count(rt: &impl Env) -> usize {
     usize::MAX
 }
 
-// Every argument that the program was started with, each ended by byte 0, at the start of a buffer; not whole where one does
+// Every argument that the program was started with, each ended by byte 0, at the start of a buffer; an error where one does
 // not fit. Which bytes the system hands over no contract can say.
-pub fn gather(rt: &impl Env, buf: &mut [u8]) -> Input
-    ensures count { IsPrefixLen result.count buf.new }
-    ensures ended { 0 < result.count → slice_index buf.new (result.count - 1) ≡ 0 }
+pub fn gather(rt: &impl Env, buf: &mut [u8]) -> Result<usize, Cut>
+    ensures count { IsPrefixLen (count_of result) buf.new }
+    ensures ended { 0 < count_of result → slice_index buf.new (count_of result - 1) ≡ 0 }
 {
     let mut at = 0;
     for i in 1..usize::MAX {
@@ -46,24 +38,20 @@ pub fn gather(rt: &impl Env, buf: &mut [u8]) -> Input
             Ok(n) => {
                 let end = at + n;
                 if buf.len() <= end {
-                    return partial(at);
+                    return Err(Cut { count: at });
                 }
                 buf[end] = 0;
                 at = end + 1;
             }
-            Err(FillError::TooLong) => return partial(at),
-            Err(FillError::NotPresent) => {
-                return Input {
-                    count: at,
-                    whole: true,
-                };
-            }
+            Err(FillError::TooLong) => return Err(Cut { count: at }),
+            Err(FillError::NotPresent) => return Ok(at),
         }
     }
-    partial(at)
+    Err(Cut { count: at })
 }
 
 // Writes (bad 14), and how the program is used on standard error.
+// Stays (5): as at `take`.
 fn refuse<W: Write>(to: &mut W, usage: &[u8], what: &[u8], errors: &mut impl Write)
     ensures { (k : ℕ) × Appends (W.contents to.old) (W.contents to.new) (take k (bytes "(bad 14)\n")) }
 {
@@ -71,8 +59,10 @@ fn refuse<W: Write>(to: &mut W, usage: &[u8], what: &[u8], errors: &mut impl Wri
     let _ = errors.write_all(usage);
 }
 
+// Stays (5): writers and texts are no struct: `take` and `refuse` are called once each.
 // Stores the numbers of the arguments that were gathered, if all of them were; whether there are as many as places, and all
 // are numbers. Where not, writes (bad 14), and how the program is used on standard error.
+// Stays (6): three texts, no parallel arrays.
 pub fn take<W: Write>(
     line: &[u8],
     whole: bool,
@@ -96,4 +86,34 @@ pub fn take<W: Write>(
     }
     refuse(to, usage, what, errors);
     false
+}
+
+// The numbers that the program was started with. Where they are not N numbers, writes (bad 14), and how the program is used on
+// standard error.
+pub fn started_with<const N: usize, W: Write>(
+    rt: &impl Env,
+    to: &mut W,
+    usage: &[u8],
+    what: &[u8],
+    errors: &mut impl Write,
+) -> Option<[u32; N]>
+    ensures quiet { IsSome result → Keeps (W.contents to.old) (W.contents to.new) }
+    ensures written { (k : ℕ) × Appends (W.contents to.old) (W.contents to.new) (take k (bytes "(bad 14)\n")) }
+{
+    let mut line = [0; ARGUMENT_ROOM];
+    let mut numbers = [0; N];
+    let (length, whole) = match gather(rt, &mut line) {
+        Ok(length) => (length, true),
+        Err(cut) => (cut.count, false),
+    };
+    take(
+        &line[..length],
+        whole,
+        &mut numbers,
+        to,
+        usage,
+        what,
+        errors,
+    )
+    .then_some(numbers)
 }

@@ -1,25 +1,19 @@
 // The files that a program's arguments name, each of them a case.
-ghost use Rattle.std.specs.Prelude.{◌≡◌, length};
 ghost use Rattle.io.specs.Counts.{IsPrefixLen};
-ghost use Rattle.buffers.specs.Space.{zeros};
+ghost use Rattle.program_io.specs.Input.{count_of};
 
-use crate::report::{Input, read_all, say, write_all};
+use crate::report::{Cut, read_all, say, write_all};
 use std::env::FillError;
-use std::fs;
-use std::io::{Error, ErrorKind, Result, Write};
+use std::io::{Error, ErrorKind, Write};
 use std::rt::{Env, Files};
 use std::str::from_utf8;
+use std::{fs, io};
 
 // Room for any path.
 pub const NAME_ROOM: usize = 4096;
 
-// The numbers that a tool takes, and one byte more than a session may have.
-pub fn case_space() -> [u8; 65700]
-    ensures value { result ≡ zeros 65700 }
-    ensures value_2 { 65700 ≡ length result }
-{
-    [0; 65700]
-}
+// Room for the numbers that a tool takes, and for one byte more than a session may have.
+pub const CASE_ROOM: usize = 65700;
 
 // A file open for reading, none where that failed, and how long its name is.
 #[derive(Drop)]
@@ -36,7 +30,7 @@ fn why_no_argument(error: FillError) -> Error {
 }
 
 // A path has to be text.
-fn open<R: Files>(rt: &R, name: &[u8]) -> Result<R::File> {
+fn open<R: Files>(rt: &R, name: &[u8]) -> io::Result<R::File> {
     match from_utf8(name) {
         Ok(path) => fs::open(rt, path),
         Err(_) => Err(Error::from(ErrorKind::InvalidFilename)),
@@ -51,6 +45,7 @@ fn print_name(name: &[u8], to: &mut impl Write, errors: &mut impl Write) -> bool
         && write_all(to, b"\n", what, errors)
 }
 
+// Stays (5): handle, number and writers are no struct; three functions pass them, once each.
 // Writes # and the i-th argument, and opens the file of that name. What fails is said on standard error.
 pub fn open_case<R: Env + Files>(
     rt: &R,
@@ -92,17 +87,14 @@ pub fn read_case<R: Env + Files>(
     file: &mut [u8],
     to: &mut impl Write,
     errors: &mut impl Write,
-) -> Input
-    ensures { IsPrefixLen result.count file.new }
+) -> Result<usize, Cut>
+    ensures { IsPrefixLen (count_of result) file.new }
 {
     let mut name = [0; NAME_ROOM];
     let case = open_case(rt, i, &mut name, to, errors);
     let length = case.length;
     match case.file {
-        None => Input {
-            count: 0,
-            whole: false,
-        },
+        None => Err(Cut { count: 0 }),
         Some(mut from) => read_all(&mut from, file, &name[..length], errors),
     }
 }

@@ -3,4 +3,5 @@
 
 pub mod arguments;
 pub mod case_files;
+pub mod filter;
 pub mod report;

@@ -1,8 +1,9 @@
 // Reading and writing for programs: a call that fails gives one line on standard error, which says what failed and why.
 // Which bytes the system's calls read or write no contract can say; of a reader and a writer that tell their bytes it can.
-ghost use Rattle.std.specs.Prelude.{◌≡◌, ◌⊎◌, ℕ, ◌-◌, ◌≤◌, true, length, take};
+ghost use Rattle.std.specs.Prelude.{◌≡◌, ◌⊎◌, ℕ, ◌-◌, ◌≤◌, true, IfOk, length, take};
 ghost use Rattle.std.specs.Io.KnownBytes.{Appends, Consumes, IsAtEnd};
 ghost use Rattle.io.specs.Counts.{IsPrefixLen};
+ghost use Rattle.program_io.specs.Input.{count_of};
 
 use std::fmt::Display;
 use std::io::{Error, ErrorKind, Read, Write};
@@ -10,11 +11,10 @@ use std::io::{Error, ErrorKind, Read, Write};
 // So many calls may move nothing, as where a signal interrupts them: a program has to end.
 const PATIENCE: usize = 1000;
 
-// How many bytes stand at the buffer's start, and whether they are all that was to be read: not where a read failed.
-#[derive(Clone, Copy)]
-pub struct Input {
+// Not all was read that was to be: how many bytes at the buffer's start are read all the same.
+#[derive(Clone, Copy, Debug, PartialEq, Eq)]
+pub struct Cut {
     pub count: usize,
-    pub whole: bool,
 }
 
 // What failed and why, in a line. Where the line fails too, nobody is left to tell.
@@ -23,6 +23,7 @@ pub fn say<E: Write>(errors: &mut E, what: &[u8], why: impl Display + Drop) {
     let _ = write!(errors, ": {why}\n");
 }
 
+// Stays (5): errors and what failed are no struct, since each call names another thing that failed, and would make one for it.
 // After a call that failed: how many more are worth it. If none is, what failed has been said.
 fn again<E: Write>(error: Error, left: usize, what: &[u8], errors: &mut E) -> usize
     ensures { result ≤ left - 1 }
@@ -45,43 +46,33 @@ fn unmoved<E: Write>(left: usize, what: &[u8], errors: &mut E) -> usize
     left - 1
 }
 
-// Reads until the buffer is full or the input ends.
+// Reads until the buffer is full or the input ends, and answers how many bytes that were; an error where a read failed.
 pub fn read_all<R: Read, E: Write>(
     from: &mut R,
     buf: &mut [u8],
     what: &[u8],
     errors: &mut E,
-) -> Input
-    ensures count { IsPrefixLen result.count buf.new }
-    ensures bytes { Consumes (R.remaining from.old) (R.remaining from.new) (take result.count buf.new) }
-    ensures whole { result.whole ≡ true → (result.count ≡ length buf.new) ⊎ IsAtEnd (R.remaining from.new) }
+) -> Result<usize, Cut>
+    ensures count { IsPrefixLen (count_of result) buf.new }
+    ensures bytes { Consumes (R.remaining from.old) (R.remaining from.new) (take (count_of result) buf.new) }
+    ensures whole { IfOk result (λ n. (n ≡ length buf.new) ⊎ IsAtEnd (R.remaining from.new)) }
 {
     let mut done = 0;
     let mut left = PATIENCE;
+    // Stays (3): a turn reads as many bytes as the reader gives, so nothing is counted.
     while done < buf.len() {
         match from.read(&mut buf[done..]) {
-            Ok(0) => {
-                return Input {
-                    count: done,
-                    whole: true,
-                };
-            }
+            Ok(0) => return Ok(done),
             Ok(n) => done += n,
             Err(e) => {
                 left = again(e, left, what, errors);
                 if left == 0 {
-                    return Input {
-                        count: done,
-                        whole: false,
-                    };
+                    return Err(Cut { count: done });
                 }
             }
         }
     }
-    Input {
-        count: done,
-        whole: true,
-    }
+    Ok(done)
 }
 
 // Writes all of a text, and answers whether that went well: where not, a part of it from its start was written.
@@ -91,6 +82,7 @@ pub fn write_all<W: Write, E: Write>(to: &mut W, text: &[u8], what: &[u8], error
 {
     let mut rest = text;
     let mut left = PATIENCE;
+    // Stays (3): as above; and std's write_all promises no part of the text where it fails.
     while !rest.is_empty() {
         match to.write(rest) {
             Ok(0) => left = unmoved(left, what, errors),

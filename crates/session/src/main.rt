@@ -1,29 +1,22 @@
 // Reads a session from standard input and writes what it prints.
 #![tactic(auto)]
 
-use buffers::{file_space, text_space};
-use program_io::report::{read_all, write_all};
+use buffers::{FILE, TEXT, zeroed};
+use program_io::filter::{Messages, filter};
 use session_tool::run_session;
 
+// Stays (2): a program names its tool, its room and its messages; what programs share is `filter`.
 fn main(rt: HostRuntime) {
-    let mut errors = rt.stderr();
-    let mut file = file_space();
-    let read = read_all(
+    filter(
         &mut rt.stdin(),
-        &mut file,
-        b"session: cannot read standard input",
-        &mut errors,
-    );
-    if !read.whole {
-        return;
-    }
-    let n = read.count;
-    let mut out = text_space();
-    let end = run_session(&file[..n], &mut out);
-    write_all(
+        &mut zeroed::<FILE>(),
+        &mut zeroed::<TEXT>(),
+        |file, out| run_session(file, out),
         &mut rt.stdout(),
-        &out[..end],
-        b"session: cannot write standard output",
-        &mut errors,
+        Messages {
+            cannot_read: b"session: cannot read standard input",
+            cannot_write: b"session: cannot write standard output",
+        },
+        &mut rt.stderr(),
     );
 }

@@ -1,20 +1,22 @@
 -- What a session file leads to: no session, cells that are not opened, or cells that are and the actions to do on them.
-use Rattle.std.specs.Prelude.{◌≡◌, List, [], map, ℕ, ◌≤◌, length, take, replicate}
+use Rattle.std.specs.Prelude.{◌≡◌, List, map, ℕ, ◌≤◌, length, take, replicate}
 use Rattle.cells_spec.specs.declared.State.{State}
-use Rattle.figure_lines.specs.Record.{idle}
-use Rattle.cells_spec.specs.Answers.{Refused, Acted, Ended}
+use Rattle.cells_spec.specs.Answers.{Refused, Acted, Ended, number}
 use Rattle.cells_spec.specs.Open.{After, blank}
 use Rattle.cells_spec.specs.Machine.{Pool}
-use Rattle.cells_theorems.specs.Reached.{Reached}
 use Rattle.history_spec.specs.History.{Action}
 use Rattle.session_spec.specs.Session.{Verdict, bad, session}
-use Rattle.session_reader.specs.Reading.{act_at}
+use Rattle.session_reader.specs.Reading.{act_at, question}
 use Rattle.session_reader.specs.Kept.{FormNumbers}
 use Rattle.session_reader.specs.Tables.{over}
 use Rattle.session_spec.specs.Printed.{opened_by}
 use Rattle.text.specs.Lines.{bad_line}
-use Rattle.session_engine.specs.declared.starts.SessionOpening.{SessionOpening}
-use Rattle.session_engine.specs.declared.starts.SessionOpening.TheVariants as opening
+use Rattle.session_engine.specs.Tool.{Fresh}
+use Rattle.std.specs.Prelude.{Ok, Err}
+use Rattle.std.specs.declared.result.Result.{Result}
+use Rattle.session_engine.specs.declared.start.Started.{Started}
+use Rattle.session_engine.specs.declared.start.StartError.{StartError}
+use Rattle.session_engine.specs.declared.start.StartError.TheVariants as error
 
 pub data Start : Type 0 where
   no_session : ℕ → Start
@@ -45,25 +47,24 @@ tool_start text (ready n v x l) = text n x l
 
 -- THE CODE'S ANSWER, and the buffers that it speaks of
 
-abbrev pub start_at : SessionOpening → State → (forms kept pool : List ℕ) → Start
-start_at (opening.NoSession n) s f k p = no_session n
-start_at (opening.NotOpened n) s f k p = not_opened n
-start_at (opening.Open n v w i) s f k p = ready n v (s, take w p) (map (act_at f) (take i k))
+abbrev pub Answer : Type 0
+Answer = Result Started StartError
 
--- newly opened: no task has begun
-pub record New (n v : ℕ) (s : State) (w : ℕ) (p : List ℕ) : Type 0 where
-  pub within : w ≤ length p
-  pub reached : Reached n v s (take w p)
-  pub no_actions : reached.actions ≡ []
-  pub all-idle : s.records ≡ replicate 32 idle
+abbrev pub start_at : Answer → (forms kept pool : List ℕ) → Start
+start_at (Err (error.NoSession e)) f k p = no_session (question e)
+start_at (Err (error.NotOpened r)) f k p = not_opened (number r)
+start_at (Ok o) f k p = ready o.state.tasks o.state.cells (o.state, take o.words p) (map (act_at f) (take o.actions k))
 
-abbrev pub Opens : SessionOpening → State → (actions : ℕ) → (pool : List ℕ) → Type 0
-Opens (opening.NoSession n) s i p = Unit {0}
-Opens (opening.NotOpened n) s i p = Unit {0}
-Opens (opening.Open n v w j) s i p = New n v s w p × (j ≡ i)
+-- refused, the state stays blank
+abbrev pub state_after : Answer → State
+state_after (Err e) = blank
+state_after (Ok o) = o.state
+
+abbrev pub Opens : Answer → (actions : ℕ) → (pool : List ℕ) → Type 0
+Opens (Err e) i p = Unit {0}
+Opens (Ok o) i p = (o.words ≤ length p) × Fresh o.state (take o.words p) × (o.actions ≡ i)
 
 -- the actions were kept, and each numbers a form
-abbrev pub Startable : SessionOpening → State → (forms kept pool : List ℕ) → Type 0
-Startable (opening.NoSession n) s f k p = Unit {0}
-Startable (opening.NotOpened n) s f k p = Unit {0}
-Startable (opening.Open n v w i) s f k p = New n v s w p × (i ≤ length k) × (length k ≡ 65535) × FormNumbers (length f) (take i k)
+abbrev pub Startable : Answer → (forms kept pool : List ℕ) → Type 0
+Startable (Err e) f k p = Unit {0}
+Startable (Ok o) f k p = (o.words ≤ length p) × Fresh o.state (take o.words p) × (o.actions ≤ length k) × (length k ≡ 65535) × FormNumbers (length f) (take o.actions k)

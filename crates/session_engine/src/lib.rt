@@ -1,13 +1,7 @@
-// A session opened, and one action done in place.
+// A session opened, one action done, and the run that every tool shares.
 #![tactic(auto)]
 
 pub mod actions;
 pub mod advance;
-mod moves;
-pub mod places;
-pub mod records;
 pub mod start;
-mod starts;
-pub mod whole;
-
-pub use crate::starts::{SessionOpening, Started};
+pub mod tool;

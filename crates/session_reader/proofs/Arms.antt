@@ -1,5 +1,5 @@
--- What an arm of a match on an answer knows, and the readers that follow one another in a form's head and in open.
-use mathlib.Core.Path.{◌≡◌, ap, subst, ◌∙◌}
+-- The readers that follow one another in a form's head and in open.
+use mathlib.Core.Path.{◌≡◌, refl, ap, ◌∙◌}
 use mathlib.Core.List.{List}
 use mathlib.Core.Option.{none}
 use Prim.Native.Nat.{ℕ, ◌*◌, ◌≤◌}
@@ -8,29 +8,21 @@ use lib.ListN.{take, drop, get_or}
 use lib.Seq.{get_or-take}
 use Rattle.text.specs.Bytes.{bytes}
 use Rattle.text.specs.Readers.{Reads, literal, stored}
+use Rattle.std.specs.Prelude.{Option, Some, None}
 use Rattle.text.specs.Answers.{PlaceIs}
 use Rattle.text.proofs.Several.{stored-rest}
-use Rattle.text.specs.declared.Place.{Place}
-use Rattle.text.specs.declared.Place.TheVariants as place
 use Rattle.session_spec.specs.Session.{FormKind, reading, swapping, stepping, dropping, repeating, arity, keyword, head, item, several_items, values, read_opening}
-use Rattle.session_reader.specs.Answers.{form_number, KeywordIs, ValuesAre, Led, LeadIs}
-use Rattle.session_reader.specs.declared.reading.Word.{Word}
-use Rattle.session_reader.specs.declared.reading.Word.TheVariants as key
-use Rattle.session_reader.specs.declared.reading.ValuesRead.{ValuesRead}
-use Rattle.session_reader.specs.declared.reading.ValuesRead.TheVariants as valuesRead
+use Rattle.session_reader.specs.Answers.{kind_of, form_number, Led, LeadIs}
+use Rattle.session_reader.specs.declared.reading.Keyword.{Keyword}
+use Rattle.session_reader.specs.declared.reading.Keyword.TheVariants as word
 
-module _ (s : List ℕ) (at : ℕ) where
-  pub keyword-at : {r : Word} {n k next : ℕ} → r ≡ key.Known n k next → KeywordIs s at r → (kind : FormKind) × (n ≡ form_number kind) × (k ≡ arity kind) × Reads keyword s at 5 kind next
-  keyword-at q x = subst (KeywordIs s at) q x
-
-  pub keyword_no : {r : Word} → r ≡ key.Unknown → KeywordIs s at r → keyword (drop at s) ≡ none
-  keyword_no q x = subst (KeywordIs s at) q x
-
-  pub values-at : (out : List ℕ) {r : ValuesRead} {n next : ℕ} → r ≡ valuesRead.Read n next → ValuesAre s at out r → Reads values s at 1 (take n out) next
-  values-at out q x = subst (ValuesAre s at out) q x
-
-  pub values_no : (out : List ℕ) {r : ValuesRead} → r ≡ valuesRead.Wrong → ValuesAre s at out r → values (drop at s) ≡ none
-  values_no out q x = subst (ValuesAre s at out) q x
+-- every word but again is an action's
+pub acts : (w : Keyword) → (w ≡ word.Again → ⊥) → form_number (kind_of w) ≡ 0 → ⊥
+acts word.Read n e = omega arith
+acts word.Swap n e = omega arith
+acts word.Step n e = omega arith
+acts word.Drop n e = omega arith
+acts word.Again n e = n refl
 
 pub few-numbers : (k : FormKind) → (1 ≤ arity k) × (arity k ≤ 4)
 few-numbers reading = (omega arith, omega arith)
@@ -55,16 +47,10 @@ module _ (s : List ℕ) (at : ℕ) {kind : FormKind} {a : ℕ} (x : Reads keywor
 
 -- the parts of open, one after another
 module _ (s n : List ℕ) where
-  pub lead_at : {r : Place} {next : ℕ} → r ≡ place.At next → LeadIs s n r → Led s n next
-  lead_at q x = subst (LeadIs s n) q x
-
-  pub lead_no : {r : Place} → r ≡ place.Nowhere → LeadIs s n r → read_opening s ≡ none
-  lead_no q x = subst (LeadIs s n) q x
-
-  pub lead_ends : {a b : ℕ} → Reads (literal (bytes "(open")) s 0 5 tt a → Reads (several_items 3) s a 6 (take 3 n) b → (r : Place) → PlaceIs (literal (bytes " (")) s b 2 r → LeadIs s n r
+  pub lead_ends : {a b : ℕ} → Reads (literal (bytes "(open")) s 0 5 tt a → Reads (several_items 3) s a 6 (take 3 n) b → (r : Option ℕ) → PlaceIs (literal (bytes " (")) s b 2 r → LeadIs s n r
   unfolding read_opening
-  lead_ends x y place.Nowhere e = rw (x.finds, y.finds, e)
-  lead_ends {a} {b} x y (place.At next) z = record { a = a; b = b; opens = x; three = y; starts = z }
+  lead_ends x y None e = rw (x.finds, y.finds, e)
+  lead_ends {a} {b} x y (Some next) z = record { a = a; b = b; opens = x; three = y; starts = z }
 
   module _ {c : ℕ} (x : Led s n c) where
     pub values_wrong : values (drop c s) ≡ none → read_opening s ≡ none

@@ -1,39 +1,42 @@
 -- The cases of a form, at a place of the text.
-use mathlib.Core.Path.{◌≡◌, refl, sym, ap, subst, ◌∙◌}
+use mathlib.Core.Path.{◌≡◌, refl, sym, ap, ◌∙◌}
 use mathlib.Core.List.{List, [], ◌∷◌}
 use mathlib.Core.Option.{none}
 use Prim.Native.Nat.{ℕ, suc, ◌+◌, ◌-◌}
 use native.Mathlib.Omega.{arith}
-use lib.ListN.{take, drop, get_or, replicate}
+use lib.ListN.{length, take, drop, get_or, replicate}
 use lib.Seq.{get_or-take, get_or-drop}
 use Rattle.text.specs.Readers.{Reader, Reads, pure, ◌>>=◌, ◌>>◌}
 use Rattle.session_spec.specs.Session.{FormKind, reading, swapping, stepping, dropping, repeating, arity, head, close, Forms, act, again, body, list, form}
 use Rattle.session_reader.specs.Reading.{acted}
 use Rattle.session_reader.specs.Tables.{table_of, done}
-use Rattle.session_reader.specs.Answers.{form_number, HeadIs}
-use Rattle.session_reader.specs.declared.reading.HeadRead.{HeadRead}
-use Rattle.session_reader.specs.declared.reading.HeadRead.TheVariants as headRead
-
-pub head_at : (s : List ℕ) (at : ℕ) (o p : List ℕ) {r : HeadRead} {n next : ℕ} → r ≡ headRead.Known n next → HeadIs s at o p r → (kind : FormKind) × (n ≡ form_number kind) × Reads head s at 7 (kind, take (arity kind) p) next × (drop (arity kind) p ≡ drop (arity kind) o)
-head_at s at o p q x = subst (HeadIs s at o p) q x
-
-pub head_no : (s : List ℕ) (at : ℕ) (o p : List ℕ) {r : HeadRead} → r ≡ headRead.Unknown → HeadIs s at o p r → head (drop at s) ≡ none
-head_no s at o p q x = subst (HeadIs s at o p) q x
+use Rattle.session_reader.specs.Answers.{form_number}
 
 -- a number that a kind does not have is what it was
 unread : (k i : ℕ) (o p : List ℕ) → drop k p ≡ drop k o → get_or p (k + i) 0 ≡ get_or o (k + i) 0
 unread k i o p e = sym (get_or-drop k p i 0) ∙ ap (λ (l : List ℕ). get_or l i 0) e ∙ get_or-drop k o i 0
 
+four : (l : List ℕ) → length l ≡ 4 → l ≡ get_or l 0 0 ∷ get_or l 1 0 ∷ get_or l 2 0 ∷ get_or l 3 0 ∷ []
+four [] h = absurd (omega arith)
+four (a ∷ []) h = absurd (omega arith)
+four (a ∷ b ∷ []) h = absurd (omega arith)
+four (a ∷ b ∷ c ∷ []) h = absurd (omega arith)
+four (a ∷ b ∷ c ∷ d ∷ []) h = refl
+four (a ∷ b ∷ c ∷ d ∷ e ∷ l) h = absurd (omega arith)
+
 -- so with zeros at first the five words are those of the action
-pub act-table : (k : FormKind) (n : ℕ) (out : List ℕ) → n ≡ form_number k → (form_number k ≡ 0 → ⊥) → drop (arity k) out ≡ drop (arity k) (replicate {A = ℕ} 4 0) → table_of (done (act (acted (form_number k) out))) ≡ n ∷ get_or out 0 0 ∷ get_or out 1 0 ∷ get_or out 2 0 ∷ get_or out 3 0 ∷ []
+act_words : (k : FormKind) (out : List ℕ) → (form_number k ≡ 0 → ⊥) → drop (arity k) out ≡ drop (arity k) (replicate {A = ℕ} 4 0) → table_of (done (act (acted (form_number k) out))) ≡ form_number k ∷ get_or out 0 0 ∷ get_or out 1 0 ∷ get_or out 2 0 ∷ get_or out 3 0 ∷ []
 unfolding done table_of
-act-table reading n out q h e = rw (q, unread 2 0 (replicate {A = ℕ} 4 0) out e, unread 2 1 (replicate {A = ℕ} 4 0) out e)
-act-table swapping n out q h e = rw q
-act-table stepping n out q h e =
-    rw (q, unread 1 0 (replicate {A = ℕ} 4 0) out e, unread 1 1 (replicate {A = ℕ} 4 0) out e, unread 1 2 (replicate {A = ℕ} 4 0) out e)
-act-table dropping n out q h e =
-    rw (q, unread 1 0 (replicate {A = ℕ} 4 0) out e, unread 1 1 (replicate {A = ℕ} 4 0) out e, unread 1 2 (replicate {A = ℕ} 4 0) out e)
-act-table repeating n out q h e = absurd (h refl)
+act_words reading out h e = rw (unread 2 0 (replicate {A = ℕ} 4 0) out e, unread 2 1 (replicate {A = ℕ} 4 0) out e)
+act_words swapping out h e = refl
+act_words stepping out h e =
+    rw (unread 1 0 (replicate {A = ℕ} 4 0) out e, unread 1 1 (replicate {A = ℕ} 4 0) out e, unread 1 2 (replicate {A = ℕ} 4 0) out e)
+act_words dropping out h e =
+    rw (unread 1 0 (replicate {A = ℕ} 4 0) out e, unread 1 1 (replicate {A = ℕ} 4 0) out e, unread 1 2 (replicate {A = ℕ} 4 0) out e)
+act_words repeating out h e = absurd (h refl)
+
+pub act-table : (k : FormKind) (n : ℕ) (out : List ℕ) → n ≡ form_number k → length out ≡ 4 → (form_number k ≡ 0 → ⊥) → drop (arity k) out ≡ drop (arity k) (replicate {A = ℕ} 4 0) → table_of (done (act (acted (form_number k) out))) ≡ n ∷ out
+act-table k n out q l h e = act_words k out h e ∙ sym (rw q (ap (λ (w : List ℕ). form_number k ∷ w) (four out l)))
 
 again-body : (k : FormKind) (out : List ℕ) (inner : Reader Forms) → form_number k ≡ 0 → body inner k (take (arity k) out) ≡ (inner >>= λ l. pure (again (get_or out 0 0) l))
 unfolding body

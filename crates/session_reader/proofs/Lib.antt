@@ -1,4 +1,3 @@
-pub mod Counted
 pub mod Arms
 pub mod Turns
 pub mod Denoting
@@ -9,3 +8,4 @@ pub mod Forming
 pub mod Verdicts
 mod Examples
 mod Listed
+pub mod Parsing

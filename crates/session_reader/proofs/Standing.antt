@@ -1,22 +1,16 @@
 -- What is kept of forms that were read.
 use mathlib.Core.Path.{◌≡◌, refl, sym, ap, ◌∙◌}
-use mathlib.Core.Bool.{Bool, true, false, cond, ◌||◌, false≢true}
+use mathlib.Core.Bool.{Bool, true, false, ◌||◌, false≢true}
 use mathlib.Core.List.{List, [], ◌∷◌, ◌++◌, append-nil}
-use mathlib.Core.Option.{Option, none, some}
 use Prim.Native.Nat.{ℕ, zero, suc, ◌+◌, ◌-◌, ◌*◌, ◌≤◌, ◌<◌}
 use native.Mathlib.Nat.{mul-le-mul_right}
 use native.Mathlib.Omega.{arith}
-use lib.Dec.{leb}
-use lib.ListN.{length, take, drop, get_or, set, length-set, length-append, take-append-drop}
-use lib.Seq.{length-take-le}
-use borrow.Author.Tests.{leb-true, leb-false}
+use lib.ListN.{length, take, drop, set, length-append, take-append-drop}
 use Rattle.text.specs.Append.{Appended}
 use Rattle.text.proofs.Appending.{nothing, one, then, stored_then, front, behind, later, whole}
 use Rattle.session_spec.specs.Session.{again, Forms, times}
-use Rattle.session_reader.specs.Answers.{Far, Kept, kept, got_of, Stands, KeptIs, of_form}
+use Rattle.session_reader.specs.Answers.{Far, Kept, kept, Stands, of_form}
 use Rattle.session_reader.specs.Tables.{done, done_of, form_names, form_names_of, over, table_of}
-use Rattle.session_reader.specs.declared.reading.Got.{Got}
-use Rattle.session_reader.specs.declared.reading.Got.TheVariants as got
 use Rattle.session_reader.proofs.Repeated.{length_times}
 
 -- nothing read
@@ -119,13 +113,11 @@ stands-whole {F} {G} {A} {B} {b} {t} {w} x e =
     let j : b.actions ≡ length w = omega (arith, y.1.stored.next) in
     (j, whole y.0 ∙ ap (λ (k : ℕ). t ++ drop k F) i, whole y.1 ∙ ap (λ (k : ℕ). w ++ drop k A) j)
 
--- forms that stand no times, read with no room for an action
-pub again_none : {F G A B : List ℕ} {f n : ℕ} {b : Kept} {t w : List ℕ} (c : ℕ) (l : Forms) → Stands F G (take n A) B f n b t w → c ≡ 0 → n ≤ length A → 5 * f ≤ length F → Stands F G A (B ++ drop n A) f n (kept false f n) (of_form.table (again c l)) (of_form.words f (again c l))
+-- forms that stand no times: nothing is kept
+pub again_none : (F A : List ℕ) (f n c : ℕ) (l : Forms) → c ≡ 0 → n ≤ length A → 5 * f ≤ length F → Stands F F A A f n (kept false f n) (of_form.table (again c l)) (of_form.words f (again c l))
 unfolding done form_names table_of
-again_none {F} {A = A} {f = f} {n = n} zero l x e h g =
-    let s = x.still (omega (arith, length-take-le n A h)) in
-    rw (s.0, s.1, take-append-drop n A) (stands_nothing F A f n g h)
-again_none (suc c) l x e h g = absurd (omega arith)
+again_none F A f n zero l e h g = stands_nothing F A f n g h
+again_none F A f n (suc c) l e h g = absurd (omega arith)
 
 -- and that stand some
 module _ (c : ℕ) (l : Forms) (z : c ≡ 0 → ⊥) where
@@ -140,46 +132,7 @@ module _ (c : ℕ) (l : Forms) (z : c ≡ 0 → ⊥) where
   unfolding form_names
   again-names f = ap (λ (i : ℕ). form_names f (again i l)) again-some ∙ ap (λ (i : ℕ). times i (form_names_of f l)) (sym again-some)
 
-next_one : {a b : List ℕ} {p q : ℕ} {t : List ℕ} (i x : ℕ) → Appended a b p q t → q ≡ i → i < length b → Appended a (set b i x) p (i + 1) (t ++ (x ∷ []))
-next_one {b = b} i x y e h = then (rw e at y) (one b i x h)
-
--- an answer is known by what it stands for
-abbrev answered : Option (ℕ × Kept) → Got
-answered none = got.Bad
-answered (some (next, k)) = got.At next k.over k.forms k.actions
-
-got_is : (r : Got) {x : Option (ℕ × Kept)} → got_of r ≡ x → r ≡ answered x
-got_is got.Bad e = ap answered e
-got_is (got.At next o f n) e = ap answered e
-
 -- one form kept, and an action of it
-module _ (F A : List ℕ) (f n kind next : ℕ) (numbers : List ℕ) (g : 5 * f + 5 ≤ length F) (h : n ≤ length A) where
-  abbrev filled : List ℕ
-  filled =
-      set (set (set (set (set F (5 * f) kind) (5 * f + 1) (get_or numbers 0 0)) (5 * f + 2) (get_or numbers 1 0)) (5 * f + 3) (get_or numbers 2 0)) (5 * f + 4) (get_or numbers 3 0)
-
-  abbrev five : List ℕ
-  five = kind ∷ get_or numbers 0 0 ∷ get_or numbers 1 0 ∷ get_or numbers 2 0 ∷ get_or numbers 3 0 ∷ []
-
-  five_kept : Appended F filled (5 * f) (5 * (f + 1)) five
-  five_kept =
-      let e : 5 * (f + 1) ≡ 5 * f + 4 + 1 = omega arith in
-      rw e
-      (next_one (5 * f + 4) (get_or numbers 3 0)
-      (next_one (5 * f + 3) (get_or numbers 2 0)
-      (next_one (5 * f + 2) (get_or numbers 1 0)
-      (next_one (5 * f + 1) (get_or numbers 0 0) (one F (5 * f) kind (omega arith)) refl (simp length-set (omega arith)))
-      (omega arith) (simp length-set (omega arith))) (omega arith) (simp length-set (omega arith))) (omega arith) (simp length-set (omega arith)))
-
-  keep_over : length A ≤ n → Stands F F A A f n (kept true f n) five (f ∷ [])
-  keep_over k = record { more-forms = omega arith; more-actions = omega arith; fits = omega arith; room = h; far = omega arith; still = λ _. (refl, refl) }
-
-  keep_one : n < length A → Stands F filled A (set A n f) f n (kept false (f + 1) (n + 1)) five (f ∷ [])
-  keep_one k = record { more-forms = omega arith; more-actions = omega arith; fits = omega arith; room = omega arith; far = (five_kept, one A n f k); still = λ w. absurd (omega arith) }
-
-  pub keep_is : (r : Got) {G B : List ℕ} → got_of r ≡ some (next, cond (leb (length A) n) (kept true f n) (kept false (f + 1) (n + 1))) → G ≡ cond (leb (length A) n) F filled → B ≡ cond (leb (length A) n) A (set A n f) → KeptIs F G A B f n next (f + 1) five (f ∷ []) r
-  keep_is r p q e = rw (got_is r p, q, e) (go (leb (length A) n) (leb-true (length A) n) (leb-false (length A) n))
-    where
-      go : (o : Bool) → (o ≡ true → length A ≤ n) → (o ≡ false → n < length A) → KeptIs F (cond o F filled) A (cond o A (set A n f)) f n next (f + 1) five (f ∷ []) (answered (some (next, cond o (kept true f n) (kept false (f + 1) (n + 1)))))
-      go true x y = (refl, keep_over (x refl), omega arith)
-      go false x y = (refl, keep_one (y refl), omega arith)
+module _ (F A G : List ℕ) (f n : ℕ) (five : List ℕ) (g : 5 * f + 5 ≤ length F) (h : n ≤ length A) where
+  pub keep_one : n < length A → Appended F G (5 * f) (5 * (f + 1)) five → Stands F G A (set A n f) f n (kept false (f + 1) (n + 1)) five (f ∷ [])
+  keep_one k x = record { more-forms = omega arith; more-actions = omega arith; fits = omega arith; room = omega arith; far = (x, one A n f k); still = λ w. absurd (omega arith) }

@@ -1,10 +1,10 @@
 -- The verdict, question by question; and which sizes of buffers give it.
-use mathlib.Core.Path.{◌≡◌, refl, sym, ap, subst, ◌∙◌}
-use mathlib.Core.Bool.{Bool, true, false, ◌&&◌, false≢true}
+use mathlib.Core.Path.{◌≡◌, refl, sym, ap, ◌∙◌}
+use mathlib.Core.Bool.{Bool, true, false, not, ◌&&◌}
 use mathlib.Core.List.{List, ◌++◌}
 use mathlib.Core.Option.{none}
 use Prim.Native.Nat.{ℕ, ◌≤◌, ◌<◌}
-use borrow.Author.Tests.{le-leb, lt-leb, eqb-true}
+use borrow.Author.Tests.{le-leb, lt-leb, not-true, not-false}
 use lib.Dec.{eqb}
 use lib.ListN.{length, take, drop, take-append-drop}
 use lib.Seq.{length-take-le}
@@ -13,10 +13,6 @@ use Rattle.session_spec.specs.Shape.{shaped}
 use Rattle.session_spec.specs.Session.{Opening, Forms, Verdict, bad, session, read_opening, lines, counts, actions_of, formed, asked15, asked14, verdict}
 use Rattle.session_reader.specs.Reading.{sized, verdict_in}
 use Rattle.session_reader.specs.Tables.{Buffers, buffers, cleared, over, table_of, done_of, form_names_of, after_reading15, after_reading14, after_reading, after_reading_into}
-use Rattle.session_reader.specs.Answers.{OpenedIs, RestIs}
-use Rattle.session_reader.specs.declared.reading.Rest.{Rest}
-use Rattle.session_reader.specs.declared.reading.Opened.{Opened}
-use Rattle.session_reader.specs.declared.reading.Opened.TheVariants as opened
 
 -- the three buffers, one by one
 pub alike : {v v' f f' a a' : List ℕ} → v ≡ v' → f ≡ f' → a ≡ a' → buffers v f a ≡ buffers v' f' a'
@@ -28,18 +24,13 @@ written_over o p n x =
     sym (take-append-drop n p) ∙ ap (λ (l : List ℕ). take n p ++ l) x.1 ∙ ap (λ (k : ℕ). take n p ++ drop k o) (sym (length-take-le n p x.0))
 
 module _ (s : List ℕ) where
-  pub opened-at : (out : List ℕ) {r : Opened} {t c b n next : ℕ} → r ≡ opened.Read t c b n next → OpenedIs s out r → Reads read_opening s 0 0 (record { tasks = t; cells = c; blocks = b; values = take n out }) next
-  opened-at out q x = subst (OpenedIs s out) q x
-
-  pub opened_no : (out : List ℕ) {r : Opened} → r ≡ opened.Wrong → OpenedIs s out r → read_opening s ≡ none
-  opened_no out q x = subst (OpenedIs s out) q x
-
-  pub rest-is : (at : ℕ) (F F' A A' : List ℕ) {r t : Rest} → r ≡ t → RestIs s at F F' A A' r → RestIs s at F F' A A' t
-  rest-is at F F' A A' q x = subst (RestIs s at F F' A A') q x
-
   -- what is answered, and what is left in the buffers
   abbrev pub Judged : Buffers → Verdict → Buffers → Type 0
   Judged b v c = (verdict s ≡ v) × (after_reading s b ≡ c)
+
+  -- the same of a file of the right shape
+  abbrev pub Parsed : Buffers → Verdict → Buffers → Type 0
+  Parsed b v c = (asked14 (formed s) ≡ v) × (after_reading14 (formed s) b ≡ c)
 
   module _ (b : Buffers) where
     pub is_12 : 65536 < length s → Judged b (bad 12) b
@@ -51,28 +42,27 @@ module _ (s : List ℕ) where
       unfolding verdict after_reading
       is_13 e = let f = le-leb (length s) 65536 h in (rw (f, e), rw (f, e))
 
-      module _ (e : shaped s ≡ true) where
-        asked : Judged b (asked14 (formed s)) (after_reading14 (formed s) b)
-        unfolding verdict after_reading
-        asked = let f = le-leb (length s) 65536 h in (rw (f, e), rw (f, e))
+      pub asked : shaped s ≡ true → Judged b (asked14 (formed s)) (after_reading14 (formed s) b)
+      unfolding verdict after_reading
+      asked e = let f = le-leb (length s) 65536 h in (rw (f, e), rw (f, e))
 
-        pub unopened : read_opening s ≡ none → Judged b (bad 14) (cleared b)
-        unfolding asked14 formed after_reading14
-        unopened f = (rw (asked.0, f), rw (asked.1, f))
+    pub unopened : read_opening s ≡ none → Parsed b (bad 14) (cleared b)
+    unfolding asked14 formed after_reading14
+    unopened f = (rw f, rw f)
 
-        module _ {o : Opening} {a : ℕ} (x : Reads read_opening s 0 0 o a) where
-          pub unformed : lines (drop a s) ≡ none → Judged b (bad 14) (cleared b)
-          unfolding asked14 formed after_reading14
-          unformed f = (rw (asked.0, x.finds, f), rw (asked.1, x.finds, f))
+    module _ {o : Opening} {a : ℕ} (x : Reads read_opening s 0 0 o a) where
+      pub unformed : lines (drop a s) ≡ none → Parsed b (bad 14) (cleared b)
+      unfolding asked14 formed after_reading14
+      unformed f = (rw (x.finds, f), rw (x.finds, f))
 
-          module _ {l : Forms} {d : ℕ} (y : Reads lines s a 0 l d) where
-            pub is_15 : 65535 < counts l → Judged b (bad 15) (cleared b)
-            unfolding asked14 formed asked15 after_reading14 after_reading15
-            is_15 k = let f = lt-leb (counts l) 65535 k in (rw (asked.0, x.finds, y.finds, f), rw (asked.1, x.finds, y.finds, f))
+      module _ {l : Forms} {d : ℕ} (y : Reads lines s a 0 l d) where
+        pub is_15 : 65535 < counts l → Parsed b (bad 15) (cleared b)
+        unfolding asked14 formed asked15 after_reading14 after_reading15
+        is_15 k = let f = lt-leb (counts l) 65535 k in (rw (x.finds, y.finds, f), rw (x.finds, y.finds, f))
 
-            pub is-session : counts l ≤ 65535 → Judged b (session o (actions_of l)) (buffers (over o.values b.values) (over (table_of (done_of l)) b.forms) (over (form_names_of 0 l) b.actions))
-            unfolding asked14 formed asked15 after_reading14 after_reading15
-            is-session k = let f = le-leb (counts l) 65535 k in (rw (asked.0, x.finds, y.finds, f), rw (asked.1, x.finds, y.finds, f))
+        pub is-session : counts l ≤ 65535 → Parsed b (session o (actions_of l)) (buffers (over o.values b.values) (over (table_of (done_of l)) b.forms) (over (form_names_of 0 l) b.actions))
+        unfolding asked14 formed asked15 after_reading14 after_reading15
+        is-session k = let f = le-leb (counts l) 65535 k in (rw (x.finds, y.finds, f), rw (x.finds, y.finds, f))
 
 -- with buffers of the right sizes the promise is the verdict
 pub right_sizes : (v f a : ℕ) (s : List ℕ) → v ≡ 32768 → f ≡ 40960 → a ≡ 65535 → verdict_in v f a s ≡ verdict s
@@ -83,12 +73,14 @@ pub right-left : (s : List ℕ) (b : Buffers) → length b.values ≡ 32768 → 
 unfolding after_reading_into
 right-left s b p q r = rw (p, q, r)
 
-both : (x y : Bool) → (x && y) ≡ true → (x ≡ true) × (y ≡ true)
-both true y e = (refl, e)
-both false y e = absurd (false≢true e)
+-- what the test of three sizes told
+all_yes : (x y z : Bool) → ((x && y) && z) ≡ (x && (y && z))
+all_yes false y z = refl
+all_yes true y z = refl
 
-pub sizes_known : (v f a : ℕ) → sized v f a ≡ true → (v ≡ 32768) × ((f ≡ 40960) × (a ≡ 65535))
-sizes_known v f a e =
-    let x = both (eqb v 32768) _ e in
-    let y = both (eqb f 40960) _ x.1 in
-    (eqb-true v 32768 x.0, (eqb-true f 40960 y.0, eqb-true a 65535 y.1))
+module _ (v f a : ℕ) where
+  pub other_sizes : true ≡ not ((eqb v 32768 && eqb f 40960) && eqb a 65535) → sized v f a ≡ false
+  other_sizes e = sym (all_yes (eqb v 32768) (eqb f 40960) (eqb a 65535)) ∙ not-true _ (sym e)
+
+  pub same_sizes : false ≡ not ((eqb v 32768 && eqb f 40960) && eqb a 65535) → sized v f a ≡ true
+  same_sizes e = sym (all_yes (eqb v 32768) (eqb f 40960) (eqb a 65535)) ∙ not-false _ (sym e)

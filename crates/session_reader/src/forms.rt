@@ -1,109 +1,84 @@
 // The forms after the first line, and the actions that they make.
 ghost use Rattle.std.specs.Prelude.{◌≡◌, List, ℕ, ◌+◌, ◌-◌, ◌*◌, ◌≤◌, ◌<◌, length, take, drop};
-ghost use Rattle.text.specs.Append.{Appended};
-ghost use Rattle.session_spec.specs.Session.{times, form as «form_of», list as «list_of», read_line, lines as «lines_of»};
-ghost use Rattle.session_reader.specs.Answers.{KeywordIs, HeadIs, kept, Stands, KeptIs, HasRoom, of_form, of_forms, GotIs, RestIs};
+ghost use Rattle.session_spec.specs.Session.{form as «form_of», list as «list_of», read_line, lines as «lines_of»};
+ghost use Rattle.session_reader.specs.Answers.{KeywordIs, HeadIs, HasRoom, RoomIn, SameBuffers, of_form, of_forms, GotIs, SkippedIs, RestIs};
 
-use crate::reading::{Got, HeadRead, Rest, Word};
-use buffers::clearing::clear;
-use text::Place;
+use crate::items::{close, numbers, space};
+use crate::keeping::Tables;
+use crate::reading::{Keyword, ReadError};
+use text::readers::starts_with;
 
-// The kind of the form that has forms of its own; actions are numbered from 1 on.
-const AGAIN: u32 = 0;
-
-fn keyword(s: &[u8], at: usize) -> Word
+// The word that stands at `at`, and the place after it.
+fn keyword(s: &[u8], at: usize) -> Option<(Keyword, usize)>
     requires { at ≤ length s.now }
     ensures { KeywordIs s.now at result }
 {
-    let read = text::readers::starts_with(s, at, b"(read");
-    if let Place::At(next) = read {
-        return Word::Known(1, 2, next);
+    if let Some(next) = starts_with(s, at, b"(read") {
+        return Some((Keyword::Read, next));
     }
-    let swap = text::readers::starts_with(s, at, b"(swap");
-    if let Place::At(next) = swap {
-        return Word::Known(2, 4, next);
+    if let Some(next) = starts_with(s, at, b"(swap") {
+        return Some((Keyword::Swap, next));
     }
-    let step = text::readers::starts_with(s, at, b"(step");
-    if let Place::At(next) = step {
-        return Word::Known(3, 1, next);
+    if let Some(next) = starts_with(s, at, b"(step") {
+        return Some((Keyword::Step, next));
     }
-    let drop = text::readers::starts_with(s, at, b"(drop");
-    if let Place::At(next) = drop {
-        return Word::Known(4, 1, next);
+    if let Some(next) = starts_with(s, at, b"(drop") {
+        return Some((Keyword::Drop, next));
     }
-    let again = text::readers::starts_with(s, at, b"(again");
-    if let Place::At(next) = again {
-        return Word::Known(AGAIN, 1, next);
-    }
-    Word::Unknown
+    let next = starts_with(s, at, b"(again")?;
+    Some((Keyword::Again, next))
 }
 
 // A form's word, and its numbers stored.
-fn head(s: &[u8], at: usize, out: &mut [u32]) -> HeadRead
+fn head(s: &[u8], at: usize, out: &mut [u32]) -> Option<(Keyword, usize)>
     requires at_in_bounds { at ≤ length s.now }
     requires in_bounds { 4 ≤ length out.old }
     ensures { HeadIs s.now at out.old out.new result }
 {
-    let word = keyword(s, at);
-    let Word::Known(kind, k, a) = word else {
-        return HeadRead::Unknown;
-    };
-    let read = crate::items::numbers(s, a, k, out);
-    let Place::At(next) = read else {
-        return HeadRead::Unknown;
-    };
-    HeadRead::Known(kind, next)
-}
-
-// Copies the words from n to m behind them, so that they stand there c times.
-fn repeat(words: &mut [u32], n: usize, m: usize, c: usize) -> usize
-    requires n_le_m { (n ≤ m) × (m ≤ length words.old) }
-    requires c_nonzero { (0 < c) × (n + c * (m - n) ≤ length words.old) }
-    ensures { Appended words.old words.new n result (times c (take (m - n) (drop n words.old))) }
-{
-    let k = m - n;
-    let end = n + c * k;
-    let mut to = m;
-    while to < end {
-        words[to] = words[to - k];
-        to += 1;
-    }
-    end
-}
-
-// What is kept where forms, read once up to `next`, stand c times. Before them f forms and n actions were kept, and with
-// them g and m.
-fn again(
-    actions: &mut [u32],
-    f: usize,
-    n: usize,
-    c: u32,
-    next: usize,
-    over: bool,
-    g: usize,
-    m: usize,
-) -> Got
-    requires c_nonzero { (0 < c) × (f ≤ g) }
-    requires n_le_m { (n ≤ m) × (m ≤ length actions.old) }
-    requires actions_len_bound { length actions.old ≤ 65535 }
-    ensures { (F F' A t w : List ℕ) → length A ≡ length actions.old → Stands F F' A actions.old f n (kept over g m) t w → KeptIs F F' A actions.new f n next g t (times c w) result }
-{
-    if over {
-        return Got::At(next, over, g, m);
-    }
-    let count = c as usize;
-    if actions.len() < n + count * (m - n) {
-        return Got::At(next, true, f, n);
-    }
-    let to = repeat(actions, n, m, count);
-    Got::At(next, false, g, to)
+    let (word, a) = keyword(s, at)?;
+    let next = numbers(s, a, word.arity(), out)?;
+    Some((word, next))
 }
 
 // Form and list call each other: depth left, at most 8, and bytes left fall.
 
-// The form that starts at `at`, at most `depth` deep: f forms and n actions are kept before it.
+// The form that starts at `at`, at most `depth` deep. Returns whether there were more actions than fit, and the place after
+// the form.
 #[cycle(form_list)]
-fn form(
+fn form(s: &[u8], at: usize, depth: usize, tables: &mut Tables) -> Option<(bool, usize)>
+    requires depth_bound { depth ≤ 8 }
+    requires room { RoomIn s.now at tables.old }
+    ensures same { SameBuffers tables.old tables.new }
+    ensures got { GotIs of_form («form_of» depth) s.now at 8 tables.old tables.new result }
+{
+    if depth == 0 {
+        return None;
+    }
+    let mut numbers = [0u32; 4];
+    let (word, a) = head(s, at, &mut numbers)?;
+    let f = tables.f;
+    let n = tables.n;
+    match word {
+        // Of forms that stand no times nothing is kept: they are read with no room for an action.
+        Keyword::Again if numbers[0] == 0 => {
+            let actions = &mut *tables.actions;
+            let next = skipped(s, a, depth - 1, tables.forms, f, &mut actions[..n], n)?;
+            Some((false, next))
+        }
+        Keyword::Again => {
+            let (over, next) = list(s, a, depth - 1, tables)?;
+            Some((tables.again(f, n, numbers[0], over), next))
+        }
+        act => {
+            let next = close(s, a)?;
+            Some((tables.keep(u32::from(act), &numbers), next))
+        }
+    }
+}
+
+// The place after a list that is read with no room for an action.
+#[cycle(form_list)]
+fn skipped(
     s: &[u8],
     at: usize,
     depth: usize,
@@ -111,133 +86,91 @@ fn form(
     f: usize,
     actions: &mut [u32],
     n: usize,
-) -> Got
+) -> Option<usize>
     requires depth_bound { depth ≤ 8 }
-    requires has_room { HasRoom s.now at forms.old f actions.old n }
-    ensures { GotIs of_form («form_of» depth) s.now at 8 forms.old forms.new actions.old actions.new f n result }
+    requires room { HasRoom s.now at forms.old f actions.old n }
+    requires full { length actions.old ≡ n }
+    ensures { SkippedIs («list_of» («form_of» depth)) s.now at forms.old forms.new actions.old actions.new result }
 {
-    if depth == 0 {
-        return Got::Bad;
-    }
-    let mut numbers = [0u32; 4];
-    let start = head(s, at, &mut numbers);
-    let HeadRead::Known(kind, a) = start else {
-        return Got::Bad;
+    let mut full = Tables {
+        forms,
+        actions,
+        f,
+        n,
     };
-    if kind == AGAIN {
-        // Of forms that stand no times nothing is kept: they are read with no room for an action.
-        if numbers[0] == 0 {
-            let none = list(s, a, depth - 1, forms, f, &mut actions[..n], n);
-            let Got::At(next, _, _, _) = none else {
-                return Got::Bad;
-            };
-            return Got::At(next, false, f, n);
-        }
-        let inner = list(s, a, depth - 1, forms, f, actions, n);
-        let Got::At(next, over, g, m) = inner else {
-            return Got::Bad;
-        };
-        return again(actions, f, n, numbers[0], next, over, g, m);
-    }
-    let end = crate::items::close(s, a);
-    let Place::At(next) = end else {
-        return Got::Bad;
-    };
-    crate::keeping::keep(forms, f, actions, n, kind, &numbers, next)
+    let (_, next) = list(s, at, depth, &mut full)?;
+    Some(next)
 }
 
 // The forms of a list up to its bracket, each at most `depth` deep.
 #[cycle(form_list)]
-fn list(
-    s: &[u8],
-    at: usize,
-    depth: usize,
-    forms: &mut [u32],
-    f: usize,
-    actions: &mut [u32],
-    n: usize,
-) -> Got
+fn list(s: &[u8], at: usize, depth: usize, tables: &mut Tables) -> Option<(bool, usize)>
     requires depth_bound { depth ≤ 8 }
-    requires has_room { HasRoom s.now at forms.old f actions.old n }
-    ensures { GotIs of_forms («list_of» («form_of» depth)) s.now at 1 forms.old forms.new actions.old actions.new f n result }
+    requires room { RoomIn s.now at tables.old }
+    ensures same { SameBuffers tables.old tables.new }
+    ensures got { GotIs of_forms («list_of» («form_of» depth)) s.now at 1 tables.old tables.new result }
 {
     let mut i = at;
-    let mut g = f;
-    let mut m = n;
     let mut over = false;
+    // Stays (3): the bracket that ends the list is read within, so no count is known before.
     loop {
-        let end = crate::items::close(s, i);
-        if let Place::At(next) = end {
-            return Got::At(next, over, g, m);
+        if let Some(next) = close(s, i) {
+            return Some((over, next));
         }
-        let gap = crate::items::space(s, i);
-        let Place::At(a) = gap else {
-            return Got::Bad;
-        };
-        let got = form(s, a, depth, forms, g, actions, m);
-        let Got::At(next, more, forms_now, actions_now) = got else {
-            return Got::Bad;
-        };
-        over = over | more;
-        g = forms_now;
-        m = actions_now;
+        let a = space(s, i)?;
+        let (more, next) = form(s, a, depth, tables)?;
+        over |= more;
         i = next;
     }
 }
 
 // The line that starts at `at`: one form and byte 10.
-fn line(s: &[u8], at: usize, forms: &mut [u32], f: usize, actions: &mut [u32], n: usize) -> Got
-    requires { HasRoom s.now at forms.old f actions.old n }
-    ensures { GotIs of_form read_line s.now at 8 forms.old forms.new actions.old actions.new f n result }
+fn line(s: &[u8], at: usize, tables: &mut Tables) -> Option<(bool, usize)>
+    requires { RoomIn s.now at tables.old }
+    ensures same { SameBuffers tables.old tables.new }
+    ensures got { GotIs of_form read_line s.now at 8 tables.old tables.new result }
 {
-    let got = form(s, at, 8, forms, f, actions, n);
-    let Got::At(a, over, g, m) = got else {
-        return Got::Bad;
-    };
-    let end = text::readers::starts_with(s, a, b"\n");
-    let Place::At(next) = end else {
-        return Got::Bad;
-    };
-    Got::At(next, over, g, m)
+    let (over, a) = form(s, at, 8, tables)?;
+    let next = starts_with(s, a, b"\n")?;
+    Some((over, next))
 }
 
 // All lines from `at` on.
-fn all_lines(s: &[u8], at: usize, forms: &mut [u32], actions: &mut [u32]) -> Got
-    requires { HasRoom s.now at forms.old 0 actions.old 0 }
-    ensures { GotIs of_forms «lines_of» s.now at 0 forms.old forms.new actions.old actions.new 0 0 result }
+fn all_lines(s: &[u8], at: usize, tables: &mut Tables) -> Option<(bool, usize)>
+    requires { RoomIn s.now at tables.old }
+    ensures same { SameBuffers tables.old tables.new }
+    ensures got { GotIs of_forms «lines_of» s.now at 0 tables.old tables.new result }
 {
     let mut i = at;
-    let mut g = 0;
-    let mut m = 0;
     let mut over = false;
+    // Stays (3): each line says where the next one starts.
     while i < s.len() {
-        let got = line(s, i, forms, g, actions, m);
-        let Got::At(next, more, forms_now, actions_now) = got else {
-            return Got::Bad;
-        };
-        over = over | more;
-        g = forms_now;
-        m = actions_now;
+        let (more, next) = line(s, i, tables)?;
+        over |= more;
         i = next;
     }
-    Got::At(i, over, g, m)
+    Some((over, i))
 }
 
-// All lines from `at` on: forms and actions are left in the buffers, or zeros.
-pub fn lines(s: &[u8], at: usize, forms: &mut [u32], actions: &mut [u32]) -> Rest
+// All lines from `at` on: forms and actions are left in the buffers. Returns how many actions.
+pub fn lines(
+    s: &[u8],
+    at: usize,
+    forms: &mut [u32],
+    actions: &mut [u32],
+) -> Result<usize, ReadError>
     requires { HasRoom s.now at forms.old 0 actions.old 0 }
     ensures { RestIs s.now at forms.old forms.new actions.old actions.new result }
 {
-    let got = all_lines(s, at, forms, actions);
-    let Got::At(_, over, _, m) = got else {
-        clear(forms);
-        clear(actions);
-        return Rest::Wrong;
+    let mut tables = Tables {
+        forms,
+        actions,
+        f: 0,
+        n: 0,
     };
+    let (over, _) = all_lines(s, at, &mut tables).ok_or(ReadError::Form)?;
     if over {
-        clear(forms);
-        clear(actions);
-        return Rest::Many;
+        return Err(ReadError::TooMany);
     }
-    Rest::Kept(m)
+    Ok(tables.n)
 }

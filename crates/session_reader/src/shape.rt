@@ -3,6 +3,7 @@ ghost use Rattle.std.specs.Prelude.{◌≡◌, ◌<◌};
 ghost use Rattle.session_spec.specs.Shape.{fits as «fits_of», deeper as «deeperOf», shaped as «shapedOf»};
 
 // Whether b may stand after p, with d brackets open.
+#[tactic(auto, unfolding(session_spec::specs::Shape::fits))]
 fn fits(d: usize, p: u8, b: u8) -> bool
     ensures { result ≡ «fits_of» d p b }
 {
@@ -16,20 +17,16 @@ fn fits(d: usize, p: u8, b: u8) -> bool
 }
 
 // The open brackets after b.
+#[tactic(auto, unfolding(session_spec::specs::Shape::deeper))]
 fn deeper(d: usize, b: u8) -> usize
     requires { d < 65536 }
     ensures { result ≡ «deeperOf» d b }
 {
-    if b == b'(' {
-        return d + 1;
+    match b {
+        b'(' => d + 1,
+        b')' => d.saturating_sub(1),
+        _ => d,
     }
-    if b == b')' {
-        if 0 < d {
-            return d - 1;
-        }
-        return 0;
-    }
-    d
 }
 
 // Whether the text is forms in brackets, one a line.
@@ -38,15 +35,12 @@ pub fn shaped(s: &[u8]) -> bool
 {
     let mut d = 0;
     let mut p: u8 = 10;
-    let mut i = 0;
-    while i < s.len() {
-        let b = s[i];
-        if !fits(d, p, b) {
+    for b in s {
+        if !fits(d, p, *b) {
             return false;
         }
-        d = deeper(d, b);
-        p = b;
-        i += 1;
+        d = deeper(d, *b);
+        p = *b;
     }
     p == 10
 }

@@ -1,11 +1,8 @@
 -- The loop over the actions, the opening before it, and the whole.
 use mathlib.Core.Path.{◌≡◌, refl, sym, ap, ◌∙◌}
-use mathlib.Core.List.{List, [], ◌∷◌, ◌++◌, map, append_assoc}
+use mathlib.Core.List.{List, ◌∷◌, ◌++◌, map, append_assoc}
 use Prim.Native.Nat.{ℕ, ◌+◌, ◌≤◌, ◌<◌}
-use borrow.Author.Tests.{le-leb, lt-leb}
 use lib.ListN.{length, drop, get_or, replicate}
-use Rattle.text.specs.Append.{Appended}
-use Rattle.text.proofs.Appending.{nothing, Entire, entire}
 use Rattle.cells_spec.specs.declared.State.{State}
 use Rattle.cells_spec.specs.Answers.{Said, Refused, Acted, Ended}
 use Rattle.cells_spec.specs.Open.{After, leaving, blank}
@@ -14,7 +11,8 @@ use Rattle.cells_spec.specs.Events.{event_of}
 use Rattle.cells_spec.specs.Machine.{does, tried_by, pool}
 use Rattle.session_engine.proofs.Listed.{action_then, no_action as no_more}
 use Rattle.session_spec.specs.Session.{Verdict, bad, session, verdict}
-use Rattle.session_engine.specs.Start.{Start, start_after, start_of}
+use Rattle.session_engine.specs.Start.{start_after, start_of}
+use Rattle.session_engine.specs.Tool.{text_within}
 use Rattle.session_engine.proofs.Starting.{opened-cases}
 use Rattle.session_spec.specs.Lines.{event_line}
 use Rattle.session_spec.specs.Printed.{Totals, event_lines, add_event, add_events, end_text, after_open, pool_words, verdict_text, printed, printed_within}
@@ -66,19 +64,8 @@ unfolding start_after after_open
 started (bad n) = refl
 started (session o l) = opened-cases (λ r. start_text (start_after o.tasks o.cells l r) ≡ after_open o.tasks o.cells l r) blank (replicate (pool_words o.blocks) 0) o.tasks o.cells o.blocks o.values (λ q. refl) refl
 
--- THE WHOLE
+-- THE WHOLE: what `run_tool` promises is the definition
 
-no_room : (s : List ℕ) (n : ℕ) → n < 921000 → [] ≡ printed_within n s
-unfolding printed_within
-no_room s n h = rw (lt-leb 921000 n h)
-
-with-room : (s : List ℕ) (n : ℕ) → 921000 ≤ n → verdict_text (verdict s) ≡ printed_within n s
-unfolding printed_within printed
-with-room s n h = rw (le-leb 921000 n h)
-
--- the text of the file s, r bytes at the start of the buffer, and nothing else changed
-pub all-printed : (s old new : List ℕ) (r : ℕ) {x : Start} → Appended old new 0 r (start_text x) → x ≡ start_of (verdict s) → 921000 ≤ length old → Entire (printed_within (length old) s) old new r
-all-printed s old new r a e h = entire (printed_within (length old) s) a (ap start_text e ∙ started (verdict s) ∙ with-room s (length old) h)
-
-pub none_printed : (s old : List ℕ) → length old < 921000 → Entire (printed_within (length old) s) old old 0
-none_printed s old h = entire (printed_within (length old) s) (nothing old 0) (no_room s (length old) h)
+pub text-is : (room : ℕ) (s : List ℕ) → text_within 921000 (start_text (start_of (verdict s))) room ≡ printed_within room s
+unfolding text_within printed_within printed
+text-is room s = rw started

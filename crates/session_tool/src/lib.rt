@@ -1,15 +1,48 @@
 // Runs a session file and prints its lines.
 #![tactic(auto)]
 
-mod opened;
 mod play;
 mod printing;
 
-ghost use Rattle.std.specs.Prelude.{◌≡◌, ◌++◌, length, drop};
+ghost use Rattle.std.specs.Prelude.{◌≡◌, ◌++◌, length, drop, refl};
+ghost use Rattle.std.proofs.Common.{lit≤};
 ghost use Rattle.io.specs.Counts.{IsPrefixLen};
 ghost use Rattle.session_spec.specs.Printed.{printed_within};
+ghost use Rattle.session_tool.specs.Loop.{start_text};
 
-use crate::opened::print_file;
+use crate::play::play;
+use crate::printing::put_no;
+use cells_spec::State;
+use session_engine::actions::Actions;
+use session_engine::tool::{Tool, run_tool};
+use text::page::Page;
+
+struct Session;
+
+impl Tool for Session {
+    ghost text = { λ _. start_text };
+
+    ghost ROOM = { 921000 };
+
+    const ROOM: usize = 921000;
+
+    // A refused open is action 0.
+    fn put_refused(&self, out: &mut [u8], n: u32) -> usize {
+        let mut page = Page::new(out);
+        put_no(&mut page, 0, n);
+        page.at
+    }
+
+    fn play(&self, out: &mut [u8], first: State, pool: &mut [u32], actions: Actions<'_>) -> usize {
+        let mut page = Page::new(out);
+        play(&mut page, first, pool, actions);
+        page.at
+    }
+
+    ghost bad_alike = { λ t n. refl };
+
+    ghost has_room = { lit≤ tt };
+}
 
 // Prints what a session file prints at the start of out, and returns its length; nothing where out has fewer than 921,000 bytes. The bytes
 // after the text are as they were.
@@ -18,8 +51,5 @@ pub fn run_session(file: &[u8], out: &mut [u8]) -> usize
     ensures value { result ≡ length (printed_within (length out.old) file.now) }
     ensures prefix_len { IsPrefixLen result out.new }
 {
-    if out.len() < 921000 {
-        return 0;
-    }
-    print_file(file, out)
+    run_tool(&Session, file, out)
 }

@@ -5,104 +5,101 @@ ghost use Rattle.figure_lines.specs.Answers.{answer_of, result_of};
 ghost use Rattle.history_spec.specs.History.{untried};
 ghost use Rattle.cells_spec.specs.Answers.{Ended};
 ghost use Rattle.cells_spec.specs.Events.{kind_at, report_of, event_of};
-ghost use Rattle.text.specs.Append.{Appended};
 ghost use Rattle.text.specs.Bytes.{decimal};
 ghost use Rattle.text.specs.Lines.{line};
+ghost use Rattle.text.specs.Page.{Written};
 ghost use Rattle.session_spec.specs.Lines.{no_line, cell_line, kind_word, answer_word, done_start, done_line, end_line, FewDigits};
 
 use figure_lines::{Answer, Finished};
 use rate::lisqotay_rate;
-use text::numbered::{put_line, put_numbers, wide};
+use text::numbered::wide;
+use text::page::Page;
 
-fn put_pair(out: &mut [u8], at: usize, start: &[u8], a: u32, b: u32) -> usize
-    requires { (at + 67 ≤ length out.old) × (length start.now ≤ 12) }
-    ensures appended { Appended out.old out.new at result (line start.now (a ∷ b ∷ [])) }
-    ensures upper_bound { result ≤ at + 36 }
+fn put_pair(page: &mut Page<'_>, start: &[u8], a: u32, b: u32)
+    requires { (page.old.at + 67 ≤ length page.old.bytes.now) × (length start.now ≤ 12) }
+    ensures written { Written page.old page.new (line start.now (a ∷ b ∷ [])) }
+    ensures upper_bound { page.new.at ≤ page.old.at + 36 }
 {
-    put_line(out, at, start, &[wide(a), wide(b)])
+    page.line(start, &[wide(a), wide(b)]);
 }
 
-pub fn put_no(out: &mut [u8], at: usize, action: u32, n: u32) -> usize
-    requires { at + 67 ≤ length out.old }
-    ensures appended { Appended out.old out.new at result (no_line action n) }
-    ensures upper_bound { result ≤ at + 36 }
+pub fn put_no(page: &mut Page<'_>, action: u32, n: u32)
+    requires { page.old.at + 67 ≤ length page.old.bytes.now }
+    ensures written { Written page.old page.new (no_line action n) }
+    ensures upper_bound { page.new.at ≤ page.old.at + 36 }
 {
-    put_pair(out, at, b"(no", action, n)
+    put_pair(page, b"(no", action, n);
 }
 
-pub fn put_cell(out: &mut [u8], at: usize, cell: u32, value: u32) -> usize
-    requires { at + 67 ≤ length out.old }
-    ensures appended { Appended out.old out.new at result (cell_line cell value) }
-    ensures upper_bound { result ≤ at + 67 }
+pub fn put_cell(page: &mut Page<'_>, cell: u32, value: u32)
+    requires { page.old.at + 67 ≤ length page.old.bytes.now }
+    ensures written { Written page.old page.new (cell_line cell value) }
+    ensures upper_bound { page.new.at ≤ page.old.at + 67 }
 {
-    put_pair(out, at, b"(cell", cell, value)
+    put_pair(page, b"(cell", cell, value);
 }
 
 // A number of 32 bits has at most ten digits.
-fn put_small(out: &mut [u8], at: usize, n: u32) -> usize
-    requires { at + 10 ≤ length out.old }
-    ensures appended { Appended out.old out.new at result (decimal n) }
-    ensures upper_bound { result ≤ at + 10 }
+fn put_small(page: &mut Page<'_>, n: u32)
+    requires { page.old.at + 10 ≤ length page.old.bytes.now }
+    ensures written { Written page.old page.new (decimal n) }
+    ensures upper_bound { page.new.at ≤ page.old.at + 10 }
 {
-    text::decimals::put_number(out, at, wide(n))
+    page.number(wide(n));
 }
 
-fn put_answer(out: &mut [u8], at: usize, a: Answer) -> usize
-    requires { at + 10 ≤ length out.old }
-    ensures appended { Appended out.old out.new at result (answer_word (answer_of a)) }
-    ensures upper_bound { result ≤ at + 10 }
+fn put_answer(page: &mut Page<'_>, a: Answer)
+    requires { page.old.at + 10 ≤ length page.old.bytes.now }
+    ensures written { Written page.old page.new (answer_word (answer_of a)) }
+    ensures upper_bound { page.new.at ≤ page.old.at + 10 }
 {
     match a {
-        Answer::Value(v) => put_small(out, at, v),
-        Answer::Yes => text::put(out, at, b"yes"),
-        Answer::No => text::put(out, at, b"no"),
+        Answer::Value(v) => put_small(page, v),
+        Answer::Yes => page.put(b"yes"),
+        Answer::No => page.put(b"no"),
     }
 }
 
-fn put_kind(out: &mut [u8], at: usize, kind: u32) -> usize
-    requires { at + 6 ≤ length out.old }
-    ensures appended { Appended out.old out.new at result (kind_word (kind_at kind)) }
-    ensures upper_bound { result ≤ at + 6 }
+// Stays (1): a finished call has its kind as its record has it, a number that `kind_at` names (a).
+fn put_kind(page: &mut Page<'_>, kind: u32)
+    requires { page.old.at + 6 ≤ length page.old.bytes.now }
+    ensures written { Written page.old page.new (kind_word (kind_at kind)) }
+    ensures upper_bound { page.new.at ≤ page.old.at + 6 }
 {
     if kind == 1 {
-        return text::put(out, at, b" read ");
+        page.put(b" read ");
+    } else {
+        page.put(b" swap ");
     }
-    text::put(out, at, b" swap ")
 }
 
-fn put_done_start(out: &mut [u8], at: usize, task: u32, f: Finished) -> usize
-    requires { at + 43 ≤ length out.old }
-    ensures appended { Appended out.old out.new at result (done_start task (report_of (result_of f))) }
-    ensures few_digits { (result ≤ at + 43) × (result ≤ at + 23 + (length (decimal task) + length (decimal f.cell))) }
+fn put_done_start(page: &mut Page<'_>, task: u32, f: Finished)
+    requires { page.old.at + 43 ≤ length page.old.bytes.now }
+    ensures written { Written page.old page.new (done_start task (report_of (result_of f))) }
+    ensures few_digits { (page.new.at ≤ page.old.at + 43) × (page.new.at ≤ page.old.at + 23 + (length (decimal task) + length (decimal f.cell))) }
 {
-    let a = text::put(out, at, b"(done ");
-    let b = put_small(out, a, task);
-    let c = put_kind(out, b, f.kind);
-    let d = put_small(out, c, f.cell);
-    let e = text::put(out, d, b" ");
-    let answer = f.answer;
-    put_answer(out, e, answer)
+    page.put(b"(done ");
+    put_small(page, task);
+    put_kind(page, f.kind);
+    put_small(page, f.cell);
+    page.put(b" ");
+    put_answer(page, f.answer);
 }
 
-pub fn put_done(out: &mut [u8], at: usize, task: u32, f: Finished) -> usize
-    requires { at + 78 ≤ length out.old }
-    ensures appended { Appended out.old out.new at result (done_line task (report_of (result_of f))) }
-    ensures few_digits { (FewDigits task (event_of untried (Ended (result_of f))) → result ≤ at + 36) }
+pub fn put_done(page: &mut Page<'_>, task: u32, f: Finished)
+    requires { page.old.at + 78 ≤ length page.old.bytes.now }
+    ensures written { Written page.old page.new (done_line task (report_of (result_of f))) }
+    ensures few_digits { FewDigits task (event_of untried (Ended (result_of f))) → page.new.at ≤ page.old.at + 36 }
 {
-    let a = put_done_start(out, at, task, f);
-    let b = put_numbers(out, a, &[wide(f.steps), wide(f.won), wide(f.lost)]);
-    text::put(out, b, b")\n")
+    put_done_start(page, task, f);
+    page.numbers(&[wide(f.steps), wide(f.won), wide(f.lost)]);
+    page.put(b")\n");
 }
 
-pub fn put_end(out: &mut [u8], at: usize, finished: u32, pending: u64, hard: u32) -> usize
-    requires { at + 90 ≤ length out.old }
-    ensures { Appended out.old out.new at result (end_line finished pending hard) }
+pub fn put_end(page: &mut Page<'_>, finished: u32, pending: u64, hard: u32)
+    requires { page.old.at + 90 ≤ length page.old.bytes.now }
+    ensures { Written page.old page.new (end_line finished pending hard) }
 {
     let rate = lisqotay_rate(hard, finished);
-    put_line(
-        out,
-        at,
-        b"(end",
-        &[wide(finished), pending, wide(hard), rate],
-    )
+    page.line(b"(end", &[wide(finished), pending, wide(hard), rate]);
 }

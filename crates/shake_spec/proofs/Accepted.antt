@@ -25,7 +25,8 @@ use Rattle.shake_spec.specs.Drawn.{Drawn, drawn, drawn_begin, drawn_action}
 use Rattle.shake_spec.specs.Actions.{drawn_actions, zero_start}
 use Rattle.shake_spec.specs.Shaken.{shake_questions, shaken_actions}
 use Rattle.shake_spec.proofs.Writing.{below_lt}
-use Rattle.shake_spec.proofs.Allowed.{sizes_ok_lem, start-reached}
+use Rattle.shake_spec.proofs.Shaking.{sizes}
+use Rattle.shake_spec.proofs.Allowed.{start-reached}
 
 -- the sizes stay those of the opening
 module _ {n v : ℕ} {s : State} {p : List ℕ} (r : Reached n v s p) where
@@ -107,5 +108,5 @@ all-accepted {n} {v} hn hv (suc k) g {s} {p} r a m (inr x) =
 pub none_refused : (seed tasks cells blocks length : ℕ) → refusal (shake_questions tasks cells blocks length) ≡ none
     → (action : Action) (number : ℕ) → ¬ ((action, refused number) ∈ history pool (zero_start tasks cells blocks) (shaken_actions seed tasks cells blocks length))
 none_refused seed tasks cells blocks length e =
-    let h = sizes_ok_lem tasks cells blocks length e in
+    let h = sizes tasks cells blocks length e in
     all-accepted h.0 h.2 length seed (start-reached tasks cells blocks length e)

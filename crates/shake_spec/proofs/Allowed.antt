@@ -1,10 +1,9 @@
 -- The opening of a session that is drawn is not refused.
-use mathlib.Core.Path.{◌≡◌, refl, sym, ap}
+use mathlib.Core.Path.{◌≡◌, refl}
 use mathlib.Core.Bool.{Bool, true, false}
-use mathlib.Core.Option
-use mathlib.Core.Option.{Option, none}
+use mathlib.Core.Option.{none}
 use mathlib.Core.List.{[], ◌∷◌}
-use Prim.Native.Nat.{ℕ, zero, suc, ◌+◌, ◌*◌, ◌≤◌, ◌<◌}
+use Prim.Native.Nat.{ℕ, zero, suc, ◌+◌, ◌*◌}
 use borrow.Author.Tests.{le-leb, eq-eqb}
 use lib.Dec.{eqb}
 use lib.ListN.{length, get_or, replicate, length-replicate}
@@ -35,15 +34,12 @@ no_none m = never (λ k. eqb (get_or (replicate m 0) k 0) no_value) 0 (length {A
 -- THE QUESTIONS
 
 module _ (n v b k : ℕ) (e : refusal (shake_questions n v b k) ≡ none) where
-  pub sizes_ok_lem : (0 < n) × (n ≤ 32) × (0 < v) × (v ≤ 16) × (b ≤ 128) × (k ≤ 3000)
-  sizes_ok_lem = sizes n v b k (sym (ap (λ (o : Option ℕ). Option.get_or o 0) e)) refl
-
   yes-at : (i : ℕ) → get_or (tasks_ok n ∷ cells_ok v ∷ blocks_ok n v b (5 * b) ∷ within k 1 3000 ∷ []) i true ≡ true
   unfolding shake_questions
   yes-at i = nth (answers (shake_questions n v b k)) (all_yes (shake_questions n v b k) e) i
 
   words : length {A = ℕ} (replicate (pool_words b) 0) ≡ 5 * b
-  words = rw (le-leb b 128 sizes_ok_lem.4) (length-replicate {A = ℕ} (5 * b) 0)
+  words = rw (le-leb b 128 (sizes n v b k e).4) (length-replicate {A = ℕ} (5 * b) 0)
 
   allowed : refusal (open_questions (length {A = ℕ} (replicate (pool_words b) 0)) n v b (replicate v 0)) ≡ none
   unfolding open_questions

@@ -19,9 +19,8 @@ use Rattle.shake_spec.specs.Drawn.{drawn_action}
 use Rattle.shake_spec.specs.Actions.{drawn_actions, zero_start, Short, zero_opening}
 use Rattle.shake_spec.specs.Shaken.{shake_questions, shaken_actions, session_text, shaken}
 use Rattle.shake_spec.proofs.Zeros.{zeros_length}
-use Rattle.shake_spec.proofs.Shaking.{shaken-text}
+use Rattle.shake_spec.proofs.Shaking.{shaken-text, sizes}
 use Rattle.shake_spec.proofs.Writing.{written-short, short-drawn}
-use Rattle.shake_spec.proofs.Allowed.{sizes_ok_lem}
 
 -- THE ACTIONS
 
@@ -75,14 +74,14 @@ opening_length n v b hn hv hb =
 text_length : (g n v b k : ℕ) → refusal (shake_questions n v b k) ≡ none → length (session_text g n v b k) ≤ 65536
 unfolding file_text
 text_length g n v b k e =
-    let h = sizes_ok_lem n v b k e in
+    let h = sizes n v b k e in
     omega (arith, length-append (opening_line (zero_opening n v b)) (form_lines (map act (shaken_actions g n v b k))), opening_length n v b h.1 h.3 h.4, lines_length n v h.0 h.1 h.2 h.3 k g (zero_start n v b), h.5)
 
 -- The text that the shaker prints is a session: its opening, all values 0, and exactly the actions drawn, for every length from 1 to 3,000.
 pub shaken_is_read : (seed tasks cells blocks length : ℕ) → refusal (shake_questions tasks cells blocks length) ≡ none
     → verdict (shaken seed tasks cells blocks length) ≡ session (zero_opening tasks cells blocks) (shaken_actions seed tasks cells blocks length)
 shaken_is_read g n v b k e =
-    let h = sizes_ok_lem n v b k e in
+    let h = sizes n v b k e in
     let o : ProperOpening (zero_opening n v b) = (omega (arith, h.1), (omega (arith, h.3), (omega (arith, h.4), small-zeros v))) in
     let drawn = drawn-small n v h.0 h.1 h.2 h.3 k g (zero_start n v b) in
     let few : length (shaken_actions g n v b k) ≤ 65535 = omega (arith, drawn-count n v k g (zero_start n v b), h.5) in

@@ -8,10 +8,10 @@ use native.Mathlib.Omega.{arith}
 use lib.Dec.{eqb}
 use lib.ListN.{length}
 use Rattle.text.specs.Bytes.{bytes}
-use Rattle.text.specs.Lines.{line}
-use Rattle.text.specs.Append.{Appended}
+use Rattle.text.specs.Page.{Written}
+use Rattle.text.specs.declared.page.Page.{Page}
 use Rattle.text.proofs.Decimal.{decimal-short}
-use Rattle.text.proofs.Spaced.{decimal_32, numbers_length, none_length, line_length}
+use Rattle.text.proofs.Spaced.{numbers_length, none_length, line_length}
 use Rattle.history_spec.specs.History.{read, swap, Action, begin, step, drop, run}
 use Rattle.figure_lines.specs.Record.{is_idle, record_at}
 use Rattle.cells_spec.specs.declared.State.{State}
@@ -22,26 +22,13 @@ use Rattle.shake_spec.specs.Generator.{next, below}
 use Rattle.shake_spec.specs.Drawn.{Drawn, drawn, drawn_begin, drawn_action}
 use Rattle.shake_spec.specs.Actions.{drawn_actions, Short}
 
--- ROOM FOR ANY NUMBERS OF 32 BITS
-
--- a word of five bytes and a task: a step, a drop
-pub task-room : (w : List ℕ) → length w ≡ 5 → (t : ℕ) → t ≤ 4294967295 → length (line w (t ∷ [])) ≤ 51
-task-room w e t h = omega (arith, line_length w (t ∷ []), numbers_length t [], none_length, decimal_32 t h)
-
-pub read-room : (t k : ℕ) → t ≤ 4294967295 → k ≤ 4294967295 → length (line (bytes "(read") (t ∷ k ∷ [])) ≤ 51
-read-room t k h i = omega (arith, line_length (bytes "(read") (t ∷ k ∷ []), numbers_length t (k ∷ []), numbers_length k [], none_length, decimal_32 t h, decimal_32 k i)
-
-pub swap-room : (t k e n : ℕ) → t ≤ 4294967295 → k ≤ 4294967295 → e ≤ 4294967295 → n ≤ 4294967295 → length (line (bytes "(swap") (t ∷ k ∷ e ∷ n ∷ [])) ≤ 51
-swap-room t k e n h i j l =
-    omega (arith, line_length (bytes "(swap") (t ∷ k ∷ e ∷ n ∷ []), numbers_length t (k ∷ e ∷ n ∷ []), numbers_length k (e ∷ n ∷ []), numbers_length e (n ∷ []), numbers_length n [], none_length, decimal_32 t h, decimal_32 k i, decimal_32 e j, decimal_32 n l)
-
 -- THE LINE OF A DRAWN ACTION
 
 as_line : (a : Action) → action_start a ++ bytes ")\n" ≡ form_line (act a)
 unfolding written
 as_line a = sym (append_assoc (action_start a) (bytes ")") (bytes "\n"))
 
-short-line : (a : Action) → Short a → length (action_start a ++ bytes ")\n") ≤ 17
+pub short-line : (a : Action) → Short a → length (action_start a ++ bytes ")\n") ≤ 17
 short-line (begin t (read k)) h = omega (arith, line_length (bytes "(read") (t ∷ k ∷ []), numbers_length t (k ∷ []), numbers_length k [], none_length, decimal-short 1 t h.0, decimal-short 1 k h.1)
 short-line (begin t (swap k e n)) h =
     omega (arith, line_length (bytes "(swap") (t ∷ k ∷ e ∷ n ∷ []), numbers_length t (k ∷ e ∷ n ∷ []), numbers_length k (e ∷ n ∷ []), numbers_length e (n ∷ []), numbers_length n [], none_length, decimal-short 1 t h.0, decimal-short 1 k h.1, decimal-short 0 e h.2, decimal-short 0 n h.3)
@@ -51,8 +38,8 @@ short-line (drop t) h = omega (arith, line_length (bytes "(drop") (t ∷ []), nu
 pub written-short : (a : Action) → Short a → length (form_line (act a)) ≤ 17
 written-short a h = rw (← (as_line a)) (short-line a h)
 
-pub puts : (a : Action) {old new : List ℕ} {at r : ℕ} → Appended old new at r (action_start a ++ bytes ")\n") → Appended old new at r (form_line (act a)) × (Short a → r ≤ at + 17)
-puts a {old} {new} {at} {r} x = (subst (Appended old new at r) (as_line a) x, λ h. omega (arith, x.stored.next, short-line a h))
+pub puts : (a : Action) {old new : Page} → Written old new (action_start a ++ bytes ")\n") → Written old new (form_line (act a)) × (Short a → new.at ≤ old.at + 17)
+puts a {old} {new} x = (subst (Written old new) (as_line a) x, λ h. omega (arith, x.appended.stored.next, short-line a h))
 
 pub below_lt : (m g : ℕ) → 0 < m → below m g < m
 unfolding below

@@ -7,7 +7,8 @@ use lib.ListN.{length, take, replicate, length-replicate}
 use Rattle.text.proofs.Zeros.{take-zeros}
 use Rattle.text.specs.Bytes.{bytes, digits}
 use Rattle.text.specs.Lines.{numbers}
-use Rattle.text.specs.Append.{Appended}
+use Rattle.text.specs.Page.{Written}
+use Rattle.text.specs.declared.page.Page.{Page}
 use Rattle.text.proofs.Spaced.{numbers_length, none_length}
 use Rattle.session_spec.specs.Written.{written_values, opening_line}
 use Rattle.shake_spec.specs.Actions.{zero_opening}
@@ -41,5 +42,5 @@ opening-text : (n v b : ℕ) → 0 < v → (((bytes "(open" ++ numbers (n ∷ v 
 unfolding opening_line
 opening-text n v b h = ap (λ (l : List ℕ). l ++ bytes "))\n") (values-text (bytes "(open" ++ numbers (n ∷ v ∷ b ∷ [])) v h)
 
-pub opens : (n v b : ℕ) {x y z : ℕ} {l o p : List ℕ} {r : ℕ} → x ≡ n → y ≡ v → z ≡ b → l ≡ replicate (v - 1) 0 → 0 < v → Appended o p 0 r ((((bytes "(open" ++ numbers (x ∷ y ∷ z ∷ [])) ++ bytes " (0") ++ numbers l) ++ bytes "))\n") → Appended o p 0 r (opening_line (zero_opening n v b))
-opens n v b {o = o} {p = p} {r = r} ex ey ez el h a = subst (Appended o p 0 r) (rw (ex, ey, ez, el) (opening-text n v b h)) a
+pub opens : (n v b : ℕ) {x y z : ℕ} {l : List ℕ} {o p : Page} → x ≡ n → y ≡ v → z ≡ b → l ≡ replicate (v - 1) 0 → 0 < v → Written o p ((((bytes "(open" ++ numbers (x ∷ y ∷ z ∷ [])) ++ bytes " (0") ++ numbers l) ++ bytes "))\n") → Written o p (opening_line (zero_opening n v b))
+opens n v b {o = o} {p = p} ex ey ez el h a = subst (Written o p) (rw (ex, ey, ez, el) (opening-text n v b h)) a

@@ -1,7 +1,6 @@
 pub mod Generator
 pub mod GeneratorExamples
 pub mod Drawn
-pub mod Answers
 pub mod Actions
 pub mod Shaken
 pub mod Played

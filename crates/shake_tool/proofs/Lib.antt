@@ -1,2 +1,3 @@
-mod Starting
 pub mod Acting
+pub mod Sizing
+pub mod Starting

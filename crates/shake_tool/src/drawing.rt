@@ -1,52 +1,35 @@
 // The actions drawn.
-ghost use Rattle.std.specs.Prelude.{◌≡◌, ◌<◌, ◌≤◌};
-ghost use Rattle.shake_spec.specs.Drawn.{drawn_begin, drawn_action};
-ghost use Rattle.shake_spec.specs.Answers.{drawn_of};
+ghost use Rattle.std.specs.Prelude.{◌≡◌, ◌<◌};
+ghost use Rattle.cells_spec.specs.Answers.{act_of};
+ghost use Rattle.shake_spec.specs.Drawn.{drawn, drawn_begin, drawn_action};
 
-use crate::generator::{below, next};
+use crate::generator::Generator;
+use crate::sizes::Sizes;
 use cells_spec::{Action, State};
-use shake_spec::Draw;
 
 // An idle task begins a call: kind, cell, and for a swap the expected and the new value.
-fn draw_begin(task: u32, cells: u32, g: u32) -> Draw
+fn draw_begin(g: &mut Generator, task: u32, cells: u32) -> Action
     requires { 0 < cells }
-    ensures { drawn_of result ≡ drawn_begin task cells g }
+    ensures { drawn (act_of result) g.new.state ≡ drawn_begin task cells g.old.state }
 {
-    let a = next(g);
-    let b = next(a);
-    let kind = below(2, a);
-    let cell = below(cells, b);
+    let kind = g.draw(2);
+    let cell = g.draw(cells);
     if kind == 0 {
-        let action = Action::Read(task, cell);
-        return Draw {
-            action,
-            generator: b,
-        };
+        return Action::Read(task, cell);
     }
-    let c = next(b);
-    let d = next(c);
-    let action = Action::Swap(task, cell, below(4, c), below(4, d));
-    Draw {
-        action,
-        generator: d,
-    }
+    let expected = g.draw(4);
+    let new = g.draw(4);
+    Action::Swap(task, cell, expected, new)
 }
 
 // A busy task steps.
-pub fn draw_action(s: State, tasks: u32, cells: u32, g: u32) -> Draw
-    requires { (0 < tasks) × (tasks ≤ 32) × (0 < cells) }
-    ensures { drawn_of result ≡ drawn_action tasks cells s g }
+pub fn draw_action(g: &mut Generator, s: &State, sizes: Sizes) -> Action
+    ensures { drawn (act_of result) g.new.state ≡ drawn_action sizes.tasks sizes.cells s.now g.old.state }
 {
-    let a = next(g);
-    let task = below(tasks, a);
-    let t = task as usize;
-    let r = s.records[t];
+    let task = g.draw(sizes.tasks);
+    let r = s.records[task as usize];
     if r.line == 0 {
-        return draw_begin(task, cells, a);
+        return draw_begin(g, task, sizes.cells);
     }
-    let action = Action::Step(task);
-    Draw {
-        action,
-        generator: a,
-    }
+    Action::Step(task)
 }

@@ -5,68 +5,67 @@ mod actions;
 mod drawing;
 mod generator;
 mod opening;
+mod refusal;
+mod sizes;
 
-ghost use Rattle.std.specs.Prelude.{◌≡◌, ◌+◌, ◌*◌, ◌<◌, ◌≤◌, ◌++◌, length, drop, replicate};
-ghost use Rattle.std.proofs.Math.Option.{get_or};
+ghost use Rattle.std.specs.Prelude.{◌≡◌, ◌+◌, ◌≤◌, ◌++◌, length, drop};
 ghost use Rattle.io.specs.Counts.{IsPrefixLen};
 ghost use Rattle.text.specs.Append.{Appended};
-ghost use Rattle.cells_spec.specs.Questions.{refusal as «refusalOf»};
-ghost use Rattle.shake_spec.specs.Shaken.{shake_questions, session_text, shaken_within};
+ghost use Rattle.text.specs.Page.{Written};
+ghost use Rattle.shake_spec.specs.Shaken.{session_text, shaken, shaken_within};
 
+use crate::actions::put_actions;
 use crate::opening::put_opening;
-use buffers::pool_space;
+use crate::sizes::Sizes;
 use cells::blank;
-use text::numbered::put_bad;
+use text::page::Page;
 
 // As many bytes as a session may have; the longest that is drawn has fewer.
 const ROOM: usize = 65536;
 
-// The number of the first question answered no, or 0. With no values an opening is refused with 4 where it passes 1 to 3.
-fn refusal(tasks: u32, cells: u32, blocks: u32, count: u32) -> u32
-    ensures { result ≡ get_or («refusalOf» (shake_questions tasks cells blocks count)) 0 }
+// The session's lines, on a pool and with values that are all 0.
+// Stays (5): how much room a function needs is its own number.
+fn put_session(page: &mut Page<'_>, seed: u32, sizes: Sizes)
+    requires { page.old.at + 65536 ≤ length page.old.bytes.now }
+    ensures { Written page.old page.new (session_text seed sizes.tasks sizes.cells sizes.blocks sizes.count) }
 {
-    let n = cells_questions::open_refusals::open_refusal(
-        5 * blocks as usize,
-        tasks,
-        cells,
-        blocks,
-        &[],
-    );
-    if n < 4 {
-        return n;
-    }
-    if (1 <= count) & (count <= 3000) {
-        0
-    } else {
-        17
+    let mut room = [0; 640];
+    let pool = &mut room[..5 * sizes.blocks as usize];
+    let values = &[0; 16][..sizes.cells as usize];
+    put_opening(page, sizes);
+    let mut s = blank();
+    // Sizes that are allowed are not refused.
+    let _ = cells::open(&mut s, pool, sizes.tasks, sizes.cells, sizes.blocks, values);
+    put_actions(page, &mut s, pool, seed, sizes);
+}
+
+// The session drawn, or the number of a refusal.
+// Stays (5): the promise of `shake` names the five numbers, which are asked before they are Sizes.
+fn print(page: &mut Page<'_>, seed: u32, tasks: u32, cells: u32, blocks: u32, count: u32)
+    requires { page.old.at + 65536 ≤ length page.old.bytes.now }
+    ensures { Written page.old page.new (shaken seed tasks cells blocks count) }
+{
+    match Sizes::asked(tasks, cells, blocks, count) {
+        Ok(sizes) => put_session(page, seed, sizes),
+        Err(refusal) => page.bad(u32::from(refusal)),
     }
 }
 
-// The session's lines, on a pool and with values that are all 0. What is left in the pool is open: it is the session's own.
-fn put_session(
+// The same, at the start of out.
+fn print_at_start(
     out: &mut [u8],
-    pool: &mut [u32],
-    values: &[u32],
     seed: u32,
     tasks: u32,
     cells: u32,
     blocks: u32,
     count: u32,
 ) -> usize
-    requires tasks_nonzero { (0 < tasks) × (tasks ≤ 32) × (0 < cells) × (cells ≤ 16) × (blocks ≤ 128) × (count ≤ 3000) }
-    requires pool_value { (pool.old ≡ replicate (5 * blocks) 0) × (values.now ≡ replicate cells 0) }
-    requires in_bounds { 65536 ≤ length out.old }
-    ensures { Appended out.old out.new 0 result (session_text seed tasks cells blocks count) }
+    requires { 65536 ≤ length out.old }
+    ensures { Appended out.old out.new 0 result (shaken seed tasks cells blocks count) }
 {
-    let at = put_opening(out, tasks, cells, blocks);
-    let first = cells::open(blank(), pool, tasks, cells, blocks, values);
-    crate::actions::put_actions(out, at, first.state, pool, seed, tasks, cells, count)
-}
-
-fn value_space() -> [u32; 16]
-    ensures { result ≡ replicate 16 0 }
-{
-    [0; 16]
+    let mut page = Page::new(out);
+    print(&mut page, seed, tasks, cells, blocks, count);
+    page.at
 }
 
 // Prints the session drawn from the seed, or the number of a refusal, at the start of out, and returns the text's length;
@@ -79,22 +78,5 @@ pub fn shake(seed: u32, tasks: u32, cells: u32, blocks: u32, count: u32, out: &m
     if out.len() < ROOM {
         return 0;
     }
-    let n = refusal(tasks, cells, blocks, count);
-    if n != 0 {
-        return put_bad(out, 0, n);
-    }
-    let mut pool = pool_space();
-    let values = value_space();
-    let words = 5 * blocks as usize;
-    let v = cells as usize;
-    put_session(
-        out,
-        &mut pool[..words],
-        &values[..v],
-        seed,
-        tasks,
-        cells,
-        blocks,
-        count,
-    )
+    print_at_start(out, seed, tasks, cells, blocks, count)
 }

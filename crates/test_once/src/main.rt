@@ -4,210 +4,131 @@
 // is no form and a first one that is no open give (bad 14), and end.
 #![tactic(auto)]
 
-ghost use Rattle.std.specs.Prelude.{◌≤◌, length};
+ghost use Rattle.std.specs.Prelude.{◌≤◌};
 
-use once::{Agreement, Offer, OnceCell, OnceReply, OnceState, Progress};
+use once::{Agreement, OnceState, Refusal};
 use program_io::arguments::argument_count;
 use program_io::case_files::{NAME_ROOM, open_case};
 use program_io::report::{read_all, say};
-use std::io::{Read, Result, Write, writer};
-use std::num::wrapping_add_u32;
+use std::io::{Error, Read, Result, Write, writer};
+use std::result;
 use std::rt::{Env, Files};
-use text::Place;
 use text::readers::starts_with;
 
-// PRINTING: false where it failed, which has been said
+// READING
 
-fn printed(line: Result<()>, errors: &mut impl Write) -> bool {
-    match line {
-        Ok(()) => true,
-        Err(e) => {
-            say(errors, b"output", e);
-            false
-        }
-    }
+#[derive(Clone, Copy, Debug, PartialEq, Eq)]
+enum Form {
+    Open(u32, u32),
+    Offer(u32, u32, u32),
+    Step(u32),
 }
 
-fn print_agreed(rt: &impl Print, task: u32, a: Agreement, errors: &mut impl Write) -> bool {
-    let line = println!(rt;
-        "(done {task} {} {} {} {})",
-        a.cell, a.value, a.steps, a.hard
-    );
-    printed(line, errors)
+// The numbers of a form, from its word to the line's end.
+fn read_numbers<const N: usize>(s: &[u8], word: &[u8]) -> Option<[u32; N]> {
+    let mut numbers = [0; N];
+    let from = starts_with(s, 0, word)?;
+    let to = session_reader::numbers(s, from, N, &mut numbers)?;
+    starts_with(s, to, b")\n")?;
+    Some(numbers)
 }
 
-fn print_declined(rt: &impl Print, action: u32, n: u32, errors: &mut impl Write) -> bool {
-    printed(println!(rt; "(no {action} {n})"), errors)
-}
-
-// READING: a form is known by how many numbers it has
-
-const BAD: usize = 0;
-
-const STEP: usize = 1;
-
-const OPEN: usize = 2;
-
-const OFFER: usize = 3;
-
-// A line's form, and its numbers.
-#[derive(Clone, Copy)]
-struct CaseLine {
-    form: usize,
-    first: u32,
-    second: u32,
-    third: u32,
-}
-
-fn bad() -> CaseLine {
-    CaseLine {
-        form: BAD,
-        first: 0,
-        second: 0,
-        third: 0,
+fn read_line(s: &[u8]) -> Option<Form> {
+    if let Some(n) = read_numbers::<1>(s, b"(step") {
+        return Some(Form::Step(n[0]));
     }
-}
-
-// The numbers of a form, from after its word to the line's end.
-fn read_numbers(s: &[u8], from: usize, form: usize) -> CaseLine
-    requires { (from ≤ length s.now) × (form ≤ 3) }
-{
-    let mut n = [0u32; 3];
-    let read = session_reader::numbers(s, from, form, &mut n);
-    let Place::At(at) = read else {
-        return bad();
-    };
-    let end = starts_with(s, at, b")\n");
-    let Place::At(_) = end else {
-        return bad();
-    };
-    CaseLine {
-        form,
-        first: n[0],
-        second: n[1],
-        third: n[2],
+    if let Some(n) = read_numbers::<2>(s, b"(open") {
+        return Some(Form::Open(n[0], n[1]));
     }
-}
-
-fn read_line(s: &[u8]) -> CaseLine {
-    let a_step = starts_with(s, 0, b"(step");
-    if let Place::At(after) = a_step {
-        return read_numbers(s, after, STEP);
-    }
-    let an_open = starts_with(s, 0, b"(open");
-    if let Place::At(after) = an_open {
-        return read_numbers(s, after, OPEN);
-    }
-    let an_offer = starts_with(s, 0, b"(offer");
-    if let Place::At(after) = an_offer {
-        return read_numbers(s, after, OFFER);
-    }
-    bad()
+    let n = read_numbers::<3>(s, b"(offer")?;
+    Some(Form::Offer(n[0], n[1], n[2]))
 }
 
 // PLAYING
 
-#[derive(Clone, Copy)]
-struct SoFar {
+// Why an input's lines are not played to their end.
+#[derive(Drop)]
+enum Stop {
+    BadLine,
+    Output(Error),
+}
+
+impl From<Error> for Stop {
+    fn from(error: Error) -> Stop {
+        Stop::Output(error)
+    }
+}
+
+// There was no open; the last one was refused; it acted, and the next move has this number.
+// Stays (1): three states of a list, with what each has; an Option would hide two of them.
+#[derive(Clone, Copy, Debug, PartialEq, Eq)]
+enum List {
+    Absent,
+    Refused,
+    Opened(u32),
+}
+
+#[derive(Drop)]
+struct Player {
     state: OnceState,
-    // Whether there was an open, and whether the last one acted.
-    open_seen: bool,
-    open: bool,
-    // Whether to go on: no line was bad, and all was printed.
-    goes: bool,
-    // The next move's number.
-    action: u32,
+    list: List,
 }
 
-// Any state may be opened.
-fn blank() -> SoFar {
-    let cell = OnceCell {
-        x: 0,
-        y: 0,
-        c: 0,
-        v: 0,
-        d: 0,
-        offered: [false; 32],
-    };
-    let offer = Offer {
-        line: 0,
-        cell: 0,
-        value: 0,
-        steps: 0,
-        tried: false,
-    };
-    let state = OnceState {
-        tasks: 0,
-        cells: 0,
-        words: [cell; 16],
-        offers: [offer; 32],
-    };
-    SoFar {
-        state,
-        open_seen: false,
-        open: false,
-        goes: true,
-        action: 0,
-    }
+fn print_refused(rt: &impl Print, action: u32, why: Refusal) -> Result<()> {
+    println!(rt; "(no {action} {})", u32::from(why))
 }
 
-// After a move, or an open; refused, the list is open only if it was.
-fn moved(
-    rt: &impl Print,
-    r: OnceReply,
-    was_open: bool,
-    action: u32,
-    task: u32,
-    next: u32,
-    errors: &mut impl Write,
-) -> SoFar {
-    let state = r.state;
-    let progress = r.progress;
-    let mut open = true;
-    let mut goes = true;
-    match progress {
-        Progress::Declined(n) => {
-            open = was_open;
-            goes = print_declined(rt, action, n, errors);
-        }
-        Progress::Proceeds => {}
-        Progress::Agreed(a) => {
-            goes = print_agreed(rt, task, a, errors);
+fn print_agreed(rt: &impl Print, task: u32, a: Agreement) -> Result<()> {
+    println!(rt;
+        "(done {task} {} {} {} {})",
+        a.cell, a.value, a.steps, a.hard
+    )
+}
+
+impl Player {
+    // Any state may be opened.
+    fn new() -> Player {
+        Player {
+            state: OnceState::default(),
+            list: List::Absent,
         }
     }
-    SoFar {
-        state,
-        open_seen: true,
-        open,
-        goes,
-        action: next,
-    }
-}
 
-fn play(rt: &impl Print, p: SoFar, l: CaseLine, errors: &mut impl Write) -> SoFar {
-    if !p.goes {
-        return p;
+    fn open(&mut self, rt: &impl Print, tasks: u32, cells: u32) -> Result<()> {
+        match once::open(&mut self.state, tasks, cells) {
+            Ok(()) => {
+                self.list = List::Opened(0);
+                Ok(())
+            }
+            Err(why) => {
+                self.list = List::Refused;
+                print_refused(rt, 0, why)
+            }
+        }
     }
-    if l.form == OPEN {
-        let opened = once::open(p.state, l.first, l.second);
-        return moved(rt, opened, false, 0, 0, 0, errors);
+
+    fn play(&mut self, rt: &impl Print, form: Form) -> result::Result<(), Stop> {
+        match (form, self.list) {
+            (Form::Open(tasks, cells), _) => self.open(rt, tasks, cells)?,
+            (_, List::Absent) => return Err(Stop::BadLine),
+            (_, List::Refused) => {}
+            (Form::Offer(task, cell, value), List::Opened(action)) => {
+                self.list = List::Opened(action.wrapping_add(1));
+                if let Err(why) = once::begin_offer(&mut self.state, task, cell, value) {
+                    print_refused(rt, action, why)?;
+                }
+            }
+            (Form::Step(task), List::Opened(action)) => {
+                self.list = List::Opened(action.wrapping_add(1));
+                match once::step(&mut self.state, task) {
+                    Ok(None) => {}
+                    Ok(Some(agreement)) => print_agreed(rt, task, agreement)?,
+                    Err(why) => print_refused(rt, action, why)?,
+                }
+            }
+        }
+        Ok(())
     }
-    if (l.form == BAD) | !p.open_seen {
-        let mut q = p;
-        printed(println!(rt; "(bad 14)"), errors);
-        q.goes = false;
-        return q;
-    }
-    if !p.open {
-        return p;
-    }
-    let next = wrapping_add_u32(p.action, 1);
-    if l.form == STEP {
-        let stepped = once::step(p.state, l.first);
-        return moved(rt, stepped, true, p.action, l.first, next, errors);
-    }
-    let begun = once::begin_offer(p.state, l.first, l.second, l.third);
-    moved(rt, begun, true, p.action, l.first, next, errors)
 }
 
 // INPUT OF ANY LENGTH, a buffer at a time
@@ -216,76 +137,91 @@ fn play(rt: &impl Print, p: SoFar, l: CaseLine, errors: &mut impl Write) -> SoFa
 // much is kept, which is no form.
 const ROOM: usize = 64;
 
-// How many bytes of a line are kept.
-#[derive(Clone, Copy)]
-struct Played {
-    standing: SoFar,
+// The bytes kept of a line that has not ended.
+#[derive(Drop)]
+struct Line {
+    bytes: [u8; ROOM],
     held: usize,
+    ghost within: { held ≤ 64 },
 }
 
-fn keep(line: &mut [u8], held: usize, byte: u8) -> usize
-    requires { held ≤ length line.old }
-    ensures { result ≤ length line.new }
-{
-    if held < line.len() {
-        line[held] = byte;
-        return held + 1;
+impl Line {
+    fn new() -> Line {
+        Line {
+            bytes: [0; ROOM],
+            held: 0,
+        }
     }
-    held
+
+    fn keep(&mut self, byte: u8) {
+        if self.held < ROOM {
+            self.bytes[self.held] = byte;
+            self.held += 1;
+        }
+    }
+
+    fn end(&mut self) -> Option<Form> {
+        let form = read_line(&self.bytes[..self.held]);
+        self.held = 0;
+        form
+    }
 }
 
 // Plays the lines that end in a part of the input.
 fn play_part(
     rt: &impl Print,
-    s: &[u8],
-    line: &mut [u8],
-    before: SoFar,
-    kept: usize,
-    errors: &mut impl Write,
-) -> Played
-    requires { kept ≤ length line.old }
-    ensures { result.held ≤ length line.new }
-{
-    let mut p = before;
-    let mut held = kept;
-    for byte in s {
-        let byte = *byte;
-        held = keep(line, held, byte);
-        if byte != b'\n' {
-            continue;
+    part: &[u8],
+    line: &mut Line,
+    player: &mut Player,
+) -> result::Result<(), Stop> {
+    for byte in part {
+        line.keep(*byte);
+        if *byte == b'\n' {
+            let form = line.end().ok_or(Stop::BadLine)?;
+            player.play(rt, form)?;
         }
-        p = play(rt, p, read_line(&line[..held]), errors);
-        held = 0;
     }
-    Played { standing: p, held }
-}
-
-// A last line may have no end, and is then no form.
-fn end_input(rt: &impl Print, p: SoFar, held: usize, errors: &mut impl Write) {
-    if held > 0 {
-        play(rt, p, bad(), errors);
-    }
+    Ok(())
 }
 
 // A program has to end: so many parts are more than any input has.
-fn run(rt: &impl Print, from: &mut impl Read, name: &[u8], errors: &mut impl Write) {
+fn play_all(
+    rt: &impl Print,
+    from: &mut impl Read,
+    name: &[u8],
+    errors: &mut impl Write,
+) -> result::Result<(), Stop> {
     let mut buf = [0; 4096];
-    let mut line = [0u8; ROOM];
-    let mut p = blank();
-    let mut held: usize = 0;
+    let mut line = Line::new();
+    let mut player = Player::new();
     for _ in 0..usize::MAX {
-        let read = read_all(from, &mut buf, name, errors);
-        let n = read.count;
-        let part = play_part(rt, &buf[..n], &mut line, p, held, errors);
-        p = part.standing;
-        held = part.held;
-        if !p.goes | !read.whole {
-            return;
+        let (n, whole) = match read_all(from, &mut buf, name, errors) {
+            Ok(n) => (n, true),
+            Err(cut) => (cut.count, false),
+        };
+        play_part(rt, &buf[..n], &mut line, &mut player)?;
+        if !whole {
+            break;
         }
         if n < buf.len() {
-            end_input(rt, p, held, errors);
-            return;
+            // A last line may have no end, and is then no form.
+            if line.held > 0 {
+                return Err(Stop::BadLine);
+            }
+            break;
         }
+    }
+    Ok(())
+}
+
+fn run(rt: &impl Print, from: &mut impl Read, name: &[u8], errors: &mut impl Write) {
+    let printed = match play_all(rt, from, name, errors) {
+        Ok(()) => Ok(()),
+        Err(Stop::BadLine) => println!(rt; "(bad 14)"),
+        Err(Stop::Output(error)) => Err(error),
+    };
+    if let Err(error) = printed {
+        say(errors, b"output", error);
     }
 }
 

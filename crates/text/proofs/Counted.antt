@@ -1,30 +1,19 @@
--- One number and its end, and the end after k of them.
+-- The end after k numbers.
+use Rattle.std.specs.Prelude.{Option, Some, None}
+use Rattle.std.specs.Option.{option_eq}
 use mathlib.Core.Path.{◌≡◌, refl, sym, ap, ◌∙◌}
 use mathlib.Core.Bool.{Bool, true, false}
-use mathlib.Core.List.{List, [], ◌∷◌}
-use mathlib.Core.Option.{none, some}
-use Prim.Native.Nat.{ℕ, ◌*◌, ◌≤◌, ◌<◌}
+use mathlib.Core.List.{List}
+use mathlib.Core.Option.{some}
+use Prim.Native.Nat.{ℕ, ◌≤◌, ◌<◌}
 use native.Mathlib.Omega.{arith}
 use borrow.Author.Tests.{eqb-true, eqb-false}
 use lib.Dec.{eqb}
-use lib.ListN.{length, take, drop, drop_of_length-le}
+use lib.ListN.{length, drop, drop_of_length-le}
 use lib.Seq.{take_all}
-use Rattle.text.specs.Readers.{Reads, literal, number, several}
+use Rattle.text.specs.Answers.{SeveralIs}
 use Rattle.text.proofs.Reading.{drop_byte}
-use Rattle.text.specs.Arguments.{ended_by, argument, whole, numbers_given, numbers_or}
-
-module _ (s : List ℕ) (at end : ℕ) where
-  pub no_number : number (drop at s) ≡ none → ended_by end (drop at s) ≡ none
-  no_number e = rw e
-
-  module _ {v a : ℕ} (x : Reads number s at 1 v a) where
-    pub no_end : literal (end ∷ []) (drop a s) ≡ none → ended_by end (drop at s) ≡ none
-    no_end e = rw (x.finds, e)
-
-    pub is-ended : {next : ℕ} → Reads (literal (end ∷ [])) s a 1 tt next → Reads (ended_by end) s at 2 v next
-    is-ended y = record { finds = rw (x.finds, y.finds); past = omega (arith, x.past, y.past); within = y.within }
-
--- AT THE END
+use Rattle.text.specs.Arguments.{argument, whole, numbers_given, numbers_or}
 
 at-end : (s l : List ℕ) (at : ℕ) → at ≤ length s → numbers_or (eqb at (length s)) l ≡ whole (some (l, drop at s))
 at-end s l at h = go (eqb at (length s)) refl
@@ -33,11 +22,9 @@ at-end s l at h = go (eqb at (length s)) refl
     go true e = let q : length s ≤ at = omega (arith, eqb-true at (length s) e) in rw (drop_of_length-le s q)
     go false e = let q : at < length s = omega (arith, eqb-false at (length s) e) in rw (drop_byte s at q)
 
-pub all-given : (s out : List ℕ) (k at : ℕ) → length out ≡ k → Reads (several argument k) s 0 (2 * k) (take k out) at → numbers_or (eqb at (length s)) out ≡ numbers_given k s
+-- the place after k numbers, compared with the end
+pub given : (s out : List ℕ) (k : ℕ) (r : Option ℕ) → length out ≡ k → SeveralIs argument s 0 k out r → numbers_or (option_eq eqb r (Some (length s))) out ≡ numbers_given k s
 unfolding numbers_given
-all-given s out k at e x =
+given s out k None e x = ap whole (sym x)
+given s out k (Some at) e x =
     at-end s out at x.within ∙ ap (λ (l : List ℕ). whole (some (l, drop at s))) (sym (take_all k out (omega (arith, e)))) ∙ ap whole (sym x.finds)
-
-pub none_given : (s : List ℕ) (k : ℕ) → several argument k s ≡ none → none ≡ numbers_given k s
-unfolding numbers_given
-none_given s k e = ap whole (sym e)

@@ -7,3 +7,4 @@ pub mod ReadBack
 pub mod Several
 pub mod Zeros
 mod Counted
+pub mod Pages

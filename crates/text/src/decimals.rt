@@ -4,6 +4,7 @@ ghost use Rattle.text.specs.Bytes.{digits as «digitsOf», decimal};
 ghost use Rattle.text.specs.Append.{Appended};
 
 // Appends n in decimal.
+// Stays (4): Display writes to a fmt::Write that may fail; with the room proved there is no error to hand up.
 pub fn put_number(out: &mut [u8], at: usize, n: u64) -> usize
     requires { at + length (decimal n) ≤ length out.old }
     ensures { Appended out.old out.new at result (decimal n) }

@@ -9,7 +9,7 @@ use crate::put;
 pub fn wide(x: u32) -> u64
     ensures { (result ≡ x) × (result ≤ 4294967295) }
 {
-    x as u64
+    u64::from(x)
 }
 
 // Numbers, each after a space.
@@ -17,12 +17,10 @@ pub fn put_numbers(out: &mut [u8], at: usize, l: &[u64]) -> usize
     requires { at + length («numbers_of» l.now) ≤ length out.old }
     ensures { Appended out.old out.new at result («numbers_of» l.now) }
 {
-    let mut i = 0;
     let mut a = at;
-    while i < l.len() {
+    for n in l {
         let b = put(out, a, b" ");
-        a = put_number(out, b, l[i]);
-        i += 1;
+        a = put_number(out, b, *n);
     }
     a
 }
@@ -42,5 +40,5 @@ pub fn put_bad(out: &mut [u8], at: usize, n: u32) -> usize
     ensures appended { Appended out.old out.new at result (bad_line n) }
     ensures upper_bound { result ≤ at + 67 }
 {
-    put_line(out, at, b"(bad", &[wide(n)])
+    put_line(out, at, b"(bad", &[u64::from(n)])
 }

@@ -2,34 +2,24 @@
 ghost use Rattle.text.specs.Readers.{number as «number_of»};
 ghost use Rattle.text.specs.Answers.{NumeralIs};
 
-use crate::Numeral;
-
-// The number that starts at `at`.
-pub fn number(s: &[u8], at: usize) -> Numeral
+// The number that starts at `at`, and the place after it.
+pub fn number(s: &[u8], at: usize) -> Option<(u32, usize)>
     ensures { NumeralIs «number_of» s.now at 1 result }
 {
-    if s.len() <= at {
-        return Numeral::Absent;
+    let first = *s.get(at)?;
+    if first == b'0' {
+        return Some((0, at + 1));
     }
-    let first = s[at];
-    if first == 48 {
-        return Numeral::Read(0, at + 1);
+    if !first.is_ascii_digit() {
+        return None;
     }
-    if (first < 48) | (57 < first) {
-        return Numeral::Absent;
-    }
-    let mut v = (first - 48) as u64;
-    let mut i = at + 1;
-    while i < s.len() {
+    let mut v = u32::from(first - b'0');
+    for i in at + 1..s.len() {
         let b = s[i];
-        if (b < 48) | (57 < b) {
-            return Numeral::Read(v as u32, i);
+        if !b.is_ascii_digit() {
+            return Some((v, i));
         }
-        v = v * 10 + (b - 48) as u64;
-        if 4294967295 < v {
-            return Numeral::Absent;
-        }
-        i += 1;
+        v = v.checked_mul(10)?.checked_add(u32::from(b - b'0'))?;
     }
-    Numeral::Read(v as u32, i)
+    Some((v, s.len()))
 }

@@ -1,15 +1,20 @@
-use Rattle.session_reader.proofs.Verdicts.{sizes_known}
+use Rattle.std.proofs.Common.{length}
+use Rattle.session_reader.proofs.Verdicts.{other_sizes, same_sizes}
 use Rattle.session_reader.specs.Reading.{verdict_in}
 use Rattle.session_reader.specs.Tables.{after_reading_into}
 use Rattle.session_reader.proofs.read_session.Goals as goal
 
-pub read-requires : goal.read-requires
-read-requires c = let w = sizes_known _ _ _ c.if-values-forms.true in record { values_len = w.0; kept_len = w.1.0; actions_len = w.1.1 }
-
-pub returns-then-values-forms : goal.returns-then-values-forms
+pub returns-then-ne : goal.returns-then-ne
 unfolding verdict_in after_reading_into
-returns-then-values-forms c = let e = c.if-values-forms.true in let r = c.read in record { actions_after = rw e r.ensures.actions_after; in_buffers = r.ensures.in_buffers; actions_after_2 = rw e r.ensures.actions_after_2 }
+returns-then-ne c =
+    let a = c.args in
+    let e = other_sizes (length a.values.now) (length a.forms.now) (length a.actions.now) c.if-ne.ensures in
+    record { actions_after = rw e; in_buffers = tt; actions_after_2 = rw e }
 
 pub returns : goal.returns
 unfolding verdict_in after_reading_into
-returns c = record { actions_after = rw c.if-values-forms.false; in_buffers = tt; actions_after_2 = rw c.if-values-forms.false }
+returns c =
+    let a = c.args in
+    let e = same_sizes (length a.values.now) (length a.forms.now) (length a.actions.now) c.if-ne.ensures in
+    let r = c.read.ensures in
+    record { actions_after = rw e r.actions_after; in_buffers = r.in_buffers; actions_after_2 = rw e r.actions_after_2 }

@@ -1,17 +1,15 @@
-use mathlib.Core.List.{[], ◌∷◌}
-use lib.Dec.{ltb}
-use Rattle.figure_lines.specs.Record.{is_idle, record_at}
-use Rattle.cells_spec.proofs.Acts.{read-acts}
-use Rattle.adds_spec.specs.Adding.{adding_begun}
-use Rattle.adds_spec.proofs.Entries.{then_pool, acted-below}
+use Rattle.std.proofs.lemmas.Result.{err_from_is_err_and}
+use Rattle.cells_spec.proofs.Acts.{read_untouched}
+use Rattle.adds_spec.specs.Adding.{no_add, adding_begun}
+use Rattle.adds_spec.proofs.Entries.{then_kept, read-below}
 use Rattle.cells.proofs.adding.begin_read.Goals as goal
 
--- What the cells' own entry leaves, and no add of the task.
-pub then_add-requires : goal.then_add-requires
-then_add-requires c = let e = c.args in
-    let s = e.s.cells in
-    acted-below s e.pool.now e.task ((8, ltb e.cell s.cells) ∷ (9, is_idle (record_at s.records e.task)) ∷ []) c.begin_read-r.ensures (read-acts s e.pool.now e.task e.cell)
-
-pub returns : goal.returns
+-- Refused, the cells' own entry left what it was given.
+pub returns-in_err-begin_read : goal.returns-in_err-begin_read
 unfolding adding_begun
-returns c = let e = c.args in then_pool e.s e.pool.now e.task c.then_add.ensures c.no_add.ensures c.begin_read-r.ensures
+returns-in_err-begin_read c = let e = c.args in
+    let k = err_from_is_err_and c.from_residual.result c.from_residual.ensures.1 in
+    rw (k.1, k.2) (then_kept e.s.now e.pool.now e.task no_add c.if-not-adds_fit.ensures (read_untouched e.s.now.cells e.pool.now e.task e.cell) c.in_err-begin_read.ensures)
+
+pub bounds-s-task : goal.bounds-s-task
+bounds-s-task c = let e = c.args in read-below e.s.now.cells e.pool.now e.task e.cell c.in_ok-begin_read.ensures

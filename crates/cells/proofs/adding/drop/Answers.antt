@@ -1,17 +1,15 @@
-use mathlib.Core.List.{[], ◌∷◌}
-use mathlib.Core.Bool.{not}
-use Rattle.figure_lines.specs.Record.{is_idle, record_at}
-use Rattle.cells_spec.proofs.Acts.{drop-acts}
-use Rattle.adds_spec.specs.Adding.{adding_dropped}
-use Rattle.adds_spec.proofs.Entries.{then_pool, acted-below}
+use Rattle.std.proofs.lemmas.Result.{err_from_is_err_and}
+use Rattle.cells_spec.proofs.Acts.{drop_untouched}
+use Rattle.adds_spec.specs.Adding.{no_add, adding_dropped}
+use Rattle.adds_spec.proofs.Entries.{then_kept, drop-below}
 use Rattle.cells.proofs.adding.drop.Goals as goal
 
--- What the cells' own entry leaves, and no add of the task.
-pub then_add-requires : goal.then_add-requires
-then_add-requires c = let e = c.args in
-    let s = e.s.cells in
-    acted-below s e.pool.now e.task ((11, not (is_idle (record_at s.records e.task))) ∷ []) c.drop-r.ensures (drop-acts s e.pool.now e.task)
-
-pub returns : goal.returns
+-- Refused, the cells' own entry left what it was given.
+pub returns-in_err-drop : goal.returns-in_err-drop
 unfolding adding_dropped
-returns c = let e = c.args in then_pool e.s e.pool.now e.task c.then_add.ensures c.no_add.ensures c.drop-r.ensures
+returns-in_err-drop c = let e = c.args in
+    let k = err_from_is_err_and c.from_residual.result c.from_residual.ensures.1 in
+    rw (k.1, k.2) (then_kept e.s.now e.pool.now e.task no_add c.if-not-adds_fit.ensures (drop_untouched e.s.now.cells e.pool.now e.task) c.in_err-drop.ensures)
+
+pub bounds-s-task : goal.bounds-s-task
+bounds-s-task c = let e = c.args in drop-below e.s.now.cells e.pool.now e.task c.in_ok-drop.ensures

@@ -13,11 +13,11 @@ pub returns-then-s-cell : goal.returns-then-s-cell
 unfolding looked
 returns-then-s-cell c = rw (sym c.is_fit.ensures ∙ c.if-not-is_fit.false, le-ltb _ _ c.if-s-cell.true)
 
-pub bounds-s-k : goal.bounds-s-k
-bounds-s-k c = let e = c.args in (current-below e.s e.pool.now (sym c.is_fit.ensures ∙ c.if-not-is_fit.false) e.cell c.if-s-cell.false).0
+pub bounds-s-cell : goal.bounds-s-cell
+bounds-s-cell c = let e = c.args in (current-below e.s.now e.pool.now (sym c.is_fit.ensures ∙ c.if-not-is_fit.false) e.cell c.if-s-cell.false).0
 
 pub shown_value-requires : goal.shown_value-requires
-shown_value-requires c = let e = c.args in (current-below e.s e.pool.now (sym c.is_fit.ensures ∙ c.if-not-is_fit.false) e.cell c.if-s-cell.false).1
+shown_value-requires c = let e = c.args in (current-below e.s.now e.pool.now (sym c.is_fit.ensures ∙ c.if-not-is_fit.false) e.cell c.if-s-cell.false).1
 
 pub returns : goal.returns
 unfolding looked

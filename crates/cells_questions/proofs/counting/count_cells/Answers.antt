@@ -7,7 +7,6 @@ use Rattle.cells_spec.specs.Questions.{names_of}
 use Rattle.cells_spec.proofs.Sums.{once, once-most, sum-last, sum-most}
 use Rattle.cells_spec.proofs.Tables.{more-at}
 use native.Mathlib.Omega.{arith}
-use Rattle.std.proofs.Common.{rules}
 use Rattle.cells_questions.proofs.counting.count_cells.Goals as goal
 
 -- at most 16 cells name a block
@@ -23,32 +22,19 @@ one_more l b k = ap (names_of l b) (next k) ∙ (sum-last (λ k. once (eqb (get_
     here : (k : ℕ) → 0 + k ≡ k
     here k = omega arith
 
-pub loop-k-init : goal.loop-k-init
-loop-k-init c = (search rules, rw c.requires.2 (length-replicate {A = ℕ} 128 0), λ b m. rw c.requires.2 (get_or-replicate 128 b 0 0 m))
+pub loop-b-init : goal.loop-b-init
+loop-b-init c = (rw c.requires.2 (length-replicate {A = ℕ} 128 0), λ b m. rw c.requires.2 (get_or-replicate 128 b 0 0 m))
 
 pub count-requires : goal.count-requires
-count-requires c = let l = c.loop-k in
+count-requires c = let l = c.loop-b in
     let a = c.args in
     let p = c.requires in
-    let t = c.loop-k-test.true in
-    let h = p.1 l.k t in
-    (h, omega (arith, l.invariant.2 _ h, few a.current.now (get_or a.current.now l.k 0) l.k (omega (arith, p.0))))
+    let h = p.1 l.b-index c.loop-b-test.true in
+    (h, omega (arith, l.invariant.1 _ h, few a.current.now (get_or a.current.now l.b-index 0) l.b-index (omega (arith, p.0, c.loop-b-test.true))))
 
-pub overflow_add-k : goal.overflow_add-k
-overflow_add-k c = omega arith
-
-pub loop-k-smaller : goal.loop-k-smaller
-loop-k-smaller c = omega arith
-
-pub loop-k-preserved : goal.loop-k-preserved
-loop-k-preserved c = let l = c.loop-k in
+pub loop-b-preserved : goal.loop-b-preserved
+loop-b-preserved c = let l = c.loop-b in
     let a = c.args in (
-      search rules,
-      rw c.count.ensures (length-set l.table (get_or a.current.now l.k 0) _ ∙ l.invariant.1),
-      λ b m. rw c.count.ensures (more-at b l.table (omega (arith, m, l.invariant.1)) (get_or a.current.now l.k 0) ∙ rw (l.invariant.2 b m) (sym (one_more a.current.now b l.k))),
+      rw c.count.ensures (length-set l.table (get_or a.current.now l.b-index 0) _ ∙ l.invariant.0),
+      λ b m. rw c.count.ensures (more-at b l.table (omega (arith, m, l.invariant.0)) (get_or a.current.now l.b-index 0) ∙ rw (l.invariant.1 b m) (sym (one_more a.current.now b l.b-index))),
     )
-
-pub returns : goal.returns
-returns c = let l = c.loop-k in
-    let e : l.k ≡ c.args.cells = omega (arith, l.invariant.0, c.loop-k-test.false) in
-    (l.invariant.1, λ b m. l.invariant.2 b m ∙ rw e)

@@ -1,123 +1,104 @@
 use mathlib.Core.Path.{◌≡◌, refl, sym, ap, ◌∙◌}
-use mathlib.Core.Bool.{Bool, true, false, ◌&&◌, and-eq-true_iff}
+use mathlib.Core.Bool.{Bool, ◌&&◌}
 use Prim.Native.Nat.{ℕ, ◌≤◌, ◌<◌, ◌+◌}
 use native.Mathlib.Nat.{sub-zero}
-use lib.Dec.{ltb}
-use lib.ListN.{get_or}
-use borrow.Author.Tests.{ltb-true}
-use Rattle.cells_spec.specs.declared.State.{State}
-use Rattle.figure_lines.specs.Basics.{all_from}
-use Rattle.figure_lines.specs.Record.{record_at}
-use Rattle.cells_spec.specs.Questions.{cells_fit, records_fit, counts_true}
-use Rattle.cells_spec.proofs.Tests.{all-at}
-use Rattle.cells_spec.proofs.Loops.{all_no, all_yes, all_end}
-use Rattle.cells_spec.proofs.Fits.{sizes_ok, grouped, sizes_below}
-use Rattle.cells_spec.proofs.Counted.{has_room, counted_next, compared}
 use native.Mathlib.Omega.{arith}
+use lib.ListN.{get_or, length, take}
+use Rattle.std.proofs.lemmas.List.{get_or-take, length-take-le}
+use Rattle.cells_spec.specs.declared.State.{State}
+use Rattle.figure_lines.specs.Record.{idle}
+use Rattle.cells_spec.specs.Questions.{record_fit, records_fit, counts_true}
+use Rattle.cells_spec.proofs.Loops.{all_no, all_yes, all_end}
+use Rattle.cells_spec.proofs.Fits.{sizes_below}
+use Rattle.cells_spec.proofs.Counted.{has_room, counted_next, compared}
+use Rattle.cells_questions.proofs.Fitting.{no_sizes, no_last, no_cells, left, below-128}
+use Rattle.cells_questions.proofs.Ranges.{names_listed, all_equal}
 use Rattle.cells_questions.proofs.fitness.is_fit.Invariants.{test}
 use Rattle.std.proofs.Common.{rules}
 use Rattle.cells_questions.proofs.fitness.is_fit.Goals as goal
-use Rattle.cells_questions.proofs.fitness.is_fit.Goals.{Else-not-cells_fit-s, Else-not-tasks_ok-cells_ok}
-
-sizes_ok_lem : (c : Else-not-tasks_ok-cells_ok) → let a = c.args in sizes_ok a.s a.pool.now ≡ true
-sizes_ok_lem c = rw (← c.tasks_ok.ensures, ← c.cells_ok.ensures, ← c.blocks_ok.ensures) c.if-not-tasks_ok-cells_ok.false
-
-cells-128 : (s : State) → cells_fit s && ltb s.last s.blocks ≡ true → s.blocks ≤ 128 → (k : ℕ) → k < s.cells → get_or s.current k 0 < 128
-unfolding cells_fit
-cells-128 s e h k l =
-    let f : ℕ → Bool = λ k. ltb (get_or s.current k 0) s.blocks in
-    let below : get_or s.current k 0 < s.blocks = ltb-true _ _ (all-at f 0 s.cells ((and-eq-true_iff (all_from f 0 s.cells) (ltb s.last s.blocks)).0 e).0 k (omega arith) (omega arith)) in
-    omega (arith, below)
+use Rattle.cells_questions.proofs.fitness.is_fit.Goals.{then-s-via-then-s, then-s-via-else-s+then-not-cells_fit}
 
 plus_zero : (n : ℕ) → n ≡ n + 0
 plus_zero n = omega arith
 
-cells_ok_lem : (c : Else-not-cells_fit-s) → let s = c.args.s in cells_fit s && ltb s.last s.blocks ≡ true
-unfolding cells_fit
-cells_ok_lem c = rw (← c.cells_fit.ensures) c.if-not-cells_fit-s.false
+cells-long : (s : State) → s.cells ≤ 16 → length s.current ≡ 16 → s.cells ≤ length s.current
+cells-long s h e = omega arith
 
-pub returns-then-not-tasks_ok-cells_ok : goal.returns-then-not-tasks_ok-cells_ok
-returns-then-not-tasks_ok-cells_ok c = let s = c.args.s in
-    let p = c.args.pool.now in
-    let e : sizes_ok s p ≡ false = rw (← c.tasks_ok.ensures, ← c.cells_ok.ensures, ← c.blocks_ok.ensures) c.if-not-tasks_ok-cells_ok.true in
-    sym (grouped s p ∙ rw e)
+tasks-long : (s : State) → s.tasks ≤ 32 → length s.records ≡ 32 → length (take s.tasks s.records) ≡ s.tasks
+tasks-long s h e = length-take-le s.tasks s.records (omega arith)
 
-pub cells_fit-requires : goal.cells_fit-requires
-cells_fit-requires c = let a = c.args in (sizes_below a.s a.pool.now (sizes_ok_lem (goal.at.cells_fit-requires c).Else-not-tasks_ok-cells_ok)).1
+its_own : (s : State) (t : ℕ) → t < s.tasks → test s t ≡ record_fit (get_or (take s.tasks s.records) t idle) s.cells s.blocks
+its_own s t h = ap (λ r. record_fit r s.cells s.blocks) (sym (get_or-take s.tasks s.records t idle h))
 
-pub returns-then-not-cells_fit-s : goal.returns-then-not-cells_fit-s
-unfolding cells_fit
-returns-then-not-cells_fit-s c = let s = c.args.s in
-    let p = c.args.pool.now in
-    let e = sizes_ok_lem (goal.at.returns-then-not-cells_fit-s c).Else-not-tasks_ok-cells_ok in
-    let d : cells_fit s && ltb s.last s.blocks ≡ false = rw (← c.cells_fit.ensures) c.if-not-cells_fit-s.true in
-    sym (grouped s p ∙ rw (e, d))
+pub returns-then-not-sizes_fit : goal.returns-then-not-sizes_fit
+returns-then-not-sizes_fit c = let s = c.args.s.now in no_sizes s c.args.pool.now (sym c.sizes_fit.ensures ∙ c.if-not-sizes_fit.true)
+
+pub returns-then-s : goal.returns-then-s
+returns-then-s c =
+    let s = c.args.s.now in
+    let e = sym c.sizes_fit.ensures ∙ c.if-not-sizes_fit.false in
+    elim c.then-s.branch [
+      | then-s-via-then-s w ↦ no_last s c.args.pool.now e w.if-s.true
+      | then-s-via-else-s+then-not-cells_fit w ↦ no_cells s c.args.pool.now e (sym w.cells_fit.ensures ∙ w.if-not-cells_fit.true)
+    ]
 
 pub count_cells-requires : goal.count_cells-requires
-count_cells-requires c = let a = c.args in
-    let z = sizes_below a.s a.pool.now (sizes_ok_lem (goal.at.count_cells-requires c).Else-not-tasks_ok-cells_ok) in
-    (z.1, cells-128 a.s (cells_ok_lem (goal.at.count_cells-requires c).Else-not-cells_fit-s) z.2, refl)
-
-pub overflow_cast-n : goal.overflow_cast-n
-overflow_cast-n c = omega arith
-
-pub loop-t-init : goal.loop-t-init
-unfolding records_fit
-loop-t-init c = let s = c.args.s in
-    let p = c.args.pool.now in
-    let e = sizes_ok_lem (goal.at.loop-t-init c).Else-not-tasks_ok-cells_ok in
-    let z = sizes_below s p e in (
-      search rules,
-      z.0,
-      rw sub-zero,
-      sym (grouped s p ∙ rw (e, cells_ok_lem (goal.at.loop-t-init c).Else-not-cells_fit-s)),
-      z.1,
-      z.2,
-      record { long = c.count_cells.ensures.0; each = λ b m. c.count_cells.ensures.1 b m ∙ plus_zero _ },
+count_cells-requires c =
+    let s = c.args.s.now in
+    let z = sizes_below s c.args.pool.now (sym c.sizes_fit.ensures ∙ c.if-not-sizes_fit.false) in
+    let n : length (take s.cells s.current) ≡ s.cells = length-take-le s.cells s.current (cells-long s z.1 (search rules)) in (
+      omega (arith, n, z.1),
+      λ k l.
+          let m : k < s.cells = omega (arith, n, l) in
+          rw (get_or-take s.cells s.current k 0 m) (below-128 s (sym c.cells_fit.ensures ∙ c.if-not-cells_fit.false) z.2 k m),
+      refl,
     )
 
-pub offset_bounds-s-t : goal.offset_bounds-s-t
-offset_bounds-s-t c = omega arith
-
-pub bounds-s-t : goal.bounds-s-t
-bounds-s-t c = omega arith
+pub loop-r-init : goal.loop-r-init
+unfolding records_fit
+loop-r-init c =
+    let s = c.args.s.now in
+    let p = c.args.pool.now in
+    let e = sym c.sizes_fit.ensures ∙ c.if-not-sizes_fit.false in
+    let long = cells-long s (sizes_below s p e).1 (search rules) in (
+      omega arith,
+      rw sub-zero,
+      left s p e c.if-s.false (sym c.cells_fit.ensures ∙ c.if-not-cells_fit.false),
+      record { long = c.count_cells.ensures.0; each = λ b m. c.count_cells.ensures.1 b m ∙ (names_listed s.current b s.cells long ∙ plus_zero _) },
+    )
 
 pub returns-then-not-record_fit : goal.returns-then-not-record_fit
-returns-then-not-record_fit c = let l = c.loop-t in
-    let s = c.args.s in
-    let d = all_no (test s) l.t s.tasks l.invariant.2 c.loop-t-test.true (sym c.record_fit.ensures ∙ c.if-not-record_fit.true) in
-    ap (λ (x : Bool). x && counts_true s) d ∙ l.invariant.3
+returns-then-not-record_fit c = let l = c.loop-r in
+    let s = c.args.s.now in
+    let z = sizes_below s c.args.pool.now (sym c.sizes_fit.ensures ∙ c.if-not-sizes_fit.false) in
+    let h : l.r-index < s.tasks = omega (arith, tasks-long s z.0 (search rules), c.loop-r-test.true) in
+    let d = all_no (test s) l.r-index s.tasks l.invariant.1 h (its_own s l.r-index h ∙ (sym c.record_fit.ensures ∙ c.if-not-record_fit.true)) in
+    ap (λ (x : Bool). x && counts_true s) d ∙ l.invariant.2
 
 pub claim-requires : goal.claim-requires
-claim-requires c = let l = c.loop-t in
-    let s = c.args.s in
-    has_room s l.table l.t l.invariant.6 (record_at s.records l.t) s.cells s.blocks (sym c.record_fit.ensures ∙ c.if-not-record_fit.false) l.invariant.5 l.invariant.4 (omega (arith, l.invariant.0, l.invariant.1))
+claim-requires c = let l = c.loop-r in
+    let s = c.args.s.now in
+    let z = sizes_below s c.args.pool.now (sym c.sizes_fit.ensures ∙ c.if-not-sizes_fit.false) in
+    has_room s l.table l.r-index l.invariant.3 _ s.cells s.blocks (sym c.record_fit.ensures ∙ c.if-not-record_fit.false) z.2 z.1 (omega (arith, l.invariant.0, z.0))
 
-pub overflow_add-t : goal.overflow_add-t
-overflow_add-t c = omega arith
-
-pub loop-t-smaller : goal.loop-t-smaller
-loop-t-smaller c = omega arith
-
-pub loop-t-preserved : goal.loop-t-preserved
-loop-t-preserved c = let l = c.loop-t in
-    let s = c.args.s in
+pub loop-r-preserved : goal.loop-r-preserved
+loop-r-preserved c = let l = c.loop-r in
+    let s = c.args.s.now in
+    let z = sizes_below s c.args.pool.now (sym c.sizes_fit.ensures ∙ c.if-not-sizes_fit.false) in
+    let h : l.r-index < s.tasks = omega (arith, tasks-long s z.0 (search rules), c.loop-r-test.true) in
     let e = sym c.record_fit.ensures ∙ c.if-not-record_fit.false in (
-      search rules,
-      search rules,
-      all_yes (test s) l.t s.tasks l.invariant.2 c.loop-t-test.true e,
-      l.invariant.3,
-      l.invariant.4,
-      l.invariant.5,
-      rw c.claim.ensures (counted_next s l.table l.t l.invariant.6 (record_at s.records l.t) s.cells s.blocks e l.invariant.5 refl),
+      omega (arith, h),
+      all_yes (test s) l.r-index s.tasks l.invariant.1 h (its_own s l.r-index h ∙ e),
+      l.invariant.2,
+      rw c.claim.ensures (counted_next s l.table l.r-index l.invariant.3 _ s.cells s.blocks e z.2 (sym (get_or-take s.tasks s.records l.r-index idle h))),
     )
 
-pub same_counts-requires : goal.same_counts-requires
-same_counts-requires c = c.loop-t.invariant.5
-
 pub returns : goal.returns
-returns c = let l = c.loop-t in
-    let s = c.args.s in
-    let d = all_end (test s) l.t s.tasks l.invariant.2 c.loop-t-test.false in
-    let n : l.t ≡ s.tasks = omega (arith, l.invariant.0, c.loop-t-test.false) in
-    c.same_counts.ensures ∙ (compared s l.table (rw n at l.invariant.6) l.invariant.5 ∙ (ap (λ (x : Bool). x && counts_true s) d ∙ l.invariant.3))
+returns c = let l = c.loop-r in
+    let s = c.args.s.now in
+    let z = sizes_below s c.args.pool.now (sym c.sizes_fit.ensures ∙ c.if-not-sizes_fit.false) in
+    let n : l.r-index ≡ s.tasks = omega (arith, l.invariant.0, tasks-long s z.0 (search rules), c.loop-r-test.false) in
+    let d = all_end (test s) l.r-index s.tasks l.invariant.1 (omega (arith, n)) in
+    let w : length s.counts ≡ 128 = search rules in
+    let same = all_equal _ s.counts l.table s.blocks (omega (arith, w, z.2)) (omega (arith, l.invariant.3.long, z.2)) in
+    c.eq.ensures ∙ (sym same ∙ (compared s l.table (rw n at l.invariant.3) z.2 ∙ (ap (λ (x : Bool). x && counts_true s) d ∙ l.invariant.2)))

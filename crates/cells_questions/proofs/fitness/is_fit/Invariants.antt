@@ -12,9 +12,6 @@ use Rattle.cells_questions.proofs.fitness.is_fit.Given as goal
 abbrev pub test : State → ℕ → Bool
 test s t = record_fit (record_at s.records t) s.cells s.blocks
 
-abbrev pub invariant-loop-t : goal.invariant-loop-t
-invariant-loop-t l =
-    (l.t ≤ l.n) × (l.n ≤ 32) × (all_from (test l.s) l.t (l.n - l.t) ≡ records_fit l.s) × (records_fit l.s && counts_true l.s ≡ fit l.s l.pool) × (l.s.cells ≤ 16) × (l.s.blocks ≤ 128) × Counted l.s l.table l.t
-
-abbrev pub decreases-loop-t : goal.decreases-loop-t
-decreases-loop-t l = l.n - l.t
+abbrev pub invariant-loop-r : goal.invariant-loop-r
+invariant-loop-r l =
+    (l.r-index ≤ l.s.tasks) × (all_from (test l.s) l.r-index (l.s.tasks - l.r-index) ≡ records_fit l.s) × (records_fit l.s && counts_true l.s ≡ fit l.s l.pool) × Counted l.s l.table l.r-index

@@ -1,46 +1,35 @@
-use mathlib.Core.Path.{◌≡◌, sym}
-use mathlib.Core.Bool.{true, ◌&&◌}
-use lib.Dec.{leb, ltb}
-use Rattle.cells_spec.proofs.Unused.{after-below}
-use Rattle.cells_spec.proofs.Search.{starts, finds, finds_none, here, onward, nowhere}
+use mathlib.Core.Path.{◌≡◌}
+use mathlib.Core.Logic.{inl, inr}
+use Prim.Native.Nat.{suc, ◌+◌, ◌-◌}
 use native.Mathlib.Omega.{arith}
+use native.Mathlib.Nat.{sub-zero}
+use Rattle.cells_spec.specs.Blocks.{block_after}
+use Rattle.cells_spec.proofs.Unused.{after-below}
+use Rattle.cells_spec.proofs.Search.{finds, finds_none, here, onward, nowhere}
 use Rattle.cells_step.proofs.blocks.unused_block.Goals as goal
-use Rattle.cells_step.proofs.blocks.unused_block.Goals.{Else-not-blocks-last}
+use Rattle.cells_step.proofs.blocks.unused_block.Goals.{then-blocks-gt128-via-then-blocks-gt128, then-blocks-gt128-via-else-blocks-gt128+then-blocks-last}
 
-guarded : (c : Else-not-blocks-last) → let a = c.args in leb a.blocks 128 && ltb a.last a.blocks ≡ true
-guarded c = c.if-not-blocks-last.false
+pub returns-then-blocks-gt128 : goal.returns-then-blocks-gt128
+returns-then-blocks-gt128 c = let a = c.args in elim c.then-blocks-gt128.branch [
+  | then-blocks-gt128-via-then-blocks-gt128 w ↦ finds_none a.counts.now a.blocks a.last (inl w.if-blocks-gt128.true)
+  | then-blocks-gt128-via-else-blocks-gt128+then-blocks-last w ↦ finds_none a.counts.now a.blocks a.last (inr w.if-blocks-last.true)
+]
 
-pub returns-then-not-blocks-last : goal.returns-then-not-blocks-last
-returns-then-not-blocks-last c = let a = c.args in sym (finds_none a.counts.now a.blocks a.last c.if-not-blocks-last.true)
-
-pub block_after-b-requires : goal.block_after-b-requires
-block_after-b-requires c = let a = c.args in (starts a.counts.now a.blocks a.last (guarded (goal.at.block_after-b-requires c).Else-not-blocks-last)).1
-
-pub loop-left-init : goal.loop-left-init
-loop-left-init c = let a = c.args in
-    let h = starts a.counts.now a.blocks a.last (guarded (goal.at.loop-left-init c).Else-not-blocks-last) in
-    rw c.block_after-b.ensures (h.0, after-below a.blocks a.last h.1, sym (finds a.counts.now a.blocks a.last (guarded (goal.at.loop-left-init c).Else-not-blocks-last)))
+pub loop-init : goal.loop-init
+loop-init c = let a = c.args in rw sub-zero (c.if-blocks-gt128.false, c.if-blocks-last.false, finds a.counts.now a.blocks a.last c.if-blocks-gt128.false c.if-blocks-last.false)
 
 pub bounds-counts-b : goal.bounds-counts-b
-bounds-counts-b c = omega (arith, c.loop-left.invariant.0, c.loop-left.invariant.1)
+bounds-counts-b c = rw c.block_after-b.ensures (omega (arith, after-below c.args.blocks c.loop.b c.loop.invariant.1, c.loop.invariant.0))
 
 pub returns-then-counts-b-eq0 : goal.returns-then-counts-b-eq0
 returns-then-counts-b-eq0 c = let a = c.args in
-    let l = c.loop-left in
-    here a.counts.now a.blocks l.b l.left l.invariant.2 c.loop-left-test.true c.if-counts-b-eq0.true
+    let e : a.blocks - c.loop.counter ≡ suc (a.blocks - (c.loop.counter + 1)) = omega arith in
+    rw c.block_after-b.ensures (here a.counts.now a.blocks (block_after a.blocks c.loop.b) (a.blocks - c.loop.counter) c.loop.invariant.2 _ e (rw c.block_after-b.ensures at c.if-counts-b-eq0.true))
 
-pub block_after-b-requires-in-loop-left : goal.block_after-b-requires-in-loop-left
-block_after-b-requires-in-loop-left c = c.loop-left.invariant.1
-
-pub loop-left-smaller : goal.loop-left-smaller
-loop-left-smaller c = omega arith
-
-pub loop-left-preserved : goal.loop-left-preserved
-loop-left-preserved c = let a = c.args in
-    let l = c.loop-left in
-    rw c.block_after-b-in-loop-left.ensures (l.invariant.0, after-below a.blocks l.b l.invariant.1, onward a.counts.now a.blocks l.b l.left l.invariant.2 c.loop-left-test.true c.if-counts-b-eq0.false)
+pub loop-preserved : goal.loop-preserved
+loop-preserved c = let a = c.args in
+    let e : a.blocks - c.loop.counter ≡ suc (a.blocks - (c.loop.counter + 1)) = omega arith in
+    rw c.block_after-b.ensures (c.loop.invariant.0, after-below a.blocks c.loop.b c.loop.invariant.1, onward a.counts.now a.blocks (block_after a.blocks c.loop.b) (a.blocks - c.loop.counter) c.loop.invariant.2 _ e (rw c.block_after-b.ensures at c.if-counts-b-eq0.false))
 
 pub returns : goal.returns
-returns c = let a = c.args in
-    let l = c.loop-left in
-    nowhere a.counts.now a.blocks l.b l.left l.invariant.2 (omega (arith, c.loop-left-test.false))
+returns c = let a = c.args in nowhere a.counts.now a.blocks (block_after a.blocks c.loop.b) (a.blocks - c.loop.counter) c.loop.invariant.2 (omega arith)

@@ -1,6 +1,6 @@
-use Prim.Native.Nat.{◌*◌}
-use Rattle.cells_spec.proofs.Parts.{stored}
+use Rattle.std.proofs.Common.{rules}
+use Rattle.cells_step.proofs.Stored.{stored_word}
 use Rattle.cells_step.proofs.memory.store.Goals as goal
 
 pub returns : goal.returns
-returns c = let e = c.args in rw (← c.offset-at.ensures.0) (stored (5 * e.block) e.pool.now _ e.v _ c.put.ensures)
+returns c = let e = c.args in stored_word e.block e.pool.now e.field _ e.v (search rules)

@@ -2,10 +2,10 @@ use native.Mathlib.Omega.{arith}
 use Rattle.text.proofs.Decimal.{decimal-short}
 use Rattle.moments_tool.proofs.words.put_small.Goals as goal
 
-pub put_number-requires : goal.put_number-requires
-put_number-requires c = omega (arith, c.wide.ensures.0, decimal-short 4 c.wide.result (omega (arith, c.wide.ensures.0, c.requires.1)))
+pub number-requires : goal.number-requires
+number-requires c = omega (arith, c.from.ensures, decimal-short 4 c.from.result (omega (arith, c.from.ensures, c.requires.1)))
 
-pub returns : goal.returns
-returns c = let w = c.wide in
-    let p = c.put_number.ensures in
-    (rw (← w.ensures.0) p, omega (arith, p.stored.next, decimal-short 4 w.result (omega (arith, w.ensures.0, c.requires.1))), λ h. omega (arith, p.stored.next, decimal-short 1 w.result (omega (arith, w.ensures.0, h))))
+pub returns-clause-upper_bound : goal.returns-clause-upper_bound
+returns-clause-upper_bound c = let w = c.from in
+    let p = c.number.ensures.appended.stored.next in
+    (omega (arith, p, decimal-short 4 w.result (omega (arith, w.ensures, c.requires.1))), λ h. omega (arith, p, decimal-short 1 w.result (omega (arith, w.ensures, h))))

@@ -1,15 +1,13 @@
-use mathlib.Core.Path.{refl}
-use Rattle.cells_spec.proofs.Refusals.{is-refused, is-allowed}
-use Rattle.once_spec.specs.Questions.{open_once}
+use Rattle.std.proofs.Common.{◌≡◌, Err, rules}
 use Rattle.once_spec.specs.Entries.{once_opened}
 use Rattle.once.proofs.opening.open.Goals as goal
 
--- The code's number is that of the definition's questions: by it the entry refuses or acts.
-pub returns-then-n-ne0 : goal.returns-then-n-ne0
+pub returns-in_err-ask : goal.returns-in_err-ask
 unfolding once_opened
-returns-then-n-ne0 c = let e = c.args in rw (is-refused (open_once e.tasks e.cells) _ c.open_refusal-n.ensures c.if-n-ne0.true)
+returns-in_err-ask c =
+    let e : c.from_residual.result ≡ Err c.in_err-ask.field-0.0 = search rules in
+    rw (e, ← c.in_err-ask.ensures {u = tt})
 
 pub returns : goal.returns
 unfolding once_opened
-returns c = let e = c.args in
-    rw (is-allowed (open_once e.tasks e.cells) _ c.open_refusal-n.ensures c.if-n-ne0.false refl, ← c.idle-r.ensures, ← c.fresh_cell-m.ensures)
+returns c = rw (← c.in_ok-ask.ensures {u = tt}, c.fresh_cell.ensures, c.idle.ensures)

@@ -1,34 +1,30 @@
-use mathlib.Core.Path.{◌≡◌, sym, ◌∙◌}
-use mathlib.Core.Bool.{true, false}
-use native.Mathlib.Nat.{sub-zero}
-use Rattle.cells_spec.proofs.Loops.{all_no, all_yes, all_end}
-use Rattle.once_spec.specs.Questions.{offers_fit}
-use Rattle.once.proofs.Fits.{sizes_ok, grouped, tasks-below}
-use Rattle.once.proofs.questions.is_fit.Invariants.{test}
-use Rattle.std.proofs.Common.{rules}
+use Rattle.std.proofs.Common.{◌≡◌, ◌∙◌, sym, true, false}
+use mathlib.Core.Bool.{and-true}
+use Rattle.cells_spec.specs.Questions.{tasks_ok, cells_ok}
+use Rattle.once_spec.specs.Questions.{once_fit}
+use Rattle.once.proofs.Fits.{offers_fit-taken}
 use Rattle.once.proofs.questions.is_fit.Goals as goal
+use Rattle.once.proofs.questions.is_fit.Goals.{then-tasks_ok, else-tasks_ok}
 
-pub returns-then-not-tasks_ok-cells_ok : goal.returns-then-not-tasks_ok-cells_ok
-returns-then-not-tasks_ok-cells_ok c = let s = c.args.s in
-    let e : sizes_ok s ≡ false = rw (← c.tasks_ok.ensures, ← c.cells_ok.ensures) c.if-not-tasks_ok-cells_ok.true in
-    sym (grouped s ∙ rw e)
+pub returns-then-cells_ok : goal.returns-then-cells_ok
+unfolding once_fit
+returns-then-cells_ok c = let s = c.args.s.now in
+    elim c.if-tasks_ok.branch [
+      | then-tasks_ok w ↦
+          let n : tasks_ok s.tasks ≡ true = sym (w.if-tasks_ok.ensures {u = tt}) in
+          let k : cells_ok s.cells ≡ true = sym w.cells_ok.ensures ∙ sym w.value-is ∙ c.if-cells_ok.true in
+          rw (n, k, and-true, offers_fit-taken s) c.all_fit.ensures
+      | else-tasks_ok w ↦
+          let no : true ≡ false = sym c.if-cells_ok.true ∙ w.value-is ∙ w.if-tasks_ok.false in
+          absurd cc
+    ]
 
-pub loop-t-init : goal.loop-t-init
-unfolding offers_fit
-loop-t-init c = let s = c.args.s in
-    let e : sizes_ok s ≡ true = rw (← c.tasks_ok.ensures, ← c.cells_ok.ensures) c.if-not-tasks_ok-cells_ok.false in
-    (search rules, tasks-below s e, rw sub-zero (sym (grouped s ∙ rw e)))
-
-pub returns-then-not-offer_fit : goal.returns-then-not-offer_fit
-returns-then-not-offer_fit c = let l = c.loop-t in
-    let s = c.args.s in
-    all_no (test s) l.t s.tasks l.invariant.2 c.loop-t-test.true (sym c.offer_fit.ensures ∙ c.if-not-offer_fit.true)
-
-pub loop-t-preserved : goal.loop-t-preserved
-loop-t-preserved c = let l = c.loop-t in
-    let s = c.args.s in
-    (search rules, search rules, all_yes (test s) l.t s.tasks l.invariant.2 c.loop-t-test.true (sym c.offer_fit.ensures ∙ c.if-not-offer_fit.false))
-
-pub returns : goal.returns
-returns c = let s = c.args.s in
-    all_end (test s) c.loop-t.t s.tasks c.loop-t.invariant.2 c.loop-t-test.false
+pub returns-else-cells_ok : goal.returns-else-cells_ok
+unfolding once_fit
+returns-else-cells_ok c = let s = c.args.s.now in
+    elim c.if-tasks_ok.branch [
+      | then-tasks_ok w ↦
+          let k : cells_ok s.cells ≡ false = sym w.cells_ok.ensures ∙ sym w.value-is ∙ c.if-cells_ok.false in
+          rw (← w.if-tasks_ok.ensures {u = tt}, k) c.if-cells_ok.false
+      | else-tasks_ok w ↦ rw (← w.if-tasks_ok.ensures {u = tt}) c.if-cells_ok.false
+    ]

@@ -1,3 +1,4 @@
+use Rattle.std.proofs.Common.{rules}
 use Rattle.session_engine.proofs.Acting as acting
 use Rattle.session_engine.proofs.actions.action_at.Goals as goal
 
@@ -11,4 +12,4 @@ pub returns-in-3 : goal.returns-in-3
 returns-in-3 c = let a = c.args in acting.steps a.forms.now a.f c.in-3.is
 
 pub returns-in_default : goal.returns-in_default
-returns-in_default c = let a = c.args in acting.drops a.forms.now a.f c.in_default.in_default-own.rest.0.0.1 c.in_default.in_default-own.rest.0.1 c.in_default.in_default-own.rest.1
+returns-in_default c = let a = c.args in search (rules, acting.drops a.forms.now a.f)

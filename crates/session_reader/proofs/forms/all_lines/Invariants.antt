@@ -5,7 +5,7 @@ use Prim.Native.Nat.{◌-◌}
 use Rattle.session_reader.proofs.forms.all_lines.Given as goal
 
 abbrev pub invariant-loop-i : goal.invariant-loop-i
-invariant-loop-i l = Walk specs.read_line specs.finish l.s l.at l.initial.forms l.initial.actions 0 0 l.forms l.actions l.i l.g l.m l.over
+invariant-loop-i l = Walk specs.read_line specs.finish l.s l.at l.initial.tables l.tables l.i l.over
 
 abbrev pub decreases-loop-i : goal.decreases-loop-i
 decreases-loop-i l = length l.s - l.i

@@ -1,16 +1,16 @@
-use native.Mathlib.Omega.{arith}
-use Rattle.text.proofs.Appending.{nothing}
 use Rattle.session_spec.specs.Lines.{event_line}
+use Rattle.text.proofs.Pages.{unwritten}
+use Rattle.std.proofs.Common.{rules}
 use Rattle.session_tool.proofs.play.report.Goals as goal
 
-pub returns-in-Refused : goal.returns-in-Refused
+pub returns-in-Err-clause-written : goal.returns-in-Err-clause-written
 unfolding event_line
-returns-in-Refused c = record { appended = rw c.in-Refused.is c.put_no.ensures.appended; upper_bound = λ _. c.put_no.ensures.upper_bound }
+returns-in-Err-clause-written c = search rules
 
-pub returns-in-Acted : goal.returns-in-Acted
+pub returns-in-Ok-None-clause-written : goal.returns-in-Ok-None-clause-written
 unfolding event_line
-returns-in-Acted c = record { appended = rw c.in-Acted.is (nothing _ _); upper_bound = λ _. omega arith }
+returns-in-Ok-None-clause-written c = search (rules, unwritten)
 
-pub returns-in-Ended : goal.returns-in-Ended
+pub returns-in-Ok-Some-clause-written : goal.returns-in-Ok-Some-clause-written
 unfolding event_line
-returns-in-Ended c = record { appended = rw c.in-Ended.is c.put_done.ensures.appended; upper_bound = rw c.in-Ended.is c.put_done.ensures.few_digits }
+returns-in-Ok-Some-clause-written c = search rules

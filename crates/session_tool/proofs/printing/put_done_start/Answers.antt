@@ -1,8 +1,7 @@
-use native.Mathlib.Omega.{arith}
-use Rattle.text.proofs.Appending.{then}
+use Rattle.text.proofs.Pages.{written_then}
 use Rattle.session_spec.specs.Lines.{done_start}
 use Rattle.session_tool.proofs.printing.put_done_start.Goals as goal
 
-pub returns : goal.returns
+pub returns-clause-written : goal.returns-clause-written
 unfolding done_start
-returns c = record { appended = then (then (then (then (then c.put-a.ensures c.put_small-b.ensures.appended) c.put_kind-c.ensures.appended) c.put_small-d.ensures.appended) c.put-e.ensures) c.put_answer.ensures.appended; few_digits = omega (arith, c.put-a.ensures.stored.next, c.put_small-b.ensures.upper_bound, c.put_kind-c.ensures.upper_bound, c.put_small-d.ensures.upper_bound, c.put-e.ensures.stored.next, c.put_answer.ensures.upper_bound) }
+returns-clause-written c = written_then (written_then (written_then (written_then (written_then c.put.ensures c.put_small.ensures.written) c.put_kind.ensures.written) c.put_small-2.ensures.written) c.put-2.ensures) c.put_answer.ensures.written

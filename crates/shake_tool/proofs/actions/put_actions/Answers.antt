@@ -1,31 +1,42 @@
-use Rattle.std.proofs.Common.{sym, ap, ◌∙◌, subst, arith, rules}
-use native.Mathlib.Nat.{sub-zero}
-use Rattle.cells_spec.specs.Machine.{Pool}
-use Rattle.text.proofs.Toward.{toward_start, toward_more, toward_end}
+use Rattle.std.proofs.Common.{sym, ap, ◌∙◌, subst, arith}
+use Rattle.text.proofs.Pages.{onward_more, onward_end}
 use Rattle.shake_spec.specs.Drawn.{Drawn}
 use Rattle.shake_spec.specs.Actions.{Short}
 use Rattle.shake_spec.proofs.Writing.{short-drawn, one_line, no_line_lem, one_done, none_done}
-use Rattle.std.proofs.Common.{rules}
+use Rattle.cells_spec.specs.Answers.{act_of}
+use Rattle.cells_theorems.proofs.Reaching.{reached-fit}
+use Rattle.session_engine.proofs.Turning.{reached_then}
+use Rattle.shake_tool.proofs.Acting.{moves}
+use Rattle.shake_tool.proofs.Sizing.{fits}
 use Rattle.shake_tool.proofs.actions.put_actions.Goals as goal
 
-pub loop-i-init : goal.loop-i-init
-loop-i-init c = (rw sub-zero (toward_start _ _ _), search rules, search rules, search rules, rw sub-zero)
+pub put_action-requires-clause-short : goal.put_action-requires-clause-short
+put_action-requires-clause-short c = let w = c.args.sizes in
+    let h = fits w in
+    let l = c.loop-i in
+    subst Short (ap (λ (y : Drawn). y.action) (sym c.draw_action-a.ensures)) (short-drawn w.tasks w.cells l.s l.g.state h.0 h.1 h.2 h.3)
 
-pub put_action-at-requires : goal.put_action-at-requires
-put_action-at-requires c = let l = c.loop-i in let q = c.requires in omega (arith, l.invariant.0.same, l.invariant.2, c.loop-i-test.true, q.tasks_nonzero, q.in_bounds)
+pub put_action-requires-clause-in_bounds : goal.put_action-requires-clause-in_bounds
+put_action-requires-clause-in_bounds c = let l = c.loop-i in omega (arith, l.invariant.0.written.size, l.invariant.1, c.loop-i-test.true, fits c.args.sizes, c.requires.in_bounds)
 
-pub loop-i-smaller : goal.loop-i-smaller
-loop-i-smaller c = omega (arith, c.loop-i-test.true)
+pub advance-requires : goal.advance-requires
+advance-requires c = reached-fit c.loop-i.invariant.2
 
 pub loop-i-preserved : goal.loop-i-preserved
 loop-i-preserved c = let l = c.loop-i in
-    let a = c.args in
-    let q = c.requires in
+    let w = c.args.sizes in
     let h = c.loop-i-test.true in
-    let d = c.draw_action-d in
-    let p = c.put_action-at.ensures in
-    let small = subst Short (ap (λ (y : Drawn). y.action) (sym d.ensures)) (short-drawn a.tasks a.cells l.s l.g q.tasks_nonzero.0 q.tasks_nonzero.1 q.tasks_nonzero.2 q.tasks_nonzero.3) in
-    (toward_more l.invariant.0 p.appended (search rules) (one_line a.tasks a.cells a.count l.i l.g l.s l.pool h d.ensures c.act-s.ensures), omega (arith, h), omega (arith, l.invariant.2, p.upper_bound small), search rules, sym (one_done a.tasks a.cells a.count l.i l.g l.s l.pool h d.ensures c.act-s.ensures) ∙ l.invariant.4)
+    let d = c.draw_action-a.ensures in
+    let p = c.put_action.ensures in
+    let x = moves c.advance.ensures in
+    (onward_more l.invariant.0 p.written (one_line w.tasks w.cells w.count l._i l.g.state l.s l.pool h d x), omega (arith, l.invariant.1, p.upper_bound), reached_then l.invariant.2 (act_of c.draw_action-a.result) c.advance.ensures, sym (one_done w.tasks w.cells w.count l._i l.g.state l.s l.pool h d x) ∙ l.invariant.3)
 
-pub returns : goal.returns
-returns c = let l = c.loop-i in let a = c.args in record { appended = toward_end l.invariant.0 (no_line_lem a.tasks a.cells a.count l.i l.g l.s l.pool c.loop-i-test.false); pool_after = ap (λ (x : Pool). x.1) (sym (none_done a.tasks a.cells a.count l.i l.g l.s l.pool c.loop-i-test.false) ∙ l.invariant.4) }
+pub returns-clause-written : goal.returns-clause-written
+returns-clause-written c = let l = c.loop-i in
+    let w = c.args.sizes in
+    onward_end l.invariant.0 (no_line_lem w.tasks w.cells w.count l._i l.g.state l.s l.pool c.loop-i-test.false)
+
+pub returns-clause-cells_after : goal.returns-clause-cells_after
+returns-clause-cells_after c = let l = c.loop-i in
+    let w = c.args.sizes in
+    sym (none_done w.tasks w.cells w.count l._i l.g.state l.s l.pool c.loop-i-test.false) ∙ l.invariant.3

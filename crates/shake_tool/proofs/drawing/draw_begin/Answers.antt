@@ -3,9 +3,14 @@ use Rattle.shake_tool.proofs.drawing.draw_begin.Goals as goal
 
 pub returns-then-kind-eq0 : goal.returns-then-kind-eq0
 returns-then-kind-eq0 c = let a = c.args in
-    begins-read a.task a.cells a.g c.next-a.ensures c.next-b.ensures c.below-kind.ensures.0 c.below-cell.ensures.0 c.if-kind-eq0.true
+    let kind = c.draw-kind.ensures in
+    let cell = c.draw-cell.ensures in
+    begins-read a.task a.cells a.g.now.state kind.moved cell.moved kind.drawn cell.drawn c.if-kind-eq0.true
 
 pub returns : goal.returns
-returns c = let e = c in
-    let a = e.args in
-    begins-swap a.task a.cells a.g e.next-a.ensures e.next-b.ensures e.below-kind.ensures.0 e.below-cell.ensures.0 e.if-kind-eq0.false c.next-c.ensures c.next-d.ensures c.below.ensures.0 c.below-2.ensures.0
+returns c = let a = c.args in
+    let kind = c.draw-kind.ensures in
+    let cell = c.draw-cell.ensures in
+    let expected = c.draw-expected.ensures in
+    let new = c.draw-new.ensures in
+    begins-swap a.task a.cells a.g.now.state kind.moved cell.moved kind.drawn cell.drawn c.if-kind-eq0.false expected.moved new.moved expected.drawn new.drawn

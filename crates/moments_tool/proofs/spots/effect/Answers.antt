@@ -1,8 +1,0 @@
-use borrow.Author.Tests.{eq-eqb, ne_eqb}
-use Rattle.moments_tool.proofs.spots.effect.Goals as goal
-
-pub returns-then-o-eq1 : goal.returns-then-o-eq1
-returns-then-o-eq1 c = rw (eq-eqb _ _ c.if-o-eq1.true)
-
-pub returns-else-o-eq1 : goal.returns-else-o-eq1
-returns-else-o-eq1 c = rw (ne_eqb _ _ c.if-o-eq1.false)
