@@ -8,13 +8,11 @@ mod printing;
 mod ranges;
 mod refusal;
 
-ghost use Rattle.std.specs.Prelude.{◌≡◌, ◌+◌, ◌≤◌, ◌++◌, length, drop, refl};
+ghost use Rattle.std.specs.Prelude.{◌≡◌, ◌++◌, length, drop, refl};
 ghost use Rattle.std.proofs.Common.{lit≤};
 ghost use Rattle.io.specs.Counts.{IsPrefixLen};
 ghost use Rattle.bus_spec.specs.Bus.{times_from, bus_text, bus_within};
 ghost use Rattle.session_engine.specs.Start.{tool_start};
-ghost use Rattle.session_engine.specs.Tool.{Fresh, all_of};
-ghost use Rattle.text.specs.Page.{Written};
 ghost use Rattle.bus_tool.specs.Kinds.{times_between};
 
 use crate::kinds::Kinds;
@@ -23,7 +21,6 @@ use crate::ranges::Ranges;
 use cells_spec::State;
 use session_engine::actions::Actions;
 use session_engine::tool::{Tool, run_tool};
-use text::numbered::put_bad;
 use text::page::Page;
 
 // Its settings are the times as they were given.
@@ -33,21 +30,6 @@ struct Bus {
     high: Kinds,
 }
 
-impl Bus {
-    // 21 and 22, then the actions. What is left in the pool is open.
-    // Stays (5): state, pool and actions are lent apart, and a struct of them cannot hold a part of a lent slice (docs/DESIGN-PASS.md).
-    fn print(self, page: &mut Page<'_>, first: State, pool: &mut [u32], actions: Actions<'_>)
-        requires in_bounds { page.old.at + 2400000 ≤ length page.old.bytes.now }
-        requires fresh { Fresh first pool.old }
-        ensures { Written page.old page.new (bus_text (times_between self.low self.high) first.tasks (first, pool.old) (all_of actions.entry)) }
-    {
-        match Ranges::asked(self.low, self.high) {
-            Ok(ranges) => play(page, ranges, first, pool, actions),
-            Err(refusal) => page.bad(u32::from(refusal)),
-        }
-    }
-}
-
 impl Tool for Bus {
     ghost text = { λ b. tool_start (bus_text (times_between b.low b.high)) };
 
@@ -55,14 +37,17 @@ impl Tool for Bus {
 
     const ROOM: usize = 2400000;
 
-    fn put_refused(&self, out: &mut [u8], n: u32) -> usize {
-        put_bad(out, 0, n)
+    fn put_refused(&self, page: &mut Page<'_>, n: u32) {
+        page.bad(n)
     }
 
-    fn play(&self, out: &mut [u8], first: State, pool: &mut [u32], actions: Actions<'_>) -> usize {
-        let mut page = Page::new(out);
-        self.print(&mut page, first, pool, actions);
-        page.at
+    // 21 and 22, then the actions.
+    // Stays (5): state, pool and actions are lent apart, and a struct of them cannot hold a part of a lent slice (docs/DESIGN-PASS.md).
+    fn play(&self, page: &mut Page<'_>, first: State, pool: &mut [u32], actions: Actions<'_>) {
+        match Ranges::asked(self.low, self.high) {
+            Ok(ranges) => play(page, ranges, first, pool, actions),
+            Err(refusal) => page.bad(u32::from(refusal)),
+        }
     }
 
     ghost bad_alike = { λ t n. refl };

@@ -1,6 +1,6 @@
 // The actions of a fit state: question 6 is not asked again. For the entries, and for whoever begins with what an opening left, which
 // stays fit.
-// Stays (5): fit speaks of the state and of the pool that the caller keeps, so no type of the state alone can hold it (a: clause of `step`).
+// Stays (5): fit speaks of state and pool, which `step` is lent as two arguments, so no type of the state alone can hold it.
 ghost use Rattle.std.specs.Prelude.{◌≡◌, true, List, ℕ, ◌≤◌};
 ghost use Rattle.cells_spec.specs.Answers.{acted, answered};
 ghost use Rattle.cells_spec.specs.Questions.{fit};

@@ -19,7 +19,7 @@ fn fill_blocks(pool: &mut [u32], values: &[u32])
 }
 
 // Refused, state and pool are as they were.
-// Stays (5): the three sizes are plain numbers (d): a struct of them would be made at each call, and taken apart at once.
+// Stays (5): a struct of the three sizes would be made at each call, and taken apart at once.
 pub fn open(
     s: &mut State,
     pool: &mut [u32],

@@ -17,7 +17,7 @@ use Rattle.figure_lines.specs.Lines.{Line, Wanted, l1, l2, l3, l4, l5, l6, l7, l
 use Rattle.cells_spec.specs.Pool.{word}
 use Rattle.cells_spec.specs.Memory.{Reaches}
 use Rattle.figure_lines.proofs.Ranges.{line-at, wanted}
-use Rattle.cells_spec.specs.LineRun.{left, line_run, line_done, stepped, Within}
+use Rattle.cells_spec.specs.LineRun.{left, line_run, line_done, step_done, Within}
 
 -- NO ACCESS DEPENDS ON THE COUNT OF STEPS
 
@@ -52,7 +52,7 @@ module _ (t : ℕ) (r : Record) (k : ℕ) where
   pub within_steps : (n : ℕ) → Reaches n (access_of t r) → Reaches n (access_of t (record r { steps = k }))
   within_steps n h = subst (λ (a : Access). Reaches n a) (sym (same (line_of r))) h
 
-pub done-run : (p : List ℕ) (t : ℕ) (r : Record) (c l : ℕ) (f : Option ℕ) → line_done p t (stepped r) c l f ≡ line_run p t r c l f
+pub done-run : (p : List ℕ) (t : ℕ) (r : Record) (c l : ℕ) (f : Option ℕ) → line_done p t (step_done r) c l f ≡ line_run p t r c l f
 done-run p t r c l f = rw (same t r (r.steps + 1) (line_of r))
 
 -- WHAT A LINE LEAVES; the record has its step counted

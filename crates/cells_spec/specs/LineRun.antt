@@ -29,8 +29,8 @@ followed r (Some f) = Done (result_of f)
 -- (what follows only helps the proofs)
 
 -- the step counted; the hardware CAS too
-abbrev pub stepped : Record → Record
-stepped r = record r { steps = r.steps + 1 }
+abbrev pub step_done : Record → Record
+step_done r = record r { steps = r.steps + 1 }
 
 abbrev pub tallied : Record → Attempt → Record
 tallied r x = record r { won = r.won + wins x; lost = r.lost + losses x }

@@ -1,5 +1,5 @@
 // Lines 1 to 3 of figure 2 on the pool: the deciding part.
-// Stays (5): what a line needs speaks of pool and record, which are lent apart (runs.rt).
+// Stays (5): as in runs.rt, a line is lent pool and record as two arguments.
 ghost use Rattle.std.specs.Prelude.{◌≡◌, ◌||◌, eqb, ℕ, ◌+◌, ◌≤◌, length};
 ghost use Rattle.figure_lines.specs.Lines.{l3, deciding, next_at};
 ghost use Rattle.cells_spec.specs.LineRun.{followed, Does, Within};

@@ -1,5 +1,5 @@
 // Lines 4 to 8 of figure 2 on the pool: the words of a new block.
-// Stays (5): what a line needs speaks of pool and record, which are lent apart (runs.rt).
+// Stays (5): as in runs.rt, a line is lent pool and record as two arguments.
 ghost use Rattle.std.specs.Prelude.{◌≡◌, ℕ, ◌≤◌, length};
 ghost use Rattle.figure_lines.specs.Basics.{option_of};
 ghost use Rattle.cells_spec.specs.Memory.{There};

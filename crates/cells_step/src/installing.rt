@@ -1,5 +1,5 @@
 // Lines 26, 27 and 30 of figure 2 on the pool: a swap's end.
-// Stays (5): what a line needs speaks of pool and record, which are lent apart (runs.rt).
+// Stays (5): as in runs.rt, a line is lent pool and record as two arguments.
 ghost use Rattle.std.specs.Prelude.{◌≡◌, List, ℕ, ◌+◌, ◌≤◌, length};
 ghost use Rattle.std.proofs.Math.Option.{Option};
 ghost use Rattle.cells_spec.specs.LineRun.{left, line_done, followed, Does, Within};

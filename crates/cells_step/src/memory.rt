@@ -8,7 +8,7 @@ ghost use Rattle.cells_spec.specs.Memory.{touched, performed};
 use figure_lines::Field;
 use figure_lines::records::NO_VALUE;
 
-// Stays (5): pool and state are lent apart, so no type can hold that a block of the state lies in the pool.
+// Stays (5): `step` is lent pool and state as two arguments; a struct of both would be made for each access, and taken apart at once.
 
 // X where no task has written it.
 pub const NO_TASK: u32 = 255;

@@ -1,5 +1,5 @@
 // Lines 10 to 12 of figure 2 on the pool: a read.
-// Stays (5): what a line needs speaks of pool and record, which are lent apart (runs.rt).
+// Stays (5): as in runs.rt, a line is lent pool and record as two arguments.
 ghost use Rattle.std.specs.Prelude.{ℕ, ◌≤◌, length};
 ghost use Rattle.cells_spec.specs.LineRun.{followed, Does, Within};
 

@@ -13,7 +13,7 @@ use crate::swapping::swap_line;
 use figure_lines::{Finished, Record};
 
 // Each line counts as a step. Line 4 takes a block, and line 30 changes the cell's.
-// Stays (5): what a line needs speaks of pool and record, which are lent apart, so each function asks it.
+// Stays (5): `step` is lent pool and state as two arguments; a struct of both would be made for each line, and taken apart at once.
 // Stays (7): as below, the figure's own line numbers.
 pub fn run(
     pool: &mut [u32],

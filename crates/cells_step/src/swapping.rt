@@ -1,5 +1,5 @@
 // Lines 15 to 24 of figure 2 on the pool: a swap up to its store of V, and the load of C after it.
-// Stays (5): what a line needs speaks of pool and record, which are lent apart (runs.rt).
+// Stays (5): as in runs.rt, a line is lent pool and record as two arguments.
 ghost use Rattle.std.specs.Prelude.{◌≡◌, ℕ, ◌≤◌, length};
 ghost use Rattle.figure_lines.specs.Lines.{l21, next_at};
 ghost use Rattle.cells_spec.specs.LineRun.{followed, Does, Within};

@@ -19,7 +19,7 @@ pub struct Turn {
     pub ended: Option<Finished>,
 }
 
-// No entry, but a step for callers that have proved what it needs: the entry `step` and the session runner.
+// No entry: a step for callers that have proved what it needs.
 pub fn take_turn(
     pool: &mut [u32],
     task: u32,

@@ -20,7 +20,6 @@ use crate::play::play;
 use cells_spec::State;
 use session_engine::actions::Actions;
 use session_engine::tool::{Tool, run_tool};
-use text::numbered::put_bad;
 use text::page::Page;
 
 struct Moments;
@@ -32,14 +31,12 @@ impl Tool for Moments {
 
     const ROOM: usize = 2400000;
 
-    fn put_refused(&self, out: &mut [u8], n: u32) -> usize {
-        put_bad(out, 0, n)
+    fn put_refused(&self, page: &mut Page<'_>, n: u32) {
+        page.bad(n)
     }
 
-    fn play(&self, out: &mut [u8], first: State, pool: &mut [u32], actions: Actions<'_>) -> usize {
-        let mut page = Page::new(out);
-        play(&mut page, first, pool, actions);
-        page.at
+    fn play(&self, page: &mut Page<'_>, first: State, pool: &mut [u32], actions: Actions<'_>) {
+        play(page, first, pool, actions);
     }
 
     ghost bad_alike = { λ t n. refl };

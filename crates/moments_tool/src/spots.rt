@@ -53,7 +53,7 @@ impl Side {
         }
     }
 
-    // Stays (4): the number is of a word that this tool made, so TryFrom would have no error to give.
+    // Stays (4): of a pair with `Rule::numbered`.
     pub fn numbered(n: u32) -> Side
         ensures { side_meant result ≡ side_at n }
     {
@@ -94,7 +94,7 @@ impl Rule {
         }
     }
 
-    // Stays (4): the number is of a word that this tool made, so TryFrom would have no error to give.
+    // Stays (4): it requires n < 8, for which From has no place, and TryFrom would need an error that never comes.
     pub fn numbered(n: u32) -> Rule
         requires { n < 8 }
         ensures { rule_meant result ≡ rule_numbered n }

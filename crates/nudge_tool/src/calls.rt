@@ -21,7 +21,7 @@ pub struct CallSummary {
 }
 
 // The task's call with n finished before it. The pool is a copy, used up here.
-// Stays (5): state, pool and actions are lent apart, and a struct of them cannot hold a part of a lent slice (docs/DESIGN-PASS.md).
+// Stays (5): state, pool and actions are a tool's three arguments (`Tool::play`); a struct of them would be taken apart at once.
 fn seek(
     first: State,
     pool: &mut [u32],

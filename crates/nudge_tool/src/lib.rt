@@ -10,14 +10,13 @@ mod refusal;
 mod touching;
 mod trial;
 
-ghost use Rattle.std.specs.Prelude.{◌≡◌, ◌+◌, ◌≤◌, ◌++◌, length, drop, refl};
+ghost use Rattle.std.specs.Prelude.{◌≡◌, ◌++◌, length, drop, refl};
 ghost use Rattle.std.proofs.Common.{lit≤};
 ghost use Rattle.io.specs.Counts.{IsPrefixLen};
 ghost use Rattle.nudge_spec.specs.Nudge.{nudge_text};
 ghost use Rattle.session_spec.specs.Tools.{tool_within};
 ghost use Rattle.session_engine.specs.Start.{tool_start};
 ghost use Rattle.session_engine.specs.Tool.{Fresh, all_of};
-ghost use Rattle.text.specs.Page.{Written};
 ghost use Rattle.nudge_tool.specs.Refusals.{answer_text};
 
 use crate::calls::find_call;
@@ -27,7 +26,6 @@ use crate::refusal::NudgeRefusal;
 use cells_spec::State;
 use session_engine::actions::Actions;
 use session_engine::tool::{Tool, run_tool};
-use text::numbered::put_bad;
 use text::page::Page;
 
 // The task's call with n finished before it.
@@ -56,18 +54,6 @@ impl Nudge {
         };
         Ok(first_nudge(first, pool, actions, self.task, call))
     }
-
-    // Stays (5): how much room a function needs is its own number.
-    fn print(self, page: &mut Page<'_>, first: State, pool: &mut [u32], actions: Actions<'_>)
-        requires in_bounds { page.old.at + 67 ≤ length page.old.bytes.now }
-        requires fresh { Fresh first pool.old }
-        ensures { Written page.old page.new (nudge_text self.task self.n first.tasks (first, pool.old) (all_of actions.entry)) }
-    {
-        match self.find(first, pool, actions) {
-            Ok(found) => put_nudge(page, found),
-            Err(refusal) => page.bad(u32::from(refusal)),
-        }
-    }
 }
 
 impl Tool for Nudge {
@@ -77,14 +63,15 @@ impl Tool for Nudge {
 
     const ROOM: usize = 67;
 
-    fn put_refused(&self, out: &mut [u8], n: u32) -> usize {
-        put_bad(out, 0, n)
+    fn put_refused(&self, page: &mut Page<'_>, n: u32) {
+        page.bad(n)
     }
 
-    fn play(&self, out: &mut [u8], first: State, pool: &mut [u32], actions: Actions<'_>) -> usize {
-        let mut page = Page::new(out);
-        self.print(&mut page, first, pool, actions);
-        page.at
+    fn play(&self, page: &mut Page<'_>, first: State, pool: &mut [u32], actions: Actions<'_>) {
+        match self.find(first, pool, actions) {
+            Ok(found) => put_nudge(page, found),
+            Err(refusal) => page.bad(u32::from(refusal)),
+        }
     }
 
     ghost bad_alike = { λ t n. refl };

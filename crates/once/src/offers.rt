@@ -4,11 +4,11 @@ ghost use Rattle.once_spec.specs.Figure.{allowed};
 ghost use Rattle.once_spec.specs.Entries.{first_offer, once_after, offer_begun};
 
 use crate::questions::{ask_offer, ask_place};
+use crate::turn::idle;
 use cells_spec::Refusal;
 use once_spec::{Offer, OnceState};
 
 // The offer of a task whose call begins.
-// Stays (2): two literals of one struct; `idle` is the other.
 fn first(cell: u32, value: u32) -> Offer
     ensures { result ≡ first_offer cell value }
 {
@@ -16,8 +16,7 @@ fn first(cell: u32, value: u32) -> Offer
         line: 1,
         cell,
         value,
-        steps: 0,
-        tried: false,
+        ..idle()
     }
 }
 

@@ -9,7 +9,6 @@ use figure_lines::records::NO_VALUE;
 use once_spec::{Agreement, Offer, OnceCell};
 
 // The offer of a task without a call.
-// Stays (2): two literals of one struct; `first` is the other.
 pub fn idle() -> Offer
     ensures { result ≡ idle_offer }
 {

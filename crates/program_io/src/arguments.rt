@@ -59,7 +59,7 @@ fn refuse<W: Write>(to: &mut W, usage: &[u8], what: &[u8], errors: &mut impl Wri
     let _ = errors.write_all(usage);
 }
 
-// Stays (5): writers and texts are no struct: `take` and `refuse` are called once each.
+// Stays (5): each program has other texts, so a struct of writers and texts would be made once, for one call.
 // Stores the numbers of the arguments that were gathered, if all of them were; whether there are as many as places, and all
 // are numbers. Where not, writes (bad 14), and how the program is used on standard error.
 // Stays (6): three texts, no parallel arrays.

@@ -32,7 +32,7 @@ impl<'a> Actions<'a> {
 }
 
 // Form f of the reader's table.
-// Stays (1): a form's kind is a word of the reader's buffer, as `after_reading` has it (a).
+// Stays (1): a form's kind is a word of the reader's buffer, as `read_session` promises it (`after_reading`).
 // Stays (7): a form's kind is a word of the reader's buffer, as `after_reading` has it.
 fn action_at(forms: &[u32], f: u32) -> Action
     requires { 5 * f + 5 ≤ length forms.now }

@@ -6,17 +6,18 @@
 //         ghost text = { λ _. tool_start moments_text };
 //         ghost ROOM = { 2400000 };
 //         const ROOM: usize = 2400000;
-//         fn put_refused(&self, out: &mut [u8], n: u32) -> usize { put_bad(out, 0, n) }
-//         fn play(&self, out: &mut [u8], first: State, pool: &mut [u32], actions: Actions<'_>) -> usize { .. }
+//         fn put_refused(&self, page: &mut Page<'_>, n: u32) { page.bad(n) }
+//         fn play(&self, page: &mut Page<'_>, first: State, pool: &mut [u32], actions: Actions<'_>) { .. }
 //         ghost bad_alike = { λ t n. refl };
 //         ghost has_room = { lit≤ tt };
 //     }
 //
 // Its program then calls `run_tool(&Moments, file, out)`. By `tool_text_within` (proofs/Texts.antt) the promise is `tool_within`'s.
-ghost use Rattle.std.specs.Prelude.{◌≡◌, List, ℕ, ◌≤◌, ◌++◌, length, drop};
+ghost use Rattle.std.specs.Prelude.{◌≡◌, List, ℕ, ◌+◌, ◌≤◌, ◌++◌, length, drop};
 ghost use Rattle.io.specs.Counts.{IsPrefixLen};
 ghost use Rattle.text.specs.Append.{Appended};
 ghost use Rattle.text.specs.Lines.{bad_line};
+ghost use Rattle.text.specs.Page.{Written};
 ghost use Rattle.session_spec.specs.Session.{verdict};
 ghost use Rattle.session_engine.specs.Start.{Start, no_session, not_opened, ready, start_of};
 ghost use Rattle.session_engine.specs.Tool.{Fresh, all_of, text_within};
@@ -25,7 +26,7 @@ use crate::actions::Actions;
 use crate::start::{StartError, open_session};
 use cells_spec::State;
 use session_reader::{ACTIONS, FORMS, VALUES};
-use text::numbered::put_bad;
+use text::page::Page;
 
 pub trait Tool {
     // What it prints of what a file leads to.
@@ -36,15 +37,15 @@ pub trait Tool {
 
     const ROOM: usize;
 
-    fn put_refused(&self, out: &mut [u8], n: u32) -> usize
-        requires { 67 ≤ length out.old }
-        ensures { Appended out.old out.new 0 result (text self.now (not_opened n)) };
+    fn put_refused(&self, page: &mut Page<'_>, n: u32)
+        requires { page.old.at + 67 ≤ length page.old.bytes.now }
+        ensures { Written page.old page.new (text self.now (not_opened n)) };
 
     // What is left in the pool is open: it is the session's own.
-    fn play(&self, out: &mut [u8], first: State, pool: &mut [u32], actions: Actions<'_>) -> usize
-        requires room { ROOM ≤ length out.old }
+    fn play(&self, page: &mut Page<'_>, first: State, pool: &mut [u32], actions: Actions<'_>)
+        requires room { page.old.at + ROOM ≤ length page.old.bytes.now }
         requires fresh { Fresh first pool.old }
-        ensures { Appended out.old out.new 0 result (text self.now (ready first.tasks first.cells (first, pool.old) (all_of actions.entry))) };
+        ensures { Written page.old page.new (text self.now (ready first.tasks first.cells (first, pool.old) (all_of actions.entry))) };
 
     ghost bad_alike: { (t : Self) (n : ℕ) → text t (no_session n) ≡ bad_line n };
 
@@ -60,17 +61,24 @@ fn print_file<T: Tool>(tool: &T, file: &[u8], out: &mut [u8]) -> usize
     let mut forms = [0; FORMS];
     let mut kept = [0; ACTIONS];
     let mut pool = [0; 640];
+    let mut page = Page::new(out);
     match open_session(file, &mut values, &mut forms, &mut kept, &mut pool) {
         Ok(started) => {
             let actions = Actions {
                 forms: &forms,
                 kept: &kept[..started.actions],
             };
-            tool.play(out, started.state, &mut pool[..started.words], actions)
+            tool.play(
+                &mut page,
+                started.state,
+                &mut pool[..started.words],
+                actions,
+            )
         }
-        Err(StartError::NoSession(why)) => put_bad(out, 0, u32::from(why)),
-        Err(StartError::NotOpened(refusal)) => tool.put_refused(out, u32::from(refusal)),
+        Err(StartError::NoSession(why)) => page.bad(u32::from(why)),
+        Err(StartError::NotOpened(refusal)) => tool.put_refused(&mut page, u32::from(refusal)),
     }
+    page.at
 }
 
 // The same, or nothing where out has too little room. The bytes after the text are as they were.

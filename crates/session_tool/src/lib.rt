@@ -27,16 +27,12 @@ impl Tool for Session {
     const ROOM: usize = 921000;
 
     // A refused open is action 0.
-    fn put_refused(&self, out: &mut [u8], n: u32) -> usize {
-        let mut page = Page::new(out);
-        put_no(&mut page, 0, n);
-        page.at
+    fn put_refused(&self, page: &mut Page<'_>, n: u32) {
+        put_no(page, 0, n);
     }
 
-    fn play(&self, out: &mut [u8], first: State, pool: &mut [u32], actions: Actions<'_>) -> usize {
-        let mut page = Page::new(out);
-        play(&mut page, first, pool, actions);
-        page.at
+    fn play(&self, page: &mut Page<'_>, first: State, pool: &mut [u32], actions: Actions<'_>) {
+        play(page, first, pool, actions);
     }
 
     ghost bad_alike = { λ t n. refl };

@@ -12,7 +12,6 @@ ghost use Rattle.session_spec.specs.Lines.{no_line, cell_line, kind_word, answer
 
 use figure_lines::{Answer, Finished};
 use rate::lisqotay_rate;
-use text::numbered::wide;
 use text::page::Page;
 
 fn put_pair(page: &mut Page<'_>, start: &[u8], a: u32, b: u32)
@@ -20,7 +19,7 @@ fn put_pair(page: &mut Page<'_>, start: &[u8], a: u32, b: u32)
     ensures written { Written page.old page.new (line start.now (a ∷ b ∷ [])) }
     ensures upper_bound { page.new.at ≤ page.old.at + 36 }
 {
-    page.line(start, &[wide(a), wide(b)]);
+    page.line(start, &[u64::from(a), u64::from(b)]);
 }
 
 pub fn put_no(page: &mut Page<'_>, action: u32, n: u32)
@@ -45,7 +44,7 @@ fn put_small(page: &mut Page<'_>, n: u32)
     ensures written { Written page.old page.new (decimal n) }
     ensures upper_bound { page.new.at ≤ page.old.at + 10 }
 {
-    page.number(wide(n));
+    page.number(u64::from(n));
 }
 
 fn put_answer(page: &mut Page<'_>, a: Answer)
@@ -60,7 +59,7 @@ fn put_answer(page: &mut Page<'_>, a: Answer)
     }
 }
 
-// Stays (1): a finished call has its kind as its record has it, a number that `kind_at` names (a).
+// Stays (1): `turn` says of any record that a finished call has its kind, so it is a number, which `kind_at` names.
 fn put_kind(page: &mut Page<'_>, kind: u32)
     requires { page.old.at + 6 ≤ length page.old.bytes.now }
     ensures written { Written page.old page.new (kind_word (kind_at kind)) }
@@ -92,7 +91,7 @@ pub fn put_done(page: &mut Page<'_>, task: u32, f: Finished)
     ensures few_digits { FewDigits task (event_of untried (Ended (result_of f))) → page.new.at ≤ page.old.at + 36 }
 {
     put_done_start(page, task, f);
-    page.numbers(&[wide(f.steps), wide(f.won), wide(f.lost)]);
+    page.numbers(&[u64::from(f.steps), u64::from(f.won), u64::from(f.lost)]);
     page.put(b")\n");
 }
 
@@ -101,5 +100,8 @@ pub fn put_end(page: &mut Page<'_>, finished: u32, pending: u64, hard: u32)
     ensures { Written page.old page.new (end_line finished pending hard) }
 {
     let rate = lisqotay_rate(hard, finished);
-    page.line(b"(end", &[wide(finished), pending, wide(hard), rate]);
+    page.line(
+        b"(end",
+        &[u64::from(finished), pending, u64::from(hard), rate],
+    );
 }

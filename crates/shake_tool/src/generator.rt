@@ -22,7 +22,7 @@ impl Generator {
 }
 
 // The product, wrapping at 32 bits.
-// Stays (3): document 01's CR 6 asks for a wrapping product of the program's own, proved equal to the remainder.
+// Stays (4): document 01 asks for a wrapping product of the program's own here, proved equal to the remainder (its forms, CR 6).
 fn wrapping_product(a: u32, b: u32) -> u32
     ensures { result ≡ a * b % 4294967296 }
 {

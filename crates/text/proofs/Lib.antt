@@ -1,6 +1,5 @@
 pub mod Appending
 pub mod Decimal
-pub mod Toward
 pub mod Spaced
 pub mod Reading
 pub mod ReadBack

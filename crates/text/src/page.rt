@@ -1,12 +1,8 @@
 // A page: a lent buffer with the place up to which it is written.
 ghost use Rattle.std.specs.Prelude.{◌≡◌, ◌+◌, ◌≤◌, length};
-ghost use Rattle.text.specs.Bytes.{decimal};
+ghost use Rattle.text.specs.Bytes.{decimal, digits as «digits_of»};
 ghost use Rattle.text.specs.Lines.{line, numbers as «numbers_of», bad_line};
 ghost use Rattle.text.specs.Page.{Written};
-
-use crate::decimals::put_number;
-use crate::numbered::{put_bad, put_line, put_numbers};
-use crate::put;
 
 #[derive(Drop)]
 pub struct Page<'a> {
@@ -29,15 +25,38 @@ impl<'a> Page<'a> {
         requires { self.old.at + length text.now ≤ length self.old.bytes.now }
         ensures { Written self.old self.new text.now }
     {
-        self.at = put(self.bytes, self.at, text);
+        let at = self.at;
+        let end = at + text.len();
+        self.bytes[at..end].copy_from_slice(text);
+        self.at = end;
     }
 
     // Appends n in decimal.
+    // Stays (4): Display writes to a fmt::Write that may fail; with the room proved there is no error to hand up.
     pub fn number(&mut self, n: u64)
         requires { self.old.at + length (decimal n) ≤ length self.old.bytes.now }
         ensures { Written self.old self.new (decimal n) }
     {
-        self.at = put_number(self.bytes, self.at, n);
+        // Most numbers have one digit.
+        if n < 10 {
+            self.put(&[48 + (n % 10) as u8]);
+            return;
+        }
+        self.digits(20, n);
+    }
+
+    // Appends n in at most k digits.
+    fn digits(&mut self, k: usize, n: u64)
+        requires { self.old.at + length («digits_of» k n) ≤ length self.old.bytes.now }
+        ensures { Written self.old self.new («digits_of» k n) }
+    {
+        if k == 0 {
+            return;
+        }
+        if 10 <= n {
+            self.digits(k - 1, n / 10);
+        }
+        self.put(&[48 + (n % 10) as u8]);
     }
 
     // Appends numbers, each after a space.
@@ -45,7 +64,10 @@ impl<'a> Page<'a> {
         requires { self.old.at + length («numbers_of» l.now) ≤ length self.old.bytes.now }
         ensures { Written self.old self.new («numbers_of» l.now) }
     {
-        self.at = put_numbers(self.bytes, self.at, l);
+        for n in l {
+            self.put(b" ");
+            self.number(*n);
+        }
     }
 
     // Appends a line that ends in numbers.
@@ -53,7 +75,9 @@ impl<'a> Page<'a> {
         requires { self.old.at + length (line start.now l.now) ≤ length self.old.bytes.now }
         ensures { Written self.old self.new (line start.now l.now) }
     {
-        self.at = put_line(self.bytes, self.at, start, l);
+        self.put(start);
+        self.numbers(l);
+        self.put(b")\n");
     }
 
     // Appends a refusal.
@@ -62,6 +86,6 @@ impl<'a> Page<'a> {
         ensures written { Written self.old self.new (bad_line n) }
         ensures upper_bound { self.new.at ≤ self.old.at + 67 }
     {
-        self.at = put_bad(self.bytes, self.at, n);
+        self.line(b"(bad", &[u64::from(n)]);
     }
 }
