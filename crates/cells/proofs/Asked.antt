@@ -37,7 +37,7 @@ module _ (s : State) (p : List ℕ) (t : ℕ) (fits : fit s p ≡ true) where
   abbrev own : Record
   own = record_at s.records t
 
-  -- what the code asks, told whether a block is found
+  -- the questions that the code asks, by whether a block is found
   abbrev asked : Bool → Math.Option ℕ
   asked x = refusal ((6, true) ∷ pool_step_questions s.tasks own t x)
 

@@ -51,6 +51,7 @@ pub fn begin_read(s: &mut AddingState, pool: &[u32], task: u32, cell: u32) -> Re
 }
 
 // Stays (2): as at begin_read.
+// Stays (5): an entry takes a swap's three numbers as firmware has them.
 #[tactic(auto, unfolding(adds_spec::specs::Adding::adding_begun))]
 pub fn begin_swap(
     s: &mut AddingState,

@@ -6,6 +6,7 @@ ghost use Rattle.text.specs.Page.{Written};
 
 use text::page::Page;
 
+// Stays (5): how much room a function needs is its own number.
 pub fn put_nudge(page: &mut Page<'_>, found: Option<usize>)
     requires { page.old.at + 67 ≤ length page.old.bytes.now }
     ensures { Written page.old page.new (nudge_line (option_of found)) }

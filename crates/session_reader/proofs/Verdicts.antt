@@ -73,7 +73,7 @@ pub right-left : (s : List ℕ) (b : Buffers) → length b.values ≡ 32768 → 
 unfolding after_reading_into
 right-left s b p q r = rw (p, q, r)
 
--- what the test of three sizes told
+-- a test of three sizes, whichever two are joined first
 all_yes : (x y z : Bool) → ((x && y) && z) ≡ (x && (y && z))
 all_yes false y z = refl
 all_yes true y z = refl
