@@ -7,11 +7,12 @@ use native.Mathlib.Omega.{arith}
 use lib.Dec.{leb, ltb}
 use lib.ListN.{length, take, drop, get_or, set, length-drop, length-set, length-append}
 use lib.Seq.{length-take-le, drop-append-le, take-append-add, set_split, take-set-le, take-take, take_at, drop_at}
-use borrow.Author.Tests.{le-leb, lt-leb, leb-true, leb-false, ltb-true, ltb-false}
+use borrow.Author.Tests.{le-leb, lt-leb, le-ltb, lt-ltb, leb-true, leb-false, ltb-true, ltb-false}
 use borrow.Rule.Slice.PartMut.{mid_of, put_mid}
 use Rattle.std.proofs.lemmas.Slice.{take-put_mid}
+use Rattle.std.specs.List.{AllWithin, HoldsAt}
 use Rattle.std.specs.List.Sorted.{IsNonDecreasingBy, IsPartitionPoint}
-use Rattle.std.specs.Prelude.{Option, Some, None}
+use Rattle.std.specs.Prelude.{Option, Some, None, MatchOption}
 use Rattle.moments_tool.specs.Words.{insert_word, entered, From, SortedWords}
 
 -- SORTED LISTS STAY SORTED
@@ -63,6 +64,13 @@ sorted_rises (y ∷ l) s zero zero d h k = omega arith
 sorted_rises (y ∷ l) s zero (suc j) d h k = from_at (y / 256) l j d (omega arith) s.0
 sorted_rises (y ∷ l) s (suc i) zero d h k = absurd (omega arith)
 sorted_rises (y ∷ l) s (suc i) (suc j) d h k = sorted_rises l s.1 i j d (omega arith) (omega arith)
+
+-- the last that comes before w, or none; so do those before it
+pub found_last : (w : ℕ) (l : List ℕ) (r : Option ℕ) (p : ℕ) → SortedWords l → MatchOption r (p ≡ 0) (λ i. p ≡ i + 1)
+    → MatchOption r (AllWithin (λ y. w / 256 ≤ y / 256) l 0 (length l)) (λ i. (i < length l) × HoldsAt (λ y. y / 256 < w / 256) l i × AllWithin (λ y. w / 256 ≤ y / 256) l (i + 1) (length l))
+    → IsPartitionPoint (λ y. ltb (y / 256) (w / 256) ≡ true) (λ y. ltb (y / 256) (w / 256) ≡ false) l p
+found_last w l None p s e h = (λ k d a b. absurd (omega (arith, b, e)), λ k d a b. le-ltb _ _ (h k d (omega arith) b))
+found_last w l (Some i) p s e h = (λ k d a b. lt-ltb _ _ (omega (arith, sorted_rises l s k i d (omega (arith, b, e)) h.0, h.1 d)), λ k d a b. le-ltb _ _ (h.2 k d (omega (arith, a, e)) b))
 
 -- behind those that come before it
 pub insert_at : (w : ℕ) (l : List ℕ) (p : ℕ) → p ≤ length l → IsPartitionPoint (λ y. ltb (y / 256) (w / 256) ≡ true) (λ y. ltb (y / 256) (w / 256) ≡ false) l p

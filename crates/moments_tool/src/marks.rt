@@ -61,12 +61,15 @@ impl Marks {
     }
 }
 
-// Where the word goes among these: behind those that come before it.
+// Where the word goes among these: behind those that come before it. From the end, as a call's moment is seldom far back.
 fn place(words: &[u32], w: u32) -> usize
     requires { SortedWords words.now }
     ensures upper_bound { result ≤ length words.now }
     ensures at_place { take result words.now ++ w ∷ drop result words.now ≡ insert_word w words.now }
 {
     let rank = w / 256;
-    words.partition_point(|y| *y / 256 < rank)
+    words
+        .iter()
+        .rposition(|y| *y / 256 < rank)
+        .map_or(0, |i| i + 1)
 }

@@ -1,11 +1,8 @@
-use Rattle.std.proofs.Common.{◌/◌, ltb, rules}
-use Rattle.std.proofs.lemmas.List.Sorted.{IsPartitionPoint-from_clause, IsPartitionedBy-ltb}
-use Rattle.moments_tool.proofs.Sorting.{sorted_rises, insert_at}
+use Rattle.std.proofs.Common.{rules, tests}
+use Rattle.moments_tool.proofs.Sorting.{found_last, insert_at}
 use Rattle.moments_tool.proofs.marks.place.Goals as goal
 
 pub returns-clause-at_place : goal.returns-clause-at_place
 returns-clause-at_place c =
     let words = c.args.words.now in
-    let parted = IsPartitionedBy-ltb (λ y. y / 256) words (c.args.w / 256) (sorted_rises words c.requires) in
-    let point = IsPartitionPoint-from_clause (λ y. ltb (y / 256) (c.args.w / 256)) words _ c.partition_point.ensures.partitioned parted (λ a r q k. search rules) in
-    insert_at c.args.w words c.partition_point.result c.partition_point.ensures.bound point
+    insert_at c.args.w words c.map_or.result (search rules) (found_last c.args.w words c.rposition.result c.map_or.result c.requires (search rules) (search (rules, tests)))
