@@ -1,7 +1,4 @@
-use Rattle.std.proofs.Common.{◌*◌, refl, sym, subst, arith}
-use Rattle.cells_spec.specs.Machine.{Pool}
-use Rattle.cells_theorems.specs.Reached.{Reached}
-use Rattle.shake_spec.proofs.Allowed.{start-reached}
+use Rattle.std.proofs.Common.{◌*◌, refl, arith}
 use Rattle.shake_spec.proofs.Zeros.{part-zeros, part_length}
 use Rattle.shake_tool.proofs.Sizing.{fits}
 use Rattle.shake_tool.proofs.Starting.{starts, whole-session}
@@ -15,12 +12,6 @@ slice_bounds-pool-end c = part_length (5 * c.args.sizes.blocks) 640 refl (omega 
 
 pub shared_ref_as_front-values : goal.shared_ref_as_front-values
 shared_ref_as_front-values c = omega (arith, fits c.args.sizes)
-
-pub put_actions-requires-clause-reached : goal.put_actions-requires-clause-reached
-put_actions-requires-clause-reached c = let w = c.args.sizes in
-    let h = fits w in
-    let x = starts w.tasks w.cells w.blocks c.blank-s.ensures (part-zeros (5 * w.blocks) 640 refl (omega (arith, h))) (part-zeros w.cells 16 refl (omega (arith, h))) h.4 c.open.ensures in
-    subst (λ (x : Pool). Reached w.tasks w.cells x.0 x.1) (sym x) (start-reached w.tasks w.cells w.blocks w.count w.allowed)
 
 pub returns : goal.returns
 returns c = let w = c.args.sizes in

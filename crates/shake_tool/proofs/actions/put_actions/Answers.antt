@@ -3,9 +3,6 @@ use Rattle.text.proofs.Pages.{onward_more, onward_end}
 use Rattle.shake_spec.specs.Drawn.{Drawn}
 use Rattle.shake_spec.specs.Actions.{Short}
 use Rattle.shake_spec.proofs.Writing.{short-drawn, one_line, no_line_lem, one_done, none_done}
-use Rattle.cells_spec.specs.Answers.{act_of}
-use Rattle.cells_theorems.proofs.Reaching.{reached-fit}
-use Rattle.session_engine.proofs.Turning.{reached_then}
 use Rattle.shake_tool.proofs.Acting.{moves}
 use Rattle.shake_tool.proofs.Sizing.{fits}
 use Rattle.shake_tool.proofs.actions.put_actions.Goals as goal
@@ -19,17 +16,14 @@ put_action-requires-clause-short c = let w = c.args.sizes in
 pub put_action-requires-clause-in_bounds : goal.put_action-requires-clause-in_bounds
 put_action-requires-clause-in_bounds c = let l = c.loop-i in omega (arith, l.invariant.0.written.size, l.invariant.1, c.loop-i-test.true, fits c.args.sizes, c.requires.in_bounds)
 
-pub advance-requires : goal.advance-requires
-advance-requires c = reached-fit c.loop-i.invariant.2
-
 pub loop-i-preserved : goal.loop-i-preserved
 loop-i-preserved c = let l = c.loop-i in
     let w = c.args.sizes in
     let h = c.loop-i-test.true in
     let d = c.draw_action-a.ensures in
     let p = c.put_action.ensures in
-    let x = moves c.advance.ensures in
-    (onward_more l.invariant.0 p.written (one_line w.tasks w.cells w.count l._i l.g.state l.s l.pool h d x), omega (arith, l.invariant.1, p.upper_bound), reached_then l.invariant.2 (act_of c.draw_action-a.result) c.advance.ensures, sym (one_done w.tasks w.cells w.count l._i l.g.state l.s l.pool h d x) ∙ l.invariant.3)
+    let x = moves c.act.ensures in
+    (onward_more l.invariant.0 p.written (one_line w.tasks w.cells w.count l._i l.g.state l.s l.pool h d x), omega (arith, l.invariant.1, p.upper_bound), sym (one_done w.tasks w.cells w.count l._i l.g.state l.s l.pool h d x) ∙ l.invariant.2)
 
 pub returns-clause-written : goal.returns-clause-written
 returns-clause-written c = let l = c.loop-i in
@@ -39,4 +33,4 @@ returns-clause-written c = let l = c.loop-i in
 pub returns-clause-cells_after : goal.returns-clause-cells_after
 returns-clause-cells_after c = let l = c.loop-i in
     let w = c.args.sizes in
-    sym (none_done w.tasks w.cells w.count l._i l.g.state l.s l.pool c.loop-i-test.false) ∙ l.invariant.3
+    sym (none_done w.tasks w.cells w.count l._i l.g.state l.s l.pool c.loop-i-test.false) ∙ l.invariant.2
