@@ -35,7 +35,7 @@ pub fn first_nudge(
         if call.last < i {
             return None;
         }
-        if try_exchange(before, pool, actions, i, call) {
+        if try_exchange(&before, pool, actions, i, call) {
             return Some(i);
         }
         before.act(pool, i, actions.at(i));
