@@ -14,8 +14,8 @@ use crate::trial::try_exchange;
 use cells_spec::State;
 use session_engine::actions::Actions;
 
-// The earliest exchange that nudges the task's finished call; none after its last step does. The pool is used up here.
-pub fn first_nudge(
+// The earliest exchange that nudges the task's finished call; none after its last step does. The pool is a copy, used up here.
+fn try_each(
     first: State,
     pool: &mut [u32],
     actions: Actions<'_>,
@@ -35,10 +35,28 @@ pub fn first_nudge(
         if call.last < i {
             return None;
         }
-        if try_exchange(before, pool, actions, i, call) {
+        if try_exchange(&before, pool, actions, i, call) {
             return Some(i);
         }
         before.act(pool, i, actions.at(i));
     }
     None
+}
+
+// The earliest exchange that nudges the task's finished call, tried on a copy of the pool.
+pub fn first_nudge(
+    first: State,
+    pool: &[u32],
+    actions: Actions<'_>,
+    task: u32,
+    call: CallSummary,
+) -> Option<usize>
+    requires fresh { Fresh first pool.now }
+    requires summarizes { Summarizes (history «machine» (first, pool.now) (all_of actions)) task (summary_of call) }
+    ensures { option_of result ≡ earliest (nudges (first, pool.now) (all_of actions.entry) call.at (answer_of call.answer)) 0 (length actions.entry.kept.now) }
+{
+    let mut room = [0; 640];
+    let copy = &mut room[..pool.len()];
+    copy.copy_from_slice(pool);
+    try_each(first, copy, actions, task, call)
 }

@@ -36,15 +36,15 @@ struct Nudge {
 }
 
 impl Nudge {
-    // The call's first nudge, if it has one. What is left in the pool is open.
+    // The call's first nudge, if it has one.
     fn find(
         self,
         first: State,
-        pool: &mut [u32],
+        pool: &[u32],
         actions: Actions<'_>,
     ) -> Result<Option<usize>, NudgeRefusal>
-        requires { Fresh first pool.old }
-        ensures { answer_text result ≡ nudge_text self.task self.n first.tasks (first, pool.old) (all_of actions.entry) }
+        requires { Fresh first pool.now }
+        ensures { answer_text result ≡ nudge_text self.task self.n first.tasks (first, pool.now) (all_of actions.entry) }
     {
         if 2000 < actions.len() {
             return Err(NudgeRefusal::TooManyActions);

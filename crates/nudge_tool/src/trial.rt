@@ -51,15 +51,15 @@ fn follow(
 
 // Whether exchange i nudges the call, tried on a copy of the state before it. Actions that do not touch the same cell need no trial.
 pub fn try_exchange(
-    before: Follower,
+    before: &Follower,
     pool: &[u32],
     actions: Actions<'_>,
     i: usize,
     call: CallSummary,
 ) -> bool
-    requires reached { Reached before.s.tasks before.s.cells before.s pool.now }
+    requires reached { Reached before.now.s.tasks before.now.s.cells before.now.s pool.now }
     requires two { i + 1 < length actions.kept.now }
-    ensures { result ≡ nudges_at (before.s, pool.now) (all_of actions.entry) before.task before.begun call.at (answer_of call.answer) i }
+    ensures { result ≡ nudges_at (before.now.s, pool.now) (all_of actions.entry) before.now.task before.now.begun call.at (answer_of call.answer) i }
 {
     if !collide(&before.s, actions.at(i), actions.at(i + 1)) {
         return false;
@@ -67,5 +67,5 @@ pub fn try_exchange(
     let mut room = [0; 640];
     let copy = &mut room[..pool.len()];
     copy.copy_from_slice(pool);
-    !follow(before, copy, actions, i, call)
+    !follow(*before, copy, actions, i, call)
 }

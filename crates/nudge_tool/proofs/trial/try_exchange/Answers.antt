@@ -11,7 +11,7 @@ collide-requires c = (reached-small c.requires.reached).0
 
 pub returns-then-not-collide : goal.returns-then-not-collide
 returns-then-not-collide c = let a = c.args in
-    let b = a.before in
+    let b = a.before.now in
     tried_apart (b.s, a.pool.now) (act_at a.actions.forms.now) a.actions.kept.now b.task b.begun a.call.at (answer_of a.call.answer) a.i c.requires.two c.at.ensures c.at-2.ensures (sym c.collide.ensures) (ap not c.if-not-collide.true)
 
 pub slice_bounds-room-end : goal.slice_bounds-room-end
@@ -25,6 +25,6 @@ copy_from_slice-requires c = length-take-le _ _ (reached-words c.requires.reache
 
 pub returns : goal.returns
 returns c = let a = c.args in
-    let b = a.before in
+    let b = a.before.now in
     tried-close (b.s, a.pool.now) (act_at a.actions.forms.now) a.actions.kept.now b.task b.begun a.call.at (answer_of a.call.answer) a.i c.requires.two c.at.ensures c.at-2.ensures (sym c.collide.ensures) (ap not c.if-not-collide.false)
     (rw c.copy_from_slice.ensures.after at c.follow.ensures)

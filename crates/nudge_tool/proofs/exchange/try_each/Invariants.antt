@@ -4,7 +4,7 @@ use Rattle.figure_lines.specs.Answers.{answer_of}
 use Rattle.session_engine.specs.Tool.{all_of}
 use Rattle.nudge_spec.specs.Nudge.{nudges, earliest}
 use Rattle.nudge_tool.proofs.Steps.{Before}
-use Rattle.nudge_tool.proofs.exchange.first_nudge.Given as goal
+use Rattle.nudge_tool.proofs.exchange.try_each.Given as goal
 
 abbrev pub invariant-loop-i : goal.invariant-loop-i
 invariant-loop-i l =
