@@ -4,7 +4,7 @@ ghost use Rattle.figure_lines.specs.Basics.{option_of};
 ghost use Rattle.figure_lines.specs.Paths.{row_of};
 
 // Document 01's rows, the last four CR 2's: steps, loads, stores, hardware CAS attempts.
-const PATHS: [[u32; 4]; 13] = [
+static PATHS: [[u32; 4]; 13] = [
     [3, 3, 0, 0],
     [6, 5, 0, 1],
     [8, 5, 3, 0],
