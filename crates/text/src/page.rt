@@ -1,5 +1,6 @@
 // A page: a lent buffer with the place up to which it is written.
 ghost use Rattle.std.specs.Prelude.{◌≡◌, ◌+◌, ◌≤◌, length};
+ghost use Rattle.text.specs.Append.{Appended};
 ghost use Rattle.text.specs.Bytes.{decimal, digits as «digits_of»};
 ghost use Rattle.text.specs.Lines.{line, numbers as «numbers_of», bad_line};
 ghost use Rattle.text.specs.Page.{Written};
@@ -42,21 +43,7 @@ impl<'a> Page<'a> {
             self.put(&[48 + (n % 10) as u8]);
             return;
         }
-        self.digits(20, n);
-    }
-
-    // Appends n in at most k digits.
-    fn digits(&mut self, k: usize, n: u64)
-        requires { self.old.at + length («digits_of» k n) ≤ length self.old.bytes.now }
-        ensures { Written self.old self.new («digits_of» k n) }
-    {
-        if k == 0 {
-            return;
-        }
-        if 10 <= n {
-            self.digits(k - 1, n / 10);
-        }
-        self.put(&[48 + (n % 10) as u8]);
+        self.at = digits(self.bytes, self.at, 20, n);
     }
 
     // Appends numbers, each after a space.
@@ -88,4 +75,21 @@ impl<'a> Page<'a> {
     {
         self.line(b"(bad", &[u64::from(n)]);
     }
+}
+
+// Writes n at a place, in at most k digits. The place is handed on and not kept on the page, which costs less.
+fn digits(out: &mut [u8], at: usize, k: usize, n: u64) -> usize
+    requires { at + length («digits_of» k n) ≤ length out.old }
+    ensures { Appended out.old out.new at result («digits_of» k n) }
+{
+    if k == 0 {
+        return at;
+    }
+    if n < 10 {
+        out[at] = 48 + (n % 10) as u8;
+        return at + 1;
+    }
+    let next = digits(out, at, k - 1, n / 10);
+    out[next] = 48 + (n % 10) as u8;
+    next + 1
 }
