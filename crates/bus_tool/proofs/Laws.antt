@@ -22,7 +22,7 @@ use Rattle.bus_tool.specs.declared.ranges.Ranges.{Ranges}
 use Rattle.bus_tool.specs.declared.refusal.TimesRefusal.{TimesRefusal}
 use Rattle.bus_tool.specs.Kinds.{times_between}
 use Rattle.bus_tool.specs.Refusals.{number}
-use Rattle.bus_tool.specs.Structs.{times_of, Asked}
+use Rattle.bus_tool.specs.Structs.{times_of, AskedTimes}
 
 module _ (w : Times) {x : Bool} (in_order : x ≡ ordered w) where
   pub refused-21 : x ≡ false → refusal (bus_questions w) ≡ some 21
@@ -63,9 +63,9 @@ module _ (w : Ranges) where
   pub are_short : short_times (times_of w) ≡ true
   are_short = yes_to (bus_questions (times_of w)) w.allowed 22
 
-  pub calls_printed : (l h : Kinds) → Asked l h (Ok w) → (tasks : ℕ) (x : Pool) (k : List Action) → calls_text (bus_calls (times_of w) x k) ≡ bus_text (times_between l h) tasks x k
+  pub calls_printed : (l h : Kinds) → AskedTimes l h (Ok w) → (tasks : ℕ) (x : Pool) (k : List Action) → calls_text (bus_calls (times_of w) x k) ≡ bus_text (times_between l h) tasks x k
   calls_printed l h a tasks x k = rw (← a.0, ← a.1) (sym (text-accepted (times_of w) w.allowed tasks x k))
 
-pub refusal-printed : (l h : Kinds) (e : TimesRefusal) → Asked l h (Err e) → {n : ℕ} → n ≡ number e → (tasks : ℕ) (x : Pool) (k : List Action) → bad_line n ≡ bus_text (times_between l h) tasks x k
+pub refusal-printed : (l h : Kinds) (e : TimesRefusal) → AskedTimes l h (Err e) → {n : ℕ} → n ≡ number e → (tasks : ℕ) (x : Pool) (k : List Action) → bad_line n ≡ bus_text (times_between l h) tasks x k
 unfolding bus_text
 refusal-printed l h e a i tasks x k = rw (a, i, bus_text)

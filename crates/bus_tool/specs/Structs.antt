@@ -18,9 +18,9 @@ abbrev pub times_of : Ranges → Times
 times_of w = times_between w.low w.high
 
 -- what the questions on the times answer: the first that is answered no, or the ranges that were asked for
-abbrev pub Asked : (low high : Kinds) → Result Ranges TimesRefusal → Type 0
-Asked l h (Err e) = refusal (bus_questions (times_between l h)) ≡ Math.some (number e)
-Asked l h (Ok w) = (w.low ≡ l) × (w.high ≡ h)
+abbrev pub AskedTimes : (low high : Kinds) → Result Ranges TimesRefusal → Type 0
+AskedTimes l h (Err e) = refusal (bus_questions (times_between l h)) ≡ Math.some (number e)
+AskedTimes l h (Ok w) = (w.low ≡ l) × (w.high ≡ h)
 
 abbrev pub call_of : CallTime → Timed
 call_of c = record { task = c.task; earlier = c.earlier; least = c.least; greatest = c.greatest }

@@ -17,11 +17,11 @@ pub struct Ranges {
 }
 
 impl Ranges {
-    ghost use Rattle.bus_tool.specs.Structs.{Asked};
+    ghost use Rattle.bus_tool.specs.Structs.{AskedTimes};
 
     // All ranges are asked 21 before any is asked 22.
     pub fn asked(low: Kinds, high: Kinds) -> Result<Ranges, TimesRefusal>
-        ensures { Asked low high result }
+        ensures { AskedTimes low high result }
     {
         if !low.are_within(high) {
             return Err(TimesRefusal::Unordered);

@@ -5,7 +5,7 @@ ghost use Rattle.std.specs.Prelude.{◌≡◌, true, List, ℕ, ◌≤◌};
 ghost use Rattle.cells_spec.specs.Answers.{acted, answered};
 ghost use Rattle.cells_spec.specs.Questions.{fit};
 ghost use Rattle.cells_spec.specs.Open.{leaving};
-ghost use Rattle.cells_spec.specs.Begin.{begun};
+ghost use Rattle.cells_spec.specs.Begin.{begun, begun_unasked};
 ghost use Rattle.cells_spec.specs.Drop.{dropped};
 ghost use Rattle.cells_spec.specs.Step.{stepped};
 
@@ -20,7 +20,8 @@ use figure_lines::{Finished, Record};
 // The task's call begins with the record q.
 pub fn begin_fit(s: &mut State, task: u32, q: Record) -> Result<(), Refusal>
     requires { s.old.tasks ≤ 32 }
-    ensures { (p : List ℕ) → fit s.old p ≡ true → leaving s.new p (acted result) ≡ begun s.old p task q }
+    ensures of_a_fit_state { (p : List ℕ) → fit s.old p ≡ true → leaving s.new p (acted result) ≡ begun s.old p task q }
+    ensures of_any_state { (p : List ℕ) → leaving s.new p (acted result) ≡ begun_unasked s.old p task q }
 {
     if s.tasks <= task {
         return Err(Refusal::NoSuchTask);

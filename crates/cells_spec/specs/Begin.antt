@@ -18,6 +18,10 @@ started s p t r = record { state = with_record s t r; pool = p; outcome = Acted 
 unfoldable pub begun : State → List ℕ → (task : ℕ) → (q : Record) → After
 begun s p t q = unless (refusal ((6, fit s p) ∷ swap_questions s.tasks s.cells (record_at s.records t) t q.cell q.expected q.new)) s p (started s p t q)
 
+-- the same where question 6 is not asked
+abbrev pub begun_unasked : State → List ℕ → (task : ℕ) → (q : Record) → After
+begun_unasked s p t q = unless (refusal (swap_questions s.tasks s.cells (record_at s.records t) t q.cell q.expected q.new)) s p (started s p t q)
+
 unfoldable pub read_begun : State → List ℕ → (task cell : ℕ) → After
 read_begun s p t k = unless (refusal ((6, fit s p) ∷ begin_questions s.tasks s.cells (record_at s.records t) t k)) s p (started s p t (first_read k))
 

@@ -32,15 +32,15 @@ followed r (Some f) = Done (result_of f)
 abbrev pub step_done : Record → Record
 step_done r = record r { steps = r.steps + 1 }
 
-abbrev pub tallied : Record → Attempt → Record
-tallied r x = record r { won = r.won + wins x; lost = r.lost + losses x }
+abbrev pub attempt_counted : Record → Attempt → Record
+attempt_counted r x = record r { won = r.won + wins x; lost = r.lost + losses x }
 
 -- the same of a record in which the step is counted
 abbrev pub line_done : (pool : List ℕ) (task : ℕ) (r : Record) (current last : ℕ) (free : Option ℕ) → Left
 line_done p t r c l f =
     let a = access_of t r in
     let m = performed p c l f a in
-    left m.pool m.current m.last (next_at (line_of r) t (tallied r (attempt a m.value)) m.value)
+    left m.pool m.current m.last (next_at (line_of r) t (attempt_counted r (attempt a m.value)) m.value)
 
 -- a line that changes no cell's block and takes none, with what follows it: each but 4 and 30
 abbrev pub Does : (pool pool' : List ℕ) → Record → Next → (task current : ℕ) → Type 0

@@ -27,7 +27,7 @@ use Rattle.moments_tool.specs.declared.sights.Own.{Own}
 use Rattle.moments_tool.specs.declared.sights.Waiter.{Waiter}
 use Rattle.moments_tool.specs.Words.{mark_word, encode, entered, IsWord, IsMade, Listed}
 use Rattle.moments_tool.specs.Notes.{slot, sight_in, holds_with, sight_of, nobody_waits, with_waiting, notes_of, no_own, own_at, waiter_at}
-use Rattle.moments_tool.specs.Loop.{Deed, Nothing, Moved, Dropped, Answered, deed_of, is_step, notes_after, decides, spreads, ending_spot, stand_word, made_word, next_waiter, closing, Closing}
+use Rattle.moments_tool.specs.Loop.{Deed, Nothing, Moved, Dropped, Answered, deed_of, deed_is_step, notes_after, decides, spreads, ending_spot, stand_word, made_word, next_waiter, closing, Closing}
 use Rattle.moments_tool.proofs.Encoding.{none_listed, entered_listed}
 use Rattle.history_spec.proofs.Basics.{replicate_at}
 use Rattle.moments_tool.proofs.Doing.{Steps, Did, refuses, begins, moves, ends, drops, did, AllBegun, begun-next}
@@ -175,7 +175,7 @@ module _ (s : State) (p : List ℕ) (records : length s.records ≡ 32) (tasks :
     )
 
     -- a step, whether it goes on or ends: its notes, and who waits
-    stepped : (u : Event) (t : ℕ) → Steps s p t → (d : Deed) → is_step d ≡ true → Coded t d words words' ks' o'
+    stepped : (u : Event) (t : ℕ) → Steps s p t → (d : Deed) → deed_is_step d ≡ true → Coded t d words words' ks' o'
         → ks' ≡ set ks (rec t).cell (cond (decides (rec t).line (sees t)) None (waiter_at ks (rec t).cell))
         → (g : ℕ → Math.Option Waiting) → (with_waiting g o' ≡ with_waiting g (noted notes t (sees_pool (s, p) t))) × AllKept (enter b (step t) u) ks' (cond (decides (rec t).line (sees t)) (upd f (rec t).cell Math.none) f)
     stepped u t z d e c k g = (

@@ -42,15 +42,15 @@ deed_meant (deed.Answered a) = Answered (answer_of a)
 deed_meant deed.Dropped = Dropped
 
 -- the action was a step that is done
-abbrev pub is_step : Deed → Bool
-is_step Nothing = false
-is_step Moved = true
-is_step (Answered a) = true
-is_step Dropped = false
+abbrev pub deed_is_step : Deed → Bool
+deed_is_step Nothing = false
+deed_is_step Moved = true
+deed_is_step (Answered a) = true
+deed_is_step Dropped = false
 
 -- the tasks' notes after it; who waits is kept apart
 abbrev pub notes_after : Deed → Notes → (task : ℕ) → Figure.Sight → Notes
-notes_after d o t x = cond (is_step d) (with_waiting nobody_waits (noted o t x)) (nothing_noted o)
+notes_after d o t x = cond (deed_is_step d) (with_waiting nobody_waits (noted o t x)) (nothing_noted o)
 
 abbrev pub decides : ℕ → Sight → Bool
 decides n x = eqb n 2 && x.undecided

@@ -1,7 +1,7 @@
 // What moments notes of the calls.
 ghost use Rattle.std.specs.Prelude.{◌≡◌};
 ghost use Rattle.moments_tool.specs.Notes.{step_noted, held_noted};
-ghost use Rattle.moments_tool.specs.Loop.{deed_meant, is_step};
+ghost use Rattle.moments_tool.specs.Loop.{deed_meant, deed_is_step};
 
 use figure_lines::Answer;
 
@@ -87,7 +87,7 @@ pub enum Deed {
 impl Deed {
     // The action was a step that is done.
     pub fn is_step(self) -> bool
-        ensures { result ≡ is_step (deed_meant self) }
+        ensures { result ≡ deed_is_step (deed_meant self) }
     {
         matches!(self, Deed::Moved | Deed::Answered(_))
     }

@@ -13,8 +13,8 @@ abbrev pub place_questions : OnceState → (task cell : ℕ) → List Question
 place_questions s t k = (6, once_fit s) ∷ (7, ltb t s.tasks) ∷ (8, ltb k s.cells) ∷ []
 
 -- of the task's offer, and whether the task has offered on the cell
-abbrev pub begin_questions : Offer → (offered : Bool) → (value : ℕ) → List Question
-begin_questions r o w = (9, is_idle_offer r) ∷ (16, not o) ∷ (10, not (eqb w no_value)) ∷ []
+abbrev pub last_questions : Offer → (offered : Bool) → (value : ℕ) → List Question
+last_questions r o w = (9, is_idle_offer r) ∷ (16, not o) ∷ (10, not (eqb w no_value)) ∷ []
 
 abbrev pub busy_questions : Offer → List Question
 busy_questions r = (11, not (is_idle_offer r)) ∷ []

@@ -4,7 +4,7 @@ ghost use Rattle.std.specs.List.{list_all};
 ghost use Rattle.cells_spec.specs.Answers.{asked};
 ghost use Rattle.cells_spec.specs.Questions.{refusal};
 ghost use Rattle.once_spec.specs.Questions.{offer_fit, once_fit};
-ghost use Rattle.once.specs.Asked.{begin_questions, place_questions, task_questions};
+ghost use Rattle.once.specs.Asked.{last_questions, place_questions, task_questions};
 
 use cells_questions::{cells_ok, tasks_ok};
 use cells_spec::Refusal;
@@ -60,7 +60,7 @@ pub fn ask_place(s: &OnceState, task: u32, cell: u32) -> Result<(), Refusal>
 
 // Of the task's offer, and whether the task has offered on the cell.
 pub fn ask_offer(r: Offer, offered: bool, value: u32) -> Result<(), Refusal>
-    ensures { asked result ≡ refusal (begin_questions r offered value) }
+    ensures { asked result ≡ refusal (last_questions r offered value) }
 {
     if r.line != 0 {
         return Err(Refusal::Busy);

@@ -5,7 +5,7 @@ use figure_lines::records::idle;
 
 // The calls' numbers.
 #[derive(Clone, Copy)]
-pub struct Call {
+pub struct CallNumbers {
     pub task: u32,
     pub cell: u32,
     pub expected: u32,
@@ -20,7 +20,7 @@ pub struct EntryCase {
     whose: u32,
     // Of the pool only so many are lent.
     pub words: u32,
-    pub call: Call,
+    pub call: CallNumbers,
     // The block whose count Z sets.
     block: u32,
     // So many steps over the record, lent; else so many drops; else so many values are given to open.
@@ -38,7 +38,7 @@ impl EntryCase {
             record: idle(),
             whose: 0,
             words: 40,
-            call: Call {
+            call: CallNumbers {
                 task: 0,
                 cell: 0,
                 expected: 5,

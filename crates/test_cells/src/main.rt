@@ -17,7 +17,7 @@ mod cases;
 mod drops;
 mod lent_step;
 
-use crate::cases::{Call, EntryCase};
+use crate::cases::{CallNumbers, EntryCase};
 use cells::{Finished, Refusal, State};
 use figure_lines::records::NO_VALUE;
 use program_io::report::read_all;
@@ -51,7 +51,7 @@ fn sum(words: &[u32]) -> u32 {
 // A CASE
 
 // Each entry is asked of the same state.
-fn try_calls(rt: &impl Print, s: &State, pool: &mut [u32], c: &Call) -> Result<()> {
+fn try_calls(rt: &impl Print, s: &State, pool: &mut [u32], c: &CallNumbers) -> Result<()> {
     let words = sum(pool);
     let mut after = *s;
     let answer = cells::begin_read(&mut after, pool, c.task, c.cell);

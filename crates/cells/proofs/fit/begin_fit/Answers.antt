@@ -4,16 +4,27 @@ use Rattle.std.proofs.lemmas.Result.{err_from_is_err_and}
 use Rattle.cells.proofs.Asked.{refuses}
 use Rattle.cells.proofs.fit.begin_fit.Goals as goal
 
-pub returns-then-s-task : goal.returns-then-s-task
+pub returns-then-s-task-clause-of_a_fit_state : goal.returns-then-s-task-clause-of_a_fit_state
 unfolding begun
-returns-then-s-task c p e = rw (e, le-ltb _ _ c.if-s-task.true)
+returns-then-s-task-clause-of_a_fit_state c p e = rw (e, le-ltb _ _ c.if-s-task.true)
 
-pub returns-in_err-begin_questions : goal.returns-in_err-begin_questions
+pub returns-then-s-task-clause-of_any_state : goal.returns-then-s-task-clause-of_any_state
+returns-then-s-task-clause-of_any_state c p = rw (le-ltb _ _ c.if-s-task.true)
+
+pub returns-in_err-begin_questions-clause-of_a_fit_state : goal.returns-in_err-begin_questions-clause-of_a_fit_state
 unfolding begun
-returns-in_err-begin_questions c p e =
+returns-in_err-begin_questions-clause-of_a_fit_state c p e =
     let k = err_from_is_err_and c.from_residual.result c.from_residual.ensures.1 in
     rw (k.1, k.2, e) (refuses _ _ _ c.in_err-begin_questions.ensures)
 
-pub returns : goal.returns
+pub returns-in_err-begin_questions-clause-of_any_state : goal.returns-in_err-begin_questions-clause-of_any_state
+returns-in_err-begin_questions-clause-of_any_state c p =
+    let k = err_from_is_err_and c.from_residual.result c.from_residual.ensures.1 in
+    rw (k.1, k.2) (refuses _ _ _ c.in_err-begin_questions.ensures)
+
+pub returns-clause-of_a_fit_state : goal.returns-clause-of_a_fit_state
 unfolding begun
-returns c p e = rw (e, ← c.in_ok-begin_questions.ensures)
+returns-clause-of_a_fit_state c p e = rw (e, ← c.in_ok-begin_questions.ensures)
+
+pub returns-clause-of_any_state : goal.returns-clause-of_any_state
+returns-clause-of_any_state c p = rw (← c.in_ok-begin_questions.ensures)
