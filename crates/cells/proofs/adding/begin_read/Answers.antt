@@ -1,7 +1,7 @@
 use Rattle.std.proofs.lemmas.Result.{err_from_is_err_and}
 use Rattle.cells_spec.proofs.Acts.{read_untouched}
 use Rattle.adds_spec.specs.Adding.{no_add, adding_begun}
-use Rattle.adds_spec.proofs.Entries.{then_kept, read-below}
+use Rattle.adds_spec.proofs.Entries.{then_kept, then_acted, read-below}
 use Rattle.cells.proofs.adding.begin_read.Goals as goal
 
 -- Refused, the cells' own entry left what it was given.
@@ -13,3 +13,7 @@ returns-in_err-begin_read c = let e = c.args in
 
 pub bounds-s-task : goal.bounds-s-task
 bounds-s-task c = let e = c.args in read-below e.s.now.cells e.pool.now e.task e.cell c.in_ok-begin_read.ensures
+
+pub returns : goal.returns
+unfolding adding_begun
+returns c = let e = c.args in rw c.none.ensures (then_acted e.s.now e.pool.now e.task no_add c.if-not-adds_fit.ensures c.in_ok-begin_read.ensures)

@@ -1,7 +1,7 @@
 use Rattle.std.proofs.lemmas.Result.{err_from_is_err_and}
 use Rattle.cells_spec.proofs.Acts.{swap_untouched}
 use Rattle.adds_spec.specs.Adding.{no_add, adding_begun}
-use Rattle.adds_spec.proofs.Entries.{then_kept, swap-below}
+use Rattle.adds_spec.proofs.Entries.{then_kept, then_acted, swap-below}
 use Rattle.cells.proofs.adding.begin_swap.Goals as goal
 
 -- Refused, the cells' own entry left what it was given.
@@ -13,3 +13,7 @@ returns-in_err-begin_swap c = let e = c.args in
 
 pub bounds-s-task : goal.bounds-s-task
 bounds-s-task c = let e = c.args in swap-below e.s.now.cells e.pool.now e.task e.cell e.expected e.new c.in_ok-begin_swap.ensures
+
+pub returns : goal.returns
+unfolding adding_begun
+returns c = let e = c.args in rw c.none.ensures (then_acted e.s.now e.pool.now e.task no_add c.if-not-adds_fit.ensures c.in_ok-begin_swap.ensures)

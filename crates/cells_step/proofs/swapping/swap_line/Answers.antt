@@ -1,4 +1,5 @@
 use mathlib.Core.Path.{◌≡◌, refl}
+use native.Mathlib.Nat.{add-zero}
 use native.Mathlib.Omega.{arith}
 use Rattle.figure_lines.specs.declared.Field.TheVariants.{C}
 use Rattle.figure_lines.specs.Lines.{l21}
@@ -32,6 +33,9 @@ store-requires-in-23 c = rw c.in-23.is at c.requires.within 0
 
 pub load-requires-in_default : goal.load-requires-in_default
 load-requires-in_default c = let e : c.args.r.now.line ≡ 24 = omega arith in rw e at c.requires.within 0
+
+pub returns-in-15 : goal.returns-in-15
+returns-in-15 c l f = rw (c.hold.ensures, c.in-15.is) (simp add-zero refl)
 
 pub returns-in-21 : goal.returns-in-21
 returns-in-21 c l f = let r = c.args.r.now in by-load c.args.pool.now c.args.task r c.args.current l f l21 C (line-at r 21 c.in-21.is) refl c.load-in-21.ensures (c.compared.ensures c.args.task)

@@ -1,3 +1,4 @@
+use mathlib.Core.Path.{refl}
 use Rattle.std.proofs.Common.{◌≡◌, Err, rules}
 use Rattle.once_spec.specs.Entries.{once_opened}
 use Rattle.once.proofs.opening.open.Goals as goal
@@ -10,4 +11,4 @@ returns-in_err-ask c =
 
 pub returns : goal.returns
 unfolding once_opened
-returns c = rw (← c.in_ok-ask.ensures {u = tt}, c.fresh_cell.ensures, c.idle.ensures)
+returns c = rw (← c.in_ok-ask.ensures {u = tt}, ← c.fresh_cell.ensures, ← c.idle.ensures) refl
