@@ -3,6 +3,7 @@ ghost use Rattle.std.specs.Prelude.{◌≡◌, ℕ, ◌-◌, ◌<◌, true, cond
 ghost use Rattle.std.proofs.Math.Option.{none};
 ghost use Rattle.std.specs.Io.KnownBytes.{Appends, Keeps};
 ghost use Rattle.io.specs.Counts.{IsPrefixLen};
+ghost use Rattle.program_io.specs.Arguments.{StartedWith};
 ghost use Rattle.program_io.specs.Input.{count_of};
 ghost use Rattle.text.specs.Bytes.{bytes};
 ghost use Rattle.text.specs.Readers.{stored};
@@ -97,6 +98,7 @@ pub fn started_with<const N: usize, W: Write>(
     what: &[u8],
     errors: &mut impl Write,
 ) -> Option<[u32; N]>
+    ensures numbers { StartedWith N ARGUMENT_ROOM result }
     ensures quiet { IsSome result → Keeps (W.contents to.old) (W.contents to.new) }
     ensures written { (k : ℕ) × Appends (W.contents to.old) (W.contents to.new) (take k (bytes "(bad 14)\n")) }
 {
