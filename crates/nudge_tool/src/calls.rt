@@ -54,6 +54,7 @@ fn seek(
 }
 
 // The task's call with n finished before it, sought on a copy of the pool.
+// Stays (2): first_nudge copies the pool too; what runs on the copy, and its promise, are others.
 pub fn find_call(
     first: State,
     pool: &[u32],

@@ -44,6 +44,7 @@ fn try_each(
 }
 
 // The earliest exchange that nudges the task's finished call, tried on a copy of the pool.
+// Stays (2): as at find_call.
 pub fn first_nudge(
     first: State,
     pool: &[u32],

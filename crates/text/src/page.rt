@@ -77,7 +77,8 @@ impl<'a> Page<'a> {
     }
 }
 
-// Writes n at a place, in at most k digits. The place is handed on and not kept on the page, which costs less.
+// Writes n at a place, in at most k digits.
+// Stays (6): a method that keeps the place on the page was tried: a session of many refused actions then took 1.3 times the instructions.
 fn digits(out: &mut [u8], at: usize, k: usize, n: u64) -> usize
     requires { at + length («digits_of» k n) ≤ length out.old }
     ensures { Appended out.old out.new at result («digits_of» k n) }
