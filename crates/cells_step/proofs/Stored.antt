@@ -1,13 +1,12 @@
 -- A word of a part of a list, from a place to the end, that is lent, written and put back.
-use mathlib.Core.Path.{◌≡◌, refl, sym, ◌∙◌}
-use mathlib.Core.List.{List, ◌++◌, append-nil}
+use mathlib.Core.Path.{◌≡◌}
+use mathlib.Core.List.{List, append-nil}
 use Prim.Native.Nat.{ℕ, ◌+◌, ◌*◌, ◌-◌, ◌≤◌}
 use native.Mathlib.Omega.{arith}
 use lib.ListN.{length, take, drop, set, length-drop, take-append-drop, drop_of_length-le}
 use lib.Seq.{take_all, take-set-le, drop-set-add}
 use borrow.Rule.Slice.PartMut.{put_mid}
 use Rattle.figure_lines.specs.declared.Field.{Field}
-use Rattle.figure_lines.specs.declared.Field.TheVariants.{X, Y, C, D}
 use Rattle.cells_spec.specs.Pool.{offset, set_word}
 
 module _ (a : ℕ) (xs : List ℕ) where
