@@ -1,7 +1,24 @@
 // Steps over a record that the caller keeps and lends.
+ghost use Rattle.std.specs.Prelude.{◌≡◌};
+ghost use Rattle.cells_spec.specs.Answers.{answered};
+ghost use Rattle.cells_spec.specs.Open.{leaving};
+ghost use Rattle.cells_spec.specs.Lent.{lent, stepped_lent};
+
 use crate::{print_answer, sum};
-use cells::{Answer, Record, State};
-use std::io::Result;
+use cells::{Answer, Finished, Record, Refusal, State};
+use std::io;
+
+// One step. A program's main promises nothing, so it is said here that the record is lent.
+fn lend(
+    s: &mut State,
+    pool: &mut [u32],
+    task: u32,
+    rec: &mut Record,
+) -> Result<Option<Finished>, Refusal>
+    ensures { lent (leaving s.new pool.new (answered result)) rec.exit.now ≡ stepped_lent s.old pool.old task rec.entry.now }
+{
+    cells::step_lent(s, pool, task, rec)
+}
 
 pub fn steps(
     rt: &impl Print,
@@ -10,10 +27,10 @@ pub fn steps(
     task: u32,
     mut r: Record,
     count: u32,
-) -> Result<()> {
+) -> io::Result<()> {
     for _ in 0..count {
         let before = (s, r, sum(pool));
-        let answer = cells::step_lent(&mut s, pool, task, &mut r);
+        let answer = lend(&mut s, pool, task, &mut r);
         print!(rt; " {}", r.line)?;
         print_answer(rt, answer, before == (s, r, sum(pool)))?;
         if let Ok(Some(f)) = answer {
