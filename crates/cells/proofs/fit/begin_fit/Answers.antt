@@ -1,8 +1,13 @@
+-- A begin without question 6.
+-- Of a fit state it is the definition's begin; of any state it is the begin that does not ask.
 use borrow.Author.Tests.{le-ltb}
 use Rattle.cells_spec.specs.Begin.{begun}
 use Rattle.std.proofs.lemmas.Result.{err_from_is_err_and}
 use Rattle.cells.proofs.Asked.{refuses}
 use Rattle.cells.proofs.fit.begin_fit.Goals as goal
+
+-- No such task.
+-- It is refused with 7.
 
 pub returns-then-s-task-clause-of_a_fit_state : goal.returns-then-s-task-clause-of_a_fit_state
 unfolding begun
