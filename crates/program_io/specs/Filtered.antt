@@ -24,7 +24,7 @@ pub record MayLeave {F : Type 0} (calls : Once F (Bor (List ℕ) × (MutBor (Lis
   pub left_is : buffer_back.now ≡ left
   pub answers : calls.post tool (file_lent, (buffer_lent, tt)) (n, (buffer_back, tt))
 
--- reading failed: the tool was not called, and nothing was written
+-- it gave up, as where reading failed: nothing was written, the tool's buffer is as it was, and the answer is no
 pub record Stopped (before after : Around) (answer : Bool) : Type 0 where
   pub failed : answer ≡ false
   pub buffer_kept : after.buffer ≡ before.buffer
@@ -40,7 +40,7 @@ module _ (Tool : (file buffer : List ℕ) (n : ℕ) (left : List ℕ) → Type 0
     pub part : Appends before.output after.output (take count (take text after.buffer))
     pub all : answer ≡ true → Appends before.output after.output (take text after.buffer)
 
-  -- what was read stands at the start of the file; the answer is whether nothing failed
+  -- what was read is the start of the file; the answer is yes only where all of it was lent and all of the text written
   pub record Filtered (before after : Around) (file : List ℕ) (answer : Bool) : Type 0 where
     pub count : ℕ
     pub within : IsPrefixLen count file

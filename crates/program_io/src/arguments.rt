@@ -3,7 +3,7 @@ ghost use Rattle.std.specs.Prelude.{◌≡◌, ℕ, ◌-◌, ◌<◌, true, cond
 ghost use Rattle.std.proofs.Math.Option.{none};
 ghost use Rattle.std.specs.Io.KnownBytes.{Appends, Keeps};
 ghost use Rattle.io.specs.Counts.{IsPrefixLen};
-ghost use Rattle.program_io.specs.Arguments.{StartedWith};
+ghost use Rattle.program_io.specs.Arguments.{math_option};
 ghost use Rattle.program_io.specs.Input.{count_of};
 ghost use Rattle.text.specs.Bytes.{bytes};
 ghost use Rattle.text.specs.Readers.{stored};
@@ -89,8 +89,26 @@ pub fn take<W: Write>(
     false
 }
 
-// The numbers that the program was started with. Where they are not N numbers, writes (bad 14), and how the program is used on
+// The N numbers of the arguments that were gathered. Where they are not N numbers, writes (bad 14), and how the program is used on
 // standard error.
+// Stays (5): as at `take`.
+fn given<const N: usize, W: Write>(
+    line: &[u8],
+    whole: bool,
+    to: &mut W,
+    usage: &[u8],
+    what: &[u8],
+    errors: &mut impl Write,
+) -> Option<[u32; N]>
+    ensures numbers { math_option result ≡ cond whole (numbers_given N line.now) none }
+    ensures quiet { IsSome result → Keeps (W.contents to.old) (W.contents to.new) }
+    ensures written { (k : ℕ) × Appends (W.contents to.old) (W.contents to.new) (take k (bytes "(bad 14)\n")) }
+{
+    let mut numbers = [0; N];
+    take(line, whole, &mut numbers, to, usage, what, errors).then_some(numbers)
+}
+
+// Those that the program was started with. Which bytes the system hands over no contract can say; `given` says what is made of them.
 pub fn started_with<const N: usize, W: Write>(
     rt: &impl Env,
     to: &mut W,
@@ -98,24 +116,13 @@ pub fn started_with<const N: usize, W: Write>(
     what: &[u8],
     errors: &mut impl Write,
 ) -> Option<[u32; N]>
-    ensures numbers { StartedWith N ARGUMENT_ROOM result }
     ensures quiet { IsSome result → Keeps (W.contents to.old) (W.contents to.new) }
     ensures written { (k : ℕ) × Appends (W.contents to.old) (W.contents to.new) (take k (bytes "(bad 14)\n")) }
 {
     let mut line = [0; ARGUMENT_ROOM];
-    let mut numbers = [0; N];
     let (length, whole) = match gather(rt, &mut line) {
         Ok(length) => (length, true),
         Err(cut) => (cut.count, false),
     };
-    take(
-        &line[..length],
-        whole,
-        &mut numbers,
-        to,
-        usage,
-        what,
-        errors,
-    )
-    .then_some(numbers)
+    given(&line[..length], whole, to, usage, what, errors)
 }

@@ -13,8 +13,8 @@ pub struct Messages<'a> {
     pub cannot_write: &'a [u8],
 }
 
-// Runs the tool on the input, and writes the text that it leaves at the start of out; whether nothing failed. Nothing is written
-// where reading failed.
+// Runs the tool on the input, and writes the text that it leaves at the start of out. Answers yes only where all was read
+// and written; nothing is written where reading failed.
 pub fn filter<R: Read, W: Write, E: Write, F: FnOnce(&[u8], &mut [u8]) -> usize>(
     from: &mut R,
     file: &mut [u8],

@@ -1,5 +1,5 @@
 -- A begin without question 6.
--- Of a fit state it is the definition's begin; of any state it is the begin that does not ask.
+-- Of a fit state it is the definition's begin; of any state it is the begin that does not ask question 6.
 use borrow.Author.Tests.{le-ltb}
 use Rattle.cells_spec.specs.Begin.{begun}
 use Rattle.std.proofs.lemmas.Result.{err_from_is_err_and}
