@@ -13,11 +13,11 @@ fn lend(
     s: &mut State,
     pool: &mut [u32],
     task: u32,
-    rec: &mut Record,
+    kept: &mut Record,
 ) -> Result<Option<Finished>, Refusal>
-    ensures { lent (leaving s.new pool.new (answered result)) rec.exit.now ≡ stepped_lent s.old pool.old task rec.entry.now }
+    ensures { lent (leaving s.new pool.new (answered result)) kept.exit.now ≡ stepped_lent s.old pool.old task kept.entry.now }
 {
-    cells::step_lent(s, pool, task, rec)
+    cells::step_lent(s, pool, task, kept)
 }
 
 pub fn steps(
